@@ -1,0 +1,4 @@
+pub mod Conds
+pub mod ByteTable
+pub mod RunLaws
+pub mod OneAnswer

@@ -1,0 +1,54 @@
+-- The laws of a run of bytes at a place, for the loops that walk it byte by byte or block by block.
+-- Assumes nothing.
+use Prim.Native.Nat.{ℕ, suc, _+_, _≤_, _<_}
+use mathlib.Core.Path.{_≡_, ap, _∙_, subst}
+use mathlib.Core.Bool.{Bool, true, false}
+use mathlib.Core.List.{List, [], _∷_}
+use native.Mathlib.Numerals.{add-one}
+use native.Mathlib.Omega.{arith}
+use lib.ListN.{length, getD, drop, drop-of-length-le}
+use lib.Seq.{drop-cons}
+use Rattle.classes.specs.Runs.{run}
+use Rattle.classes.proofs.Conds.{cond-case}
+
+module _ (p : ℕ → Bool) where
+  pub run-le : (s : List ℕ) → run p s ≤ length s
+  unfolding run
+  run-le [] = omega arith
+  run-le (b ∷ s) =
+      let r = run-le s in
+      cond-case (λ (n : ℕ). n ≤ length (b ∷ s)) (p b) (λ e. omega arith) (λ e. omega arith)
+
+  module _ (s : List ℕ) (i : ℕ) where
+    pub run-step : i < length s → p (getD s i 0) ≡ true → run p (drop i s) ≡ suc (run p (drop (i + 1) s))
+    unfolding run
+    run-step h t = rw (add-one, drop-cons s i 0, t)
+
+    pub run-stop : i < length s → p (getD s i 0) ≡ false → run p (drop i s) ≡ 0
+    unfolding run
+    run-stop h t = rw (drop-cons s i 0, t)
+
+    pub run-end : length s ≤ i → run p (drop i s) ≡ 0
+    unfolding run
+    run-end h = rw (drop-of-length-le s h)
+
+-- the n bytes from i on pass the test
+abbrev pub Block : (ℕ → Bool) → List ℕ → ℕ → ℕ → Type 0
+Block p s i n = run p (drop i s) ≡ n + run p (drop (i + n) s)
+
+module _ (p : ℕ → Bool) (s : List ℕ) (i : ℕ) where
+  pub block-start : Block p s i 0
+  block-start =
+      let same : i ≡ i + 0 = omega arith in
+      omega (arith, ap (λ (k : ℕ). run p (drop k s)) same)
+
+  -- and the one behind them too
+  pub block-step : (j : ℕ) → i + j < length s → p (getD s (i + j) 0) ≡ true → Block p s i j → Block p s i (j + 1)
+  block-step j h t b =
+      let same : i + j + 1 ≡ i + (j + 1) = omega arith in
+      let more : run p (drop (i + j) s) ≡ suc (run p (drop (i + (j + 1)) s)) =
+      run-step p s (i + j) h t ∙ ap (λ (k : ℕ). suc (run p (drop k s))) same in
+      omega (arith, b, more)
+
+  pub block-end : (j n : ℕ) → j ≡ n → Block p s i j → Block p s i n
+  block-end j n e b = subst (λ (k : ℕ). Block p s i k) e b

@@ -1,0 +1,74 @@
+-- The check's answer, case by case, and what each case says of the bytes.
+-- Assumes nothing.
+use Prim.Native.Nat.{ℕ, _≤_, _<_}
+use mathlib.Core.Path.{_≡_, sym, _∙_}
+use mathlib.Core.Logic.{_↔_}
+use mathlib.Core.List.{List}
+use native.Mathlib.Omega.{arith}
+use lib.ListN.{length}
+use lib.Dec.{eqb}
+use borrow.Author.Tests.{eqb-true, eqb-false, lt-ltb, le-ltb, eq-eqb, ne-eqb}
+use Rattle.text.specs.Refusals.{limit}
+use Rattle.text.specs.Utf8.{Utf8}
+use Rattle.text.specs.Utf8Read.{validPrefix}
+use Rattle.text.specs.Answers.{checkOf}
+use Rattle.text.specs.CheckMeans.{Longest, CheckMeans}
+use Rattle.text.specs.declared.refusal.Refusal.the-variants.{NotUtf8, TooLong, FewTokens, ShortOutput, FewErrors, OutOfPlace, NoKind}
+use Rattle.text.specs.declared.utf8.Utf8Check.{Utf8Check}
+use Rattle.text.specs.declared.utf8.Utf8Check.the-variants.{Valid, Refused}
+use Rattle.classes.proofs.Conds.{by-lt, cond-case}
+use Rattle.text.proofs.ReadLaws.{utf8-iff, valid-is, valid-le, valid-longest}
+
+-- ---- from the bytes to the answer
+
+module _ (s : List ℕ) where
+  pub answer-long : limit < length s → Refused TooLong ≡ checkOf s
+  unfolding checkOf
+  answer-long h = simp (lt-ltb _ _ h)
+
+  pub answer-valid : length s ≤ limit → validPrefix s ≡ length s → Valid ≡ checkOf s
+  unfolding checkOf
+  answer-valid h e = simp (le-ltb _ _ h, eq-eqb _ _ e)
+
+  pub answer-broken : (at : ℕ) → length s ≤ limit → validPrefix s ≡ at → at < length s → Refused (NotUtf8 at) ≡ checkOf s
+  unfolding checkOf
+  answer-broken at h e k =
+      let d : at ≡ length s → ⊥ = omega arith in
+      simp (le-ltb _ _ h, e, ne-eqb _ _ d)
+
+-- ---- from the answer to the bytes: what the check promises, without a computed definition in it
+
+pub longest-is : (s : List ℕ) → Longest s (validPrefix s)
+longest-is s = record { within = valid-le s; valid = valid-is s; longest = valid-longest s }
+
+longest-one : (s : List ℕ) (n : ℕ) → Longest s n → validPrefix s ≡ n
+longest-one s n l =
+    omega (arith, valid-longest s n (l .within) (l .valid), l .longest (validPrefix s) (valid-le s) (valid-is s))
+
+means-answer : (s : List ℕ) (r : Utf8Check) → CheckMeans s r → r ≡ checkOf s
+means-answer s Valid (h, u) = answer-valid s h (utf8-iff s .1 u)
+means-answer s (Refused TooLong) h = answer-long s h
+means-answer s (Refused (NotUtf8 n)) (h, broken, l) =
+    let e = longest-one s n l in
+    let d : n ≡ length s → ⊥ = λ same. broken (utf8-iff s .0 (e ∙ same)) in
+    answer-broken s n h e (omega (arith, l .within))
+means-answer s (Refused (FewTokens n)) m = absurd m
+means-answer s (Refused (ShortOutput n)) m = absurd m
+means-answer s (Refused (FewErrors n)) m = absurd m
+means-answer s (Refused (OutOfPlace n)) m = absurd m
+means-answer s (Refused (NoKind n)) m = absurd m
+
+answer-means : (s : List ℕ) → CheckMeans s (checkOf s)
+unfolding checkOf
+answer-means s =
+    by-lt (CheckMeans s) limit (length s) (λ h. h)
+    λ h. cond-case (CheckMeans s) (eqb (validPrefix s) (length s))
+    (λ e. (h, utf8-iff s .0 (eqb-true _ _ e)))
+    (λ e. (h, (λ u. eqb-false _ _ e (utf8-iff s .1 u)), longest-is s))
+
+pub check-means : (s : List ℕ) (r : Utf8Check) → (r ≡ checkOf s) ↔ CheckMeans s r
+check-means s r = (λ e. rw e (answer-means s), means-answer s r)
+
+-- what a caller learns of an answered check
+pub checked : (s : List ℕ) → checkOf s ≡ Valid → (length s ≤ limit) × Utf8 s
+checked s e = check-means s Valid .0 (sym e)

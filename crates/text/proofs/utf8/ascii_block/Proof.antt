@@ -1,0 +1,64 @@
+-- `ascii_block` is right because bits joined are no less than any of the bytes: all of them below 80 where the join is.
+-- The invariant says so of the j bytes passed.
+-- Assumes nothing.
+use Prim.Native.Nat.{_+_, _-_, _≤_, _<_}
+use mathlib.Core.Path.{_≡_}
+use native.Mathlib.Omega.{arith}
+use borrow.Author.Tests.{ltb-true, lt-ltb}
+use lib.ListN.{getD}
+use Rattle.text.specs.Utf8Read.{ascii}
+use Rattle.text.proofs.FieldLaws.{or-left, or-right}
+use Rattle.classes.proofs.RunLaws.{Block, block-start, block-step, block-end}
+use Rattle.text.proofs.utf8.ascii_block.Statement.{statement}
+use Rattle.text.proofs.utf8.ascii_block.Tie as tie
+
+abbrev Inv-loop : tie.InvT-loop
+Inv-loop s i n bits₀ j₀ bits j = (j ≤ n) × (bits < 0x80 → Block ascii s i j)
+
+abbrev μ-loop : tie.MeasureT-loop
+μ-loop s i n bits₀ j₀ bits j = n - j
+
+loop-holds : tie.Need-loop-holds Inv-loop μ-loop
+loop-holds c = (omega arith, λ h. block-start ascii (c .args .s .now) (c .args .i))
+
+add-bits : tie.Need-add-bits Inv-loop μ-loop
+add-bits c = omega arith
+
+shared-slice-read-bits : tie.Need-shared-slice-read-bits Inv-loop μ-loop
+shared-slice-read-bits c = omega arith
+
+add-j : tie.Need-add-j Inv-loop μ-loop
+add-j c = omega arith
+
+loop-less : tie.Need-loop-less Inv-loop μ-loop
+loop-less c = omega arith
+
+loop-again : tie.Need-loop-again Inv-loop μ-loop
+loop-again c =
+    let s = c .before .before .before .args .s .now in
+    let i = c .before .before .before .args .i in
+    let at = c .before .before .loop in
+    let byte = getD s (i + at .j) 0 in (
+      omega arith,
+      λ h.
+          let low : byte < 0x80 = omega (arith, or-right (at .bits) byte) in
+          block-step ascii s i (at .j) (omega arith) (lt-ltb byte 0x80 low) (at .inv .1 (omega (arith, or-left (at .bits) byte))),
+    )
+
+returns : tie.Need-returns Inv-loop μ-loop
+returns c =
+    λ h. block-end ascii (c .before .before .args .s .now) (c .before .before .args .i) (c .before .loop .j) (c .before .before .args .n) (omega arith) (c .before .loop .inv .1 (ltb-true _ _ h))
+
+pub ascii-block-spec : {M : Type 1} → statement M
+ascii-block-spec =
+    tie.close
+    (tie.spec
+    Inv-loop
+    μ-loop
+    loop-holds
+    add-bits
+    shared-slice-read-bits
+    add-j
+    loop-less
+    loop-again
+    returns)

@@ -1,0 +1,57 @@
+-- `check_utf8` is right because the bytes before `at` are whole characters, so that the longest valid prefix is `at` and
+-- that of the rest.
+-- Assumes nothing.
+use Prim.Native.Nat.{_+_, _-_, _≤_}
+use mathlib.Core.Path.{_≡_}
+use native.Mathlib.Omega.{arith}
+use lib.ListN.{length, drop}
+use Rattle.text.specs.Utf8Read.{validPrefix}
+use Rattle.text.proofs.ReadLaws.{valid-end}
+use Rattle.text.proofs.AnswerLaws.{answer-long, answer-valid, answer-broken}
+use Rattle.text.proofs.utf8.check_utf8.Statement.{statement}
+use Rattle.text.proofs.utf8.check_utf8.Tie as tie
+
+abbrev Inv-loop : tie.InvT-loop
+Inv-loop s at₀ at = (at ≤ length s) × (validPrefix s ≡ at + validPrefix (drop at s))
+
+abbrev μ-loop : tie.MeasureT-loop
+μ-loop s at₀ at = length s - at
+
+returns : tie.Need-returns Inv-loop μ-loop
+returns c = answer-long (c .before .before .args .s .now) (c .if1 .taken)
+
+loop-holds : tie.Need-loop-holds Inv-loop μ-loop
+loop-holds c = omega arith
+
+passed-requires : tie.Need-passed-requires Inv-loop μ-loop
+passed-requires c κs = omega arith
+
+returns-2 : tie.Need-returns-2 Inv-loop μ-loop
+returns-2 c =
+    let none = c .before .passed .ensures .stuck (c .if2 .taken) in
+    answer-broken (c .before .before .before .before .before .before .args .s .now) _ (omega arith) (omega arith) (omega arith)
+
+loop-less : tie.Need-loop-less Inv-loop μ-loop
+loop-less c = omega arith
+
+loop-again : tie.Need-loop-again Inv-loop μ-loop
+loop-again c = omega arith
+
+returns-3 : tie.Need-returns-3 Inv-loop μ-loop
+returns-3 c =
+    let s = c .before .before .before .before .args .s .now in
+    answer-valid s (omega arith) (omega (arith, valid-end s (c .before .loop .at) (omega arith)))
+
+pub check-utf8-spec : {M : Type 1} → statement M
+check-utf8-spec =
+    tie.close
+    (tie.spec
+    Inv-loop
+    μ-loop
+    returns
+    loop-holds
+    passed-requires
+    returns-2
+    loop-less
+    loop-again
+    returns-3)

@@ -1,0 +1,41 @@
+-- `passed` is right because a run of ASCII is a run of characters, and any other character is one.
+-- Assumes nothing.
+use Prim.Native.Nat.{_+_}
+use native.Mathlib.Omega.{arith}
+use borrow.Author.Needs.{needs}
+use borrow.Author.Tests.{lt-ltb}
+use lib.ListN.{length-drop, drop}
+use Rattle.text.proofs.ReadLaws.{char-le, passed-ascii, passed-char}
+use Rattle.text.proofs.utf8.passed.Statement.{statement}
+use Rattle.text.proofs.utf8.passed.Tie as tie
+
+shared-slice-read-if1 : tie.Need-shared-slice-read-if1
+shared-slice-read-if1 c = search needs
+
+ascii-run-requires : tie.Need-ascii-run-requires
+ascii-run-requires c κs = search needs
+
+returns : tie.Need-returns
+returns c = passed-ascii (c .before .before .before .before .args .s .now) (c .before .before .before .before .args .at) (omega arith) (lt-ltb _ _ (c .before .if1 .taken)) _ (c .ascii-run .ensures)
+
+char-at-requires : tie.Need-char-at-requires
+char-at-requires c κs = search needs
+
+add-result : tie.Need-add-result
+add-result c =
+    let rest = drop (c .before .before .before .before .args .at) (c .before .before .before .before .args .s .now) in
+    omega (arith, c .char-at .ensures, char-le rest, length-drop (c .before .before .before .before .args .at) (c .before .before .before .before .args .s .now))
+
+returns-2 : tie.Need-returns-2
+returns-2 c = passed-char (c .before .before .before .before .args .s .now) (c .before .before .before .before .args .at) (omega arith) _ (c .char-at .ensures)
+
+pub passed-spec : {M : Type 1} → statement M
+passed-spec =
+    tie.close
+    (tie.spec
+    shared-slice-read-if1
+    ascii-run-requires
+    returns
+    char-at-requires
+    add-result
+    returns-2)

@@ -1,0 +1,28 @@
+-- RULE. What the calls of this crate answer.
+-- Assumes nothing.
+use Prim.Native.Nat.{ℕ, _-_}
+use mathlib.Core.Bool.{cond}
+use mathlib.Core.List.{List, [], _∷_, _++_}
+use lib.ListN.{length, replicate}
+use lib.Dec.{ltb, eqb}
+use Rattle.text.specs.Refusals.{limit}
+use Rattle.text.specs.Utf8.{encodeScalar}
+use Rattle.text.specs.Utf8Read.{isScalar, validPrefix}
+use Rattle.text.specs.declared.utf8.Encoded.{Encoded}
+use Rattle.text.specs.declared.refusal.Refusal.the-variants.{NotUtf8, TooLong}
+use Rattle.text.specs.declared.utf8.Utf8Check.{Utf8Check}
+use Rattle.text.specs.declared.utf8.Utf8Check.the-variants.{Valid, Refused}
+
+-- the UTF-8 check: refusal 2 before 1, and with 1 the length of the longest valid prefix
+unfoldable pub checkOf : List ℕ → Utf8Check
+checkOf s =
+    cond (ltb limit (length s)) (Refused TooLong)
+    (cond (eqb (validPrefix s) (length s)) Valid (Refused (NotUtf8 (validPrefix s))))
+
+-- bytes in a run of four, zeros behind them
+abbrev pub padded : List ℕ → Encoded
+padded bytes = record { len = length bytes; bytes = bytes ++ replicate (4 - length bytes) 0 }
+
+-- the encoding of a scalar value, and no bytes for a number that is none
+unfoldable pub encodedOf : ℕ → Encoded
+encodedOf c = cond (isScalar c) (padded (encodeScalar c)) (padded [])

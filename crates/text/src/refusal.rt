@@ -1,0 +1,57 @@
+// The numbered refusals: what a call answers where its arguments cannot be served.
+// Rule: specs/Refusals.antt.
+ghost use mathlib.Core.Path.{_≡_};
+ghost use Rattle.text.specs.Refusals.{refusalNumber, refusalValue};
+
+// The most bytes that a document or a text may have.
+pub const LIMIT: usize = 16777216;
+
+// Why a call did not answer; beside each, its number and what the number returned says.
+pub enum Refusal {
+    // 1: not UTF-8; the length of the longest valid prefix
+    NotUtf8 { valid: usize },
+    // 2: more bytes than the limit; the limit
+    TooLong,
+    // 3: fewer token records than tokens; the tokens, `Eof` counted
+    FewTokens { needed: usize },
+    // 4: an output shorter than the decoded bytes; the bytes
+    ShortOutput { needed: usize },
+    // 5: fewer error records than errors; the errors
+    FewErrors { needed: usize },
+    // 6: a place outside the document or inside a character; the document's length
+    OutOfPlace { length: usize },
+    // 7: a number that is no kind; that number
+    NoKind { number: usize },
+}
+
+impl Refusal {
+    // The refusal's own number, 1 to 7.
+    pub fn number(self) -> usize
+        ensures { λ r. ⌜ r ≡ refusalNumber self ⌝ }
+    {
+        match self {
+            Refusal::NotUtf8 { valid: _ } => 1,
+            Refusal::TooLong => 2,
+            Refusal::FewTokens { needed: _ } => 3,
+            Refusal::ShortOutput { needed: _ } => 4,
+            Refusal::FewErrors { needed: _ } => 5,
+            Refusal::OutOfPlace { length: _ } => 6,
+            Refusal::NoKind { number: _ } => 7,
+        }
+    }
+
+    // The number returned with it.
+    pub fn value(self) -> usize
+        ensures { λ r. ⌜ r ≡ refusalValue self ⌝ }
+    {
+        match self {
+            Refusal::NotUtf8 { valid } => valid,
+            Refusal::TooLong => LIMIT,
+            Refusal::FewTokens { needed } => needed,
+            Refusal::ShortOutput { needed } => needed,
+            Refusal::FewErrors { needed } => needed,
+            Refusal::OutOfPlace { length } => length,
+            Refusal::NoKind { number } => number,
+        }
+    }
+}

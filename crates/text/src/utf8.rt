@@ -1,0 +1,239 @@
+// UTF-8: the check, and the encoding of a scalar value.
+// Rules: specs/Utf8.antt, Answers.antt.
+ghost use mathlib.Core.Path.{_≡_};
+ghost use mathlib.Core.Bool.{true};
+ghost use Prim.Native.Nat.{_+_, _%_, _<_, _≤_};
+ghost use lib.ListN.{length, drop};
+ghost use Rattle.classes.specs.Runs.{run};
+ghost use Rattle.text.specs.Utf8.{encodeScalar};
+ghost use Rattle.text.specs.Utf8Read.{isScalar, ascii, charLen, Passed};
+ghost use Rattle.text.specs.Lead.{leadOf};
+ghost use Rattle.text.specs.Answers.{padded, encodedOf, checkOf};
+use crate::refusal::LIMIT;
+use crate::refusal::Refusal;
+
+// What the check answers.
+pub enum Utf8Check {
+    Valid,
+    Refused(Refusal),
+}
+
+// Is all of s UTF-8, and within the limit?
+pub fn check_utf8(s: &[u8]) -> Utf8Check
+    ensures { λ r. ⌜ r ≡ checkOf (now (s .entry)) ⌝ }
+{
+    if LIMIT < s.len() {
+        return Utf8Check::Refused(Refusal::TooLong);
+    }
+    let mut at = 0;
+    while at < s.len() {
+        let next = passed(s, at);
+        if next == at {
+            return Utf8Check::Refused(Refusal::NotUtf8 { valid: at });
+        }
+        at = next;
+    }
+    Utf8Check::Valid
+}
+
+// The place behind the character at `at`, behind all of them where it begins a run of ASCII, and
+// `at` itself where no character begins there.
+fn passed(s: &[u8], at: usize) -> usize
+    requires { ⌜ at < length (now s) ⌝ }
+    ensures { λ r. ⌜ Passed (now (s .entry)) at r ⌝ }
+{
+    if s[at] < 0x80 {
+        return ascii_run(s, at);
+    }
+    at + char_at(s, at)
+}
+
+// The place of the first byte from `start` on that is not ASCII, or the end.
+fn ascii_run(s: &[u8], start: usize) -> usize
+    requires { ⌜ start ≤ length (now s) ⌝ }
+    ensures { λ r. ⌜ r ≡ start + run ascii (drop start (now (s .entry))) ⌝ }
+{
+    let wide = ascii_blocks(s, start, 64);
+    let mut i = ascii_blocks(s, wide, 8);
+    while i < s.len() {
+        if 0x80 <= s[i] {
+            return i;
+        }
+        i += 1;
+    }
+    i
+}
+
+// Blocks of n ASCII bytes, passed over.
+fn ascii_blocks(s: &[u8], start: usize, n: usize) -> usize
+    requires { ⌜ (start ≤ length (now s)) × (0 < n) ⌝ }
+    ensures { λ r. ⌜ (r ≤ length (now (s .entry))) × (r + run ascii (drop r (now (s .entry))) ≡ start + run ascii (drop start (now (s .entry)))) ⌝ }
+{
+    let mut i = start;
+    while n <= s.len() - i {
+        if !ascii_block(s, i, n) {
+            return i;
+        }
+        i += n;
+    }
+    i
+}
+
+// Whether n bytes from i on are ASCII: one test of all their bits together, and no branch among
+// them, so that the compiler takes sixteen at once.
+fn ascii_block(s: &[u8], i: usize, n: usize) -> bool
+    requires { ⌜ i + n ≤ length (now s) ⌝ }
+    ensures { λ r. ⌜ (r ≡ true → run ascii (drop i (now (s .entry))) ≡ n + run ascii (drop (i + n) (now (s .entry)))) ⌝ }
+{
+    let mut bits: u8 = 0;
+    let mut j = 0;
+    while j < n {
+        bits = bits | s[i + j];
+        j += 1;
+    }
+    bits < 0x80
+}
+
+// The length of the character at `at`, 0 where none begins there. Its bytes are tested strictly in
+// order, and each before the next is asked for.
+fn char_at(s: &[u8], at: usize) -> usize
+    requires { ⌜ at < length (now s) ⌝ }
+    ensures { λ r. ⌜ r ≡ charLen (drop at (now (s .entry))) ⌝ }
+{
+    let lead = lead_of(s[at]);
+    let n = lead.0;
+    let low = lead.1;
+    let high = lead.2;
+    let left = s.len() - at;
+    if n < 2 {
+        return n;
+    }
+    if left < 2 {
+        return 0;
+    }
+    let b = s[at + 1];
+    if b < low {
+        return 0;
+    }
+    if high < b {
+        return 0;
+    }
+    if n < 3 {
+        return 2;
+    }
+    if left < 3 {
+        return 0;
+    }
+    let c = s[at + 2];
+    if c < 0x80 {
+        return 0;
+    }
+    if 0xBF < c {
+        return 0;
+    }
+    if n < 4 {
+        return 3;
+    }
+    if left < 4 {
+        return 0;
+    }
+    let d = s[at + 3];
+    if d < 0x80 {
+        return 0;
+    }
+    if 0xBF < d {
+        return 0;
+    }
+    4
+}
+
+// What a first byte says of its character: the length, 0 where none begins so, and the range of
+// the second byte.
+struct Lead(usize, u8, u8);
+
+// The Unicode standard's table 3-7.
+fn lead_of(a: u8) -> Lead
+    ensures { λ r. ⌜ r ≡ leadOf a ⌝ }
+{
+    match a {
+        0x00..=0x7F => Lead(1, 0, 0),
+        0xC2..=0xDF => Lead(2, 0x80, 0xBF),
+        0xE0 => Lead(3, 0xA0, 0xBF),
+        0xE1..=0xEC | 0xEE..=0xEF => Lead(3, 0x80, 0xBF),
+        0xED => Lead(3, 0x80, 0x9F),
+        0xF0 => Lead(4, 0x90, 0xBF),
+        0xF1..=0xF3 => Lead(4, 0x80, 0xBF),
+        0xF4 => Lead(4, 0x80, 0x8F),
+        _ => Lead(0, 0, 0),
+    }
+}
+
+// The bytes of one character: the first `len` of `bytes`, the rest zero.
+pub struct Encoded {
+    pub len: usize,
+    pub bytes: [u8; 4],
+}
+
+// The bytes of a scalar value. A number that is no scalar value has no encoding: no bytes.
+pub fn encode(c: u32) -> Encoded
+    ensures { λ r. ⌜ r ≡ encodedOf c ⌝ }
+{
+    if is_scalar(c) {
+        return encode_scalar(c);
+    }
+    Encoded {
+        len: 0,
+        bytes: [0, 0, 0, 0],
+    }
+}
+
+// By the four UTF-8 lengths and their bit fields.
+fn encode_scalar(c: u32) -> Encoded
+    requires { ⌜ c < 0x110000 ⌝ }
+    ensures { λ r. ⌜ r ≡ padded (encodeScalar c) ⌝ }
+{
+    if c < 0x80 {
+        return Encoded {
+            len: 1,
+            bytes: [c as u8, 0, 0, 0],
+        };
+    }
+    if c < 0x800 {
+        return Encoded {
+            len: 2,
+            bytes: [((c >> 6) | 0xC0) as u8, tail(c), 0, 0],
+        };
+    }
+    if c < 0x10000 {
+        return Encoded {
+            len: 3,
+            bytes: [((c >> 12) | 0xE0) as u8, tail(c >> 6), tail(c), 0],
+        };
+    }
+    Encoded {
+        len: 4,
+        bytes: [
+            ((c >> 18) | 0xF0) as u8,
+            tail(c >> 12),
+            tail(c >> 6),
+            tail(c),
+        ],
+    }
+}
+
+// A continuation byte: the six low bits.
+fn tail(c: u32) -> u8
+    ensures { λ r. ⌜ r ≡ 0x80 + c % 64 ⌝ }
+{
+    ((c & 0x3F) | 0x80) as u8
+}
+
+// Is c a scalar value: any code point but a surrogate?
+pub fn is_scalar(c: u32) -> bool
+    ensures { λ r. ⌜ r ≡ isScalar c ⌝ }
+{
+    match c {
+        0..=0xD7FF | 0xE000..=0x10FFFF => true,
+        _ => false,
+    }
+}
