@@ -1,0 +1,93 @@
+-- `calls::deccap` is safe: it lends no more bytes and records than there are.
+-- Assumes nothing.
+use Prim.Native.Nat.{_-_}
+use native.Mathlib.Omega.{arith}
+use lib.ListN.{length-take}
+use borrow.Author.Needs.{needs}
+use Rattle.answers.proofs.calls.deccap.Statement.{statement}
+use Rattle.answers.proofs.calls.deccap.Tie as tie
+
+array-read-least : tie.Need-array-read-least
+array-read-least c = search needs
+
+least-requires : tie.Need-least-requires
+least-requires c κs = search needs
+
+array-read-least-2 : tie.Need-array-read-least-2
+array-read-least-2 c = search needs
+
+least-requires-2 : tie.Need-least-requires-2
+least-requires-2 c κs = search needs
+
+array-read-decode : tie.Need-array-read-decode
+array-read-decode c = search needs
+
+slice-relend-prefix-decode : tie.Need-slice-relend-prefix-decode
+slice-relend-prefix-decode c = search needs
+
+slice-aggregate-decode : tie.Need-slice-aggregate-decode
+slice-aggregate-decode c = simp length-take (omega arith)
+
+slice-relend-prefix-decode-2 : tie.Need-slice-relend-prefix-decode-2
+slice-relend-prefix-decode-2 c = search needs
+
+slice-aggregate-decode-2 : tie.Need-slice-aggregate-decode-2
+slice-aggregate-decode-2 c = simp length-take (omega arith)
+
+decode-requires : tie.Need-decode-requires
+decode-requires c κs = search needs
+
+enum-known-count : tie.Need-enum-known-count
+enum-known-count c = search needs
+
+three-requires : tie.Need-three-requires
+three-requires c κs = search needs
+
+enum-known-why : tie.Need-enum-known-why
+enum-known-why c = search needs
+
+refused-requires : tie.Need-refused-requires
+refused-requires c κs = search needs
+
+same-length : tie.Need-same-length
+same-length c = search needs
+
+same-length-2 : tie.Need-same-length-2
+same-length-2 c = search needs
+
+returns : tie.Need-returns
+returns c = search needs
+
+same-length-3 : tie.Need-same-length-3
+same-length-3 c = search needs
+
+same-length-4 : tie.Need-same-length-4
+same-length-4 c = search needs
+
+returns-2 : tie.Need-returns-2
+returns-2 c = search needs
+
+pub deccap-spec : {M : Type 1} → statement M
+deccap-spec =
+    tie.close
+    (tie.spec
+    array-read-least
+    least-requires
+    array-read-least-2
+    least-requires-2
+    array-read-decode
+    slice-relend-prefix-decode
+    slice-aggregate-decode
+    slice-relend-prefix-decode-2
+    slice-aggregate-decode-2
+    decode-requires
+    enum-known-count
+    three-requires
+    enum-known-why
+    refused-requires
+    same-length
+    same-length-2
+    returns
+    same-length-3
+    same-length-4
+    returns-2)

@@ -1,0 +1,61 @@
+-- `calls::lexcap` is safe: it lends no more records than there are.
+-- Assumes nothing.
+use Prim.Native.Nat.{_-_}
+use native.Mathlib.Omega.{arith}
+use lib.ListN.{length-take}
+use borrow.Author.Needs.{needs}
+use Rattle.answers.proofs.calls.lexcap.Statement.{statement}
+use Rattle.answers.proofs.calls.lexcap.Tie as tie
+
+least-requires : tie.Need-least-requires
+least-requires c κs = search needs
+
+slice-relend-prefix-lex : tie.Need-slice-relend-prefix-lex
+slice-relend-prefix-lex c = search needs
+
+slice-aggregate-lex : tie.Need-slice-aggregate-lex
+slice-aggregate-lex c = simp length-take (omega arith)
+
+lex-requires : tie.Need-lex-requires
+lex-requires c κs = search needs
+
+enum-known-count : tie.Need-enum-known-count
+enum-known-count c = search needs
+
+two-requires : tie.Need-two-requires
+two-requires c κs = search needs
+
+enum-known-why : tie.Need-enum-known-why
+enum-known-why c = search needs
+
+refused-requires : tie.Need-refused-requires
+refused-requires c κs = search needs
+
+same-length : tie.Need-same-length
+same-length c = search needs
+
+returns : tie.Need-returns
+returns c = search needs
+
+same-length-2 : tie.Need-same-length-2
+same-length-2 c = search needs
+
+returns-2 : tie.Need-returns-2
+returns-2 c = search needs
+
+pub lexcap-spec : {M : Type 1} → statement M
+lexcap-spec =
+    tie.close
+    (tie.spec
+    least-requires
+    slice-relend-prefix-lex
+    slice-aggregate-lex
+    lex-requires
+    enum-known-count
+    two-requires
+    enum-known-why
+    refused-requires
+    same-length
+    returns
+    same-length-2
+    returns-2)

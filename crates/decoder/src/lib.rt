@@ -1,0 +1,134 @@
+// `decode`: the text of a string token or a key, into lent memory. Rule: Decoding.antt of crate
+// `strings`.
+ghost use mathlib.Core.Path.{_≡_};
+ghost use mathlib.Core.Bool.{true};
+ghost use Prim.Native.Nat.{_+_, _/_, _≤_};
+ghost use lib.ListN.{length};
+ghost use lib.Seq.{sets};
+ghost use Rattle.text.specs.Refusals.{limit};
+ghost use Rattle.text.specs.declared.utf8.Utf8Check.the-variants.{Valid};
+ghost use Rattle.strings.specs.Encodings.{encodingOf};
+ghost use Rattle.strings.specs.Decoding.{bytesOf, errorsOf, fitted, bytesBy, errorsBy, decodedBy, decodeOf, after};
+
+mod marks;
+mod write;
+
+use crate::marks::ends_of;
+use crate::marks::mark_error;
+use crate::write::Counts;
+use crate::write::count;
+use crate::write::miss;
+use crate::write::missed;
+use crate::write::write;
+use strings::Choice;
+pub use strings::Decoded;
+use strings::Encoding;
+use text::Refusal;
+use text::Utf8Check;
+use text::check_utf8;
+
+// Decodes a text of the kind that the number says: 39 literal, 34 basic, 1 ml-literal, 2 ml-basic,
+// 3 a key. The bytes go to the front of the output; the errors, as number, start and end, to the
+// front of the records; what is behind them stays. A call that is refused writes nothing.
+pub fn decode(text: &[u8], kind: usize, output: &mut [u8], errors: &mut [[usize; 3]]) -> Decoded
+    ensures { λ r. ⌜ r ≡ decodeOf (now (text .entry)) kind (length (now (output .entry))) (length (now (errors .entry))) ⌝ }
+    ensures { λ r. ⌜ now (output .exit) ≡ after r (bytesBy (encodingOf kind) (now (text .entry))) (now (output .entry)) ⌝ }
+    ensures { λ r. ⌜ now (errors .exit) ≡ after r (errorsBy (encodingOf kind) (now (text .entry))) (now (errors .entry)) ⌝ }
+{
+    let check = check_utf8(text);
+    match check {
+        Utf8Check::Refused(r) => Decoded::Refused(r),
+        Utf8Check::Valid => decode_by(encoding_of(kind), text, output, errors),
+    }
+}
+
+// Which encoding the number asks for.
+fn encoding_of(kind: usize) -> Choice
+    ensures { λ r. ⌜ r ≡ encodingOf kind ⌝ }
+{
+    match kind {
+        39 => Choice::Known(Encoding::LiteralString),
+        34 => Choice::Known(Encoding::BasicString),
+        1 => Choice::Known(Encoding::MlLiteralString),
+        2 => Choice::Known(Encoding::MlBasicString),
+        3 => Choice::Known(Encoding::UnquotedKey),
+        _ => Choice::Unknown(Refusal::NoKind { number: kind }),
+    }
+}
+
+fn decode_by(choice: Choice, text: &[u8], output: &mut [u8], errors: &mut [[usize; 3]]) -> Decoded
+    requires { ⌜ length (now text) ≤ limit ⌝ }
+    ensures { λ r. ⌜ r ≡ decodedBy Valid choice (now (text .entry)) (length (now (output .entry))) (length (now (errors .entry))) ⌝ }
+    ensures { λ r. ⌜ now (output .exit) ≡ after r (bytesBy choice (now (text .entry))) (now (output .entry)) ⌝ }
+    ensures { λ r. ⌜ now (errors .exit) ≡ after r (errorsBy choice (now (text .entry))) (now (errors .entry)) ⌝ }
+{
+    match choice {
+        Choice::Unknown(r) => Decoded::Refused(r),
+        Choice::Known(e) => decode_as(e, text, output, errors),
+    }
+}
+
+// The counting pass is left out where the lent memory cannot be too short.
+fn decode_as(e: Encoding, text: &[u8], output: &mut [u8], errors: &mut [[usize; 3]]) -> Decoded
+    requires { ⌜ length (now text) ≤ limit ⌝ }
+    ensures { λ r. ⌜ r ≡ fitted (bytesOf e (now (text .entry))) (errorsOf e (now (text .entry))) (length (now (output .entry))) (length (now (errors .entry))) ⌝ }
+    ensures { λ r. ⌜ now (output .exit) ≡ after r (bytesOf e (now (text .entry))) (now (output .entry)) ⌝ }
+    ensures { λ r. ⌜ now (errors .exit) ≡ after r (errorsOf e (now (text .entry))) (now (errors .entry)) ⌝ }
+{
+    if !is_roomy(text.len(), output.len(), errors.len()) {
+        let need = needed(e, text);
+        if output.len() < need.bytes {
+            return Decoded::Refused(Refusal::ShortOutput { needed: need.bytes });
+        }
+        if errors.len() < need.errors {
+            return Decoded::Refused(Refusal::FewErrors {
+                needed: need.errors,
+            });
+        }
+    }
+    let done = fill(e, text, output, errors);
+    Decoded::Written {
+        bytes: done.bytes,
+        errors: done.errors,
+    }
+}
+
+// Can no text of n bytes need more than o bytes and m records?
+fn is_roomy(n: usize, o: usize, m: usize) -> bool
+    requires { ⌜ n ≤ limit ⌝ }
+    ensures { λ r. ⌜ (r ≡ true → (n + n / 2 ≤ o) × (n + 2 ≤ m)) ⌝ }
+{
+    if o < n + n / 2 {
+        return false;
+    }
+    n + 2 <= m
+}
+
+// How many bytes and errors the text has.
+fn needed(e: Encoding, text: &[u8]) -> Counts
+    requires { ⌜ length (now text) ≤ limit ⌝ }
+    ensures { λ r. ⌜ (r .bytes ≡ length (bytesOf e (now (text .entry)))) × (r .errors ≡ length (errorsOf e (now (text .entry)))) ⌝ }
+{
+    let d = ends_of(e, text);
+    let a = d.start;
+    let z = d.end;
+    let c = count(e, &text[a..z], a);
+    Counts {
+        bytes: c.bytes,
+        errors: missed(d.opened) + (missed(d.closed) + c.errors),
+    }
+}
+
+// Writes them to the front of the lent memory.
+fn fill(e: Encoding, text: &[u8], output: &mut [u8], errors: &mut [[usize; 3]]) -> Counts
+    requires { ⌜ (length (now text) ≤ limit) × (length (bytesOf e (now text)) ≤ length (now output)) × (length (errorsOf e (now text)) ≤ length (now errors)) ⌝ }
+    ensures { λ r. ⌜ (now (output .exit) ≡ sets (now (output .entry)) 0 (bytesOf e (now (text .entry)))) × (now (errors .exit) ≡ sets (now (errors .entry)) 0 (errorsOf e (now (text .entry)))) × (r .bytes ≡ length (bytesOf e (now (text .entry)))) × (r .errors ≡ length (errorsOf e (now (text .entry)))) ⌝ }
+{
+    let d = ends_of(e, text);
+    let a = d.start;
+    let z = d.end;
+    let number = mark_error(e);
+    let m = miss(d.opened, number, 0, errors, 0);
+    let m2 = miss(d.closed, number, text.len(), errors, m);
+    write(e, &text[a..z], a, output, errors, m2)
+}

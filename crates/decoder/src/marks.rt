@@ -1,0 +1,186 @@
+// The marks of a text, and where its body starts and ends. Rule: Marks.antt of crate `strings`.
+ghost use mathlib.Core.Path.{_≡_};
+ghost use mathlib.Core.Bool.{true};
+ghost use Prim.Native.Nat.{_+_, _≤_};
+ghost use lib.ListN.{length};
+ghost use Rattle.strings.specs.Encodings.{markError};
+ghost use Rattle.strings.specs.Marks.{lineEnds, threes, mlStart, mlClosed, trimmed, mlEnd, mlEnds, keyEnds, endsOf};
+use pieces::strip_start_newline;
+use strings::Encoding;
+use strings::Ends;
+
+// The number of the error that a mark is missing, or that a key is empty.
+pub(crate) fn mark_error(e: Encoding) -> usize
+    ensures { λ r. ⌜ r ≡ markError e ⌝ }
+{
+    match e {
+        Encoding::LiteralString => 1,
+        Encoding::MlLiteralString => 3,
+        Encoding::BasicString => 6,
+        Encoding::MlBasicString => 11,
+        Encoding::UnquotedKey => 14,
+    }
+}
+
+// One mark q at each end.
+fn line_ends(q: u8, t: &[u8]) -> Ends
+    ensures { λ r. ⌜ r ≡ lineEnds q (now (t .entry)) ⌝ }
+{
+    let n = t.len();
+    if n == 0 {
+        return Ends {
+            opened: false,
+            closed: false,
+            start: 0,
+            end: 0,
+        };
+    }
+    if t[0] != q {
+        if t[n - 1] == q {
+            return Ends {
+                opened: false,
+                closed: true,
+                start: 0,
+                end: n - 1,
+            };
+        }
+        return Ends {
+            opened: false,
+            closed: false,
+            start: 0,
+            end: n,
+        };
+    }
+    if n == 1 {
+        return Ends {
+            opened: true,
+            closed: false,
+            start: 1,
+            end: 1,
+        };
+    }
+    if t[n - 1] == q {
+        return Ends {
+            opened: true,
+            closed: true,
+            start: 1,
+            end: n - 1,
+        };
+    }
+    Ends {
+        opened: true,
+        closed: false,
+        start: 1,
+        end: n,
+    }
+}
+
+// Three marks q at the front?
+fn has_threes(q: u8, s: &[u8]) -> bool
+    ensures { λ r. ⌜ r ≡ threes q (now (s .entry)) ⌝ }
+{
+    if s.len() < 3 {
+        return false;
+    }
+    if s[0] != q {
+        return false;
+    }
+    if s[1] != q {
+        return false;
+    }
+    s[2] == q
+}
+
+// Where the body starts, behind the opening if it is there, and a newline.
+fn ml_start(opened: bool, t: &[u8]) -> usize
+    requires { ⌜ (opened ≡ true → 3 ≤ length (now t)) ⌝ }
+    ensures { λ r. ⌜ r ≡ mlStart opened (now (t .entry)) ⌝ }
+{
+    if opened {
+        3 + strip_start_newline(&t[3..])
+    } else {
+        strip_start_newline(t)
+    }
+}
+
+// Three marks at the end, behind the body's start?
+fn ml_closed(q: u8, start: usize, t: &[u8]) -> bool
+    ensures { λ r. ⌜ r ≡ mlClosed q start (now (t .entry)) ⌝ }
+{
+    let n = t.len();
+    if n < 3 {
+        return false;
+    }
+    let z = n - 3;
+    if z < start {
+        return false;
+    }
+    has_threes(q, &t[z..])
+}
+
+// The length without the marks at the end.
+fn trimmed_len(q: u8, s: &[u8]) -> usize
+    ensures { λ r. ⌜ r ≡ trimmed q (now (s .entry)) ⌝ }
+{
+    let mut e = s.len();
+    while 0 < e {
+        if s[e - 1] == q {
+            e -= 1;
+        } else {
+            return e;
+        }
+    }
+    0
+}
+
+fn ml_end(trims: bool, q: u8, start: usize, t: &[u8], closed: bool) -> usize
+    requires { ⌜ (start ≤ length (now t)) × (closed ≡ true → start + 3 ≤ length (now t)) ⌝ }
+    ensures { λ r. ⌜ r ≡ mlEnd trims q start (now (t .entry)) closed ⌝ }
+{
+    if closed {
+        return t.len() - 3;
+    }
+    if trims {
+        return start + trimmed_len(q, &t[start..]);
+    }
+    t.len()
+}
+
+// Three marks q at each end; where the closing is missing, are those that are there dropped?
+fn ml_ends(trims: bool, q: u8, t: &[u8]) -> Ends
+    ensures { λ r. ⌜ r ≡ mlEnds trims q (now (t .entry)) ⌝ }
+{
+    let opened = has_threes(q, t);
+    let start = ml_start(opened, t);
+    let closed = ml_closed(q, start, t);
+    let end = ml_end(trims, q, start, t, closed);
+    Ends {
+        opened: opened,
+        closed: closed,
+        start: start,
+        end: end,
+    }
+}
+
+fn key_ends(t: &[u8]) -> Ends
+    ensures { λ r. ⌜ r ≡ keyEnds (now (t .entry)) ⌝ }
+{
+    Ends {
+        opened: 0 < t.len(),
+        closed: true,
+        start: 0,
+        end: t.len(),
+    }
+}
+
+pub(crate) fn ends_of(e: Encoding, t: &[u8]) -> Ends
+    ensures { λ r. ⌜ r ≡ endsOf e (now (t .entry)) ⌝ }
+{
+    match e {
+        Encoding::LiteralString => line_ends(b'\'', t),
+        Encoding::MlLiteralString => ml_ends(true, b'\'', t),
+        Encoding::BasicString => line_ends(b'"', t),
+        Encoding::MlBasicString => ml_ends(false, b'"', t),
+        Encoding::UnquotedKey => key_ends(t),
+    }
+}

@@ -1,0 +1,182 @@
+// The two loops over a body's pieces: one counts, one writes. What they ask of a decoder is that its
+// pieces are `Fine` (crate `strings`), so they serve all five.
+ghost use mathlib.Core.Path.{_≡_};
+ghost use mathlib.Core.Bool.{false};
+ghost use mathlib.Core.List.{[], _∷_};
+ghost use Prim.Native.Nat.{ℕ, _+_, _<_, _≤_};
+ghost use lib.ListN.{length, take, set};
+ghost use lib.Seq.{sets};
+ghost use Rattle.text.specs.Refusals.{limit};
+ghost use Rattle.text.specs.Utf8.{Scalar, encodeScalar};
+ghost use Rattle.strings.specs.Pieces.{gives, notes};
+ghost use Rattle.strings.specs.Bodies.{pieceOf};
+ghost use Rattle.strings.specs.Decoding.{missing};
+ghost use Rattle.strings.proofs.Fine.{Encodable};
+ghost use Rattle.strings.proofs.LoopLaws.{bytes, errors};
+use pieces::piece_at;
+use strings::Encoding;
+use strings::Given;
+use strings::Piece;
+use text::encode;
+
+// How many bytes, and how many errors.
+pub(crate) struct Counts {
+    pub bytes: usize,
+    pub errors: usize,
+}
+
+// How many bytes the piece gives.
+fn width(p: Piece, s: &[u8]) -> usize
+    requires { ⌜ (p .take ≤ length (now s)) × Encodable (p .given) ⌝ }
+    ensures { λ r. ⌜ r ≡ length (gives p (now (s .entry))) ⌝ }
+{
+    let g = p.given;
+    match g {
+        Given::Copy => p.take,
+        Given::Char(c) => encode(c).len,
+        Given::Nothing => 0,
+    }
+}
+
+// Copies the first n bytes of s to place o.
+fn copy_in(s: &[u8], n: usize, output: &mut [u8], o: usize) -> usize
+    requires { ⌜ (n ≤ length (now s)) × (o + n ≤ length (now output)) ⌝ }
+    ensures { λ r. ⌜ (r ≡ o + n) × (now (output .exit) ≡ sets (now (output .entry)) o (take n (now (s .entry)))) ⌝ }
+{
+    let mut j = 0;
+    while j < n {
+        output[o + j] = s[j];
+        j += 1;
+    }
+    o + n
+}
+
+// Writes the bytes that the piece gives to place o, and says the place behind them.
+fn emit(p: Piece, s: &[u8], output: &mut [u8], o: usize) -> usize
+    requires { ⌜ (p .take ≤ length (now s)) × Encodable (p .given) × (o + length (gives p (now s)) ≤ length (now output)) ⌝ }
+    ensures { λ r. ⌜ (r ≡ o + length (gives p (now (s .entry)))) × (now (output .exit) ≡ sets (now (output .entry)) o (gives p (now (s .entry)))) ⌝ }
+{
+    let g = p.given;
+    match g {
+        Given::Copy => copy_in(s, p.take, output, o),
+        Given::Char(c) => put_char(c, output, o),
+        Given::Nothing => o,
+    }
+}
+
+// Writes the bytes of a scalar value to place o.
+fn put_char(c: u32, output: &mut [u8], o: usize) -> usize
+    requires { ⌜ Scalar c × (o + length (encodeScalar c) ≤ length (now output)) ⌝ }
+    ensures { λ r. ⌜ (r ≡ o + length (encodeScalar c)) × (now (output .exit) ≡ sets (now (output .entry)) o (encodeScalar c)) ⌝ }
+{
+    let e = encode(c);
+    let n = e.len;
+    let bytes = e.bytes;
+    copy_in(&bytes, n, output, o)
+}
+
+// How many errors the piece has.
+fn noted(p: Piece) -> usize
+    ensures { λ r. ⌜ r ≡ length (notes p) ⌝ }
+{
+    if p.err == 0 { 0 } else { 1 }
+}
+
+// Writes the error that the piece has, if any, to record m, and says the record behind it.
+fn note(p: Piece, errors: &mut [[usize; 3]], m: usize) -> usize
+    requires { ⌜ m + length (notes p) ≤ length (now errors) ⌝ }
+    ensures { λ r. ⌜ (r ≡ m + length (notes p)) × (now (errors .exit) ≡ sets (now (errors .entry)) m (notes p)) ⌝ }
+{
+    if p.err == 0 {
+        m
+    } else {
+        put_error(p.err, p.start, p.end, errors, m)
+    }
+}
+
+fn put_error(number: usize, start: usize, end: usize, errors: &mut [[usize; 3]], m: usize) -> usize
+    requires { ⌜ m < length (now errors) ⌝ }
+    ensures { λ r. ⌜ (r ≡ m + 1) × (now (errors .exit) ≡ set (now (errors .entry)) m (number ∷ start ∷ end ∷ [])) ⌝ }
+{
+    errors[m] = [number, start, end];
+    m + 1
+}
+
+// How many errors a mark has: one where it is missing.
+pub(crate) fn missed(there: bool) -> usize
+    ensures { λ r. ⌜ ((number : ℕ) (place : ℕ) → r ≡ length (missing there number place)) ⌝ }
+{
+    if there { 0 } else { 1 }
+}
+
+// Writes the error of a mark that is missing to record m, and says the record behind it.
+pub(crate) fn miss(
+    there: bool,
+    number: usize,
+    place: usize,
+    errors: &mut [[usize; 3]],
+    m: usize,
+) -> usize
+    requires { ⌜ m + length (missing there number place) ≤ length (now errors) ⌝ }
+    ensures { λ r. ⌜ (r ≡ m + length (missing there number place)) × (now (errors .exit) ≡ sets (now (errors .entry)) m (missing there number place)) ⌝ }
+{
+    if there {
+        m
+    } else {
+        put_error(number, place, place, errors, m)
+    }
+}
+
+// How many bytes the pieces of the body s give, which stands at `base` of its text, and how many
+// errors they have.
+pub(crate) fn count(e: Encoding, s: &[u8], base: usize) -> Counts
+    requires { ⌜ base + length (now s) ≤ limit ⌝ }
+    ensures { λ r. ⌜ (r .bytes ≡ length (bytes (pieceOf e) (now (s .entry)) base)) × (r .errors ≡ length (errors (pieceOf e) (now (s .entry)) base)) × (r .errors ≤ length (now (s .entry))) ⌝ }
+{
+    let mut i = 0;
+    let mut d = false;
+    let mut n = 0;
+    let mut m = 0;
+    while i < s.len() {
+        let t = &s[i..];
+        let p = piece_at(e, d, t, base + i);
+        n += width(p, t);
+        m += noted(p);
+        i += p.take;
+        d = p.dropping;
+    }
+    Counts {
+        bytes: n,
+        errors: m,
+    }
+}
+
+// Writes what they give to the front of the output, and their errors to the records from m0 on.
+pub(crate) fn write(
+    e: Encoding,
+    s: &[u8],
+    base: usize,
+    output: &mut [u8],
+    records: &mut [[usize; 3]],
+    m0: usize,
+) -> Counts
+    requires { ⌜ (base + length (now s) ≤ limit) × (length (bytes (pieceOf e) (now s) base) ≤ length (now output)) × (m0 + length (errors (pieceOf e) (now s) base) ≤ length (now records)) ⌝ }
+    ensures { λ r. ⌜ (now (output .exit) ≡ sets (now (output .entry)) 0 (bytes (pieceOf e) (now (s .entry)) base)) × (now (records .exit) ≡ sets (now (records .entry)) m0 (errors (pieceOf e) (now (s .entry)) base)) × (r .bytes ≡ length (bytes (pieceOf e) (now (s .entry)) base)) × (r .errors ≡ m0 + length (errors (pieceOf e) (now (s .entry)) base)) ⌝ }
+{
+    let mut i = 0;
+    let mut d = false;
+    let mut o = 0;
+    let mut m = m0;
+    while i < s.len() {
+        let t = &s[i..];
+        let p = piece_at(e, d, t, base + i);
+        o = emit(p, t, output, o);
+        m = note(p, records, m);
+        i += p.take;
+        d = p.dropping;
+    }
+    Counts {
+        bytes: o,
+        errors: m,
+    }
+}

@@ -1,0 +1,192 @@
+-- An escape: the piece that it is, and the grammar's escape-seq-char.
+-- Assumes nothing.
+use Prim.Native.Nat.{ℕ, zero, suc, _+_, _*_, _≤_, _<_}
+use mathlib.Core.Path.{_≡_, refl, sym, _∙_, ap, subst}
+use mathlib.Core.Bool.{Bool, true, false, cond}
+use mathlib.Core.List.{List, [], _∷_, _++_}
+use native.Mathlib.Omega.{arith}
+use lib.ListN.{length, take, drop, take-append-drop}
+use Rattle.classes.specs.Classes.{hexdig}
+use Rattle.classes.specs.Runs.{run}
+use Rattle.classes.proofs.Conds.{by-lt, cond-case}
+use Rattle.text.specs.Utf8.{Scalar, All}
+use Rattle.text.specs.Utf8Read.{isScalar}
+use Rattle.text.proofs.EncodeLaws.{scalar-true, true-scalar}
+use Rattle.strings.specs.declared.Piece.{Piece}
+use Rattle.strings.specs.Pieces.{charPiece}
+use Rattle.strings.specs.Escapes.{simpleEscape, hexLength, hexFrom, hexValue, hexPiece, escapePiece}
+use Rattle.strings.proofs.Choices.{by-eq}
+use Rattle.strings.proofs.EscapeLaws.{hex-char, escape-hex, escape-simple}
+use Rattle.grammar.specs.Grammar.{HexDig, HexDigits, stop, more, EscapeSeqChar, x22, x5C, x62, x66, x6E, x72, x74, x75, x55}
+use Rattle.grammar.specs.Scalars.{Names}
+use Rattle.grammar.proofs.ListLaws.{all-weaken}
+use Rattle.grammar.proofs.Encoded.{AllAscii}
+use Rattle.grammar.proofs.ClassLaws.{digit-is, digit-at}
+
+-- ---- digits
+
+digits-run : {n a v : ℕ} {t : List ℕ} → HexDigits n a t v → (s : List ℕ) → n ≤ run hexdig (t ++ s)
+unfolding run
+digits-run stop s = omega arith
+digits-run (more x r) s = rw (digit-at x .0) (omega (arith, digits-run r s))
+
+digits-taken : {n a v : ℕ} {t : List ℕ} → HexDigits n a t v → (s : List ℕ) → take n (t ++ s) ≡ t
+digits-taken stop s = refl
+digits-taken (more {c = c} x r) s = ap (c ∷_) (digits-taken r s)
+
+digits-value : {n a v : ℕ} {t : List ℕ} → HexDigits n a t v → v ≡ hexFrom a t
+unfolding hexFrom
+digits-value stop = refl
+digits-value (more x r) = rw (digit-at x .1) (digits-value r)
+
+digits-long : {n a v : ℕ} {t : List ℕ} → HexDigits n a t v → length t ≡ n
+digits-long stop = refl
+digits-long (more x r) = ap suc (digits-long r)
+
+digits-of : (n a : ℕ) (s : List ℕ) → n ≤ run hexdig s → HexDigits n a (take n s) (hexFrom a (take n s))
+unfolding run hexFrom
+digits-of zero a s h = stop
+digits-of (suc n) a [] h = absurd (omega arith)
+digits-of (suc n) a (b ∷ s) h = go (hexdig b) refl h (digits-of n (a * 16 + hexValue b) s)
+  where
+    go : (x : Bool) → hexdig b ≡ x → suc n ≤ cond x (suc (run hexdig s)) 0
+        → (n ≤ run hexdig s → HexDigits n (a * 16 + hexValue b) (take n s) (hexFrom (a * 16 + hexValue b) (take n s)))
+        → HexDigits (suc n) a (b ∷ take n s) (hexFrom (a * 16 + hexValue b) (take n s))
+    go true e l ih = more (digit-is b e) (ih (omega arith))
+    go false e l ih = absurd (omega arith)
+
+-- ---- the shape of an escape: a visible byte, and then hex digits
+
+abbrev pub Plain : ℕ → Type 0
+Plain c = (0x30 ≤ c) × (c < 0x80) × (c ≡ 0x5C → ⊥)
+
+pub record Shape (t : List ℕ) : Type 0 where
+  pub b : ℕ
+  pub r : List ℕ
+  pub is : t ≡ b ∷ r
+  pub visible : 0x22 ≤ b
+  pub low : b < 0x80
+  pub each : All Plain r
+
+digits-plain : {n a v : ℕ} {t : List ℕ} → HexDigits n a t v → All Plain t
+digits-plain stop = tt
+digits-plain (more x r) = (digit-plain x, digits-plain r)
+  where
+    digit-plain : {c d : ℕ} → HexDig c d → Plain c
+    digit-plain {c} {d} (HexDig.digit e h) = (omega arith, omega arith, λ z. omega arith)
+    digit-plain {c} {d} (HexDig.upper e h k) = (omega arith, omega arith, λ z. omega arith)
+    digit-plain {c} {d} (HexDig.lower e h k) = (omega arith, omega arith, λ z. omega arith)
+
+one-shape : (b : ℕ) → 0x22 ≤ b → b < 0x80 → Shape (b ∷ [])
+one-shape b h l = record { b = b; r = []; is = refl; visible = h; low = l; each = tt }
+
+pub shape : {t : List ℕ} {v : ℕ} → EscapeSeqChar t v → Shape t
+shape x22 = one-shape 0x22 (omega arith) (omega arith)
+shape x5C = one-shape 0x5C (omega arith) (omega arith)
+shape x62 = one-shape 0x62 (omega arith) (omega arith)
+shape x66 = one-shape 0x66 (omega arith) (omega arith)
+shape x6E = one-shape 0x6E (omega arith) (omega arith)
+shape x72 = one-shape 0x72 (omega arith) (omega arith)
+shape x74 = one-shape 0x74 (omega arith) (omega arith)
+shape (x75 {t} d) = record { b = 0x75; r = t; is = refl; visible = omega arith; low = omega arith; each = digits-plain d }
+shape (x55 {t} d) = record { b = 0x55; r = t; is = refl; visible = omega arith; low = omega arith; each = digits-plain d }
+
+pub escape-ascii : {t : List ℕ} {v : ℕ} → EscapeSeqChar t v → AllAscii t
+escape-ascii e = let s = shape e in subst AllAscii (sym (s .is)) (s .low, all-weaken (λ c h. h .1) (s .r) (s .each))
+
+-- ---- an escape is one piece that gives its character
+
+simple-at : (b c : ℕ) → 0 ≡ hexLength b → c ≡ simpleEscape b → 0 < c → (at : ℕ) (s : List ℕ) → escapePiece at (b ∷ s) ≡ charPiece 2 c 0 0
+simple-at b c p q h at s = sym (escape-simple at (b ∷ s) 0 c p (omega arith) q h)
+
+hex-at : (b n v : ℕ) (t : List ℕ) → n ≡ hexLength b → 0 < n → HexDigits n 0 t v → Scalar v
+    → (at : ℕ) (s : List ℕ) → escapePiece at (b ∷ (t ++ s)) ≡ charPiece (suc (length (b ∷ t))) v 0 0
+hex-at b n v t p h d sc at s =
+    let value : v ≡ hexFrom 0 (take n (t ++ s)) = digits-value d ∙ ap (hexFrom 0) (sym (digits-taken d s)) in
+    sym (escape-hex at (b ∷ (t ++ s)) n p h)
+    ∙ (sym (hex-char n at (t ++ s) v (digits-run d s) value (scalar-true v sc))
+    ∙ ap (λ (i : ℕ). charPiece i v 0 0) (omega (arith, digits-long d)))
+
+pub escape-at : {t : List ℕ} {v : ℕ} (e : EscapeSeqChar t v) → Names e → (at : ℕ) (s : List ℕ)
+    → escapePiece at (t ++ s) ≡ charPiece (suc (length t)) v 0 0
+unfolding simpleEscape hexLength
+escape-at x22 h = simple-at 0x22 0x22 refl refl (omega arith)
+escape-at x5C h = simple-at 0x5C 0x5C refl refl (omega arith)
+escape-at x62 h = simple-at 0x62 0x08 refl refl (omega arith)
+escape-at x66 h = simple-at 0x66 0x0C refl refl (omega arith)
+escape-at x6E h = simple-at 0x6E 0x0A refl refl (omega arith)
+escape-at x72 h = simple-at 0x72 0x0D refl refl (omega arith)
+escape-at x74 h = simple-at 0x74 0x09 refl refl (omega arith)
+escape-at (x75 {t} {v} d) h = hex-at 0x75 4 v t refl (omega arith) d h
+escape-at (x55 {t} {v} d) h = hex-at 0x55 8 v t refl (omega arith) d h
+
+-- ---- an escape without error stands in front
+
+pub record EscapedAt (s : List ℕ) : Type 0 where
+  pub t : List ℕ
+  pub rest : List ℕ
+  pub v : ℕ
+  pub split : s ≡ t ++ rest
+  pub char : EscapeSeqChar t v
+  pub names : Names char
+
+-- the grammar's escape of the text t, with the value v
+abbrev Named : List ℕ → ℕ → Type 0
+Named t v = (e : EscapeSeqChar t v) × Names e
+
+module _ (b : ℕ) where
+  abbrev Simple : ℕ → Type 0
+  Simple v = 0 < v → Named (b ∷ []) v
+
+  one-letter : (k v w : ℕ) → Named (k ∷ []) v → Simple w → Simple (cond (lib.Dec.eqb b k) v w)
+  one-letter k v w x f =
+      by-eq Simple b k (λ e h. subst (λ (c : ℕ). Named (c ∷ []) v) (sym e) x) (λ e. f)
+
+  simple-is : Simple (simpleEscape b)
+  unfolding simpleEscape
+  simple-is =
+      one-letter 0x22 0x22 _ (x22, tt) (one-letter 0x5C 0x5C _ (x5C, tt) (one-letter 0x62 0x08 _ (x62, tt) (one-letter 0x66 0x0C _ (x66, tt)
+      (one-letter 0x6E 0x0A _ (x6E, tt) (one-letter 0x72 0x0D _ (x72, tt) (one-letter 0x74 0x09 0 (x74, tt)
+      (λ h. absurd (omega arith))))))))
+
+  abbrev Hex : ℕ → Type 0
+  Hex n = 0 < n → (t : List ℕ) (v : ℕ) → HexDigits n 0 t v → Scalar v → Named (b ∷ t) v
+
+  hex-is : Hex (hexLength b)
+  unfolding hexLength
+  hex-is =
+      by-eq Hex b 0x75 (λ e h t v d sc. subst (λ (c : ℕ). Named (c ∷ t) v) (sym e) (x75 d, sc))
+      λ _. by-eq Hex b 0x55 (λ e h t v d sc. subst (λ (c : ℕ). Named (c ∷ t) v) (sym e) (x55 d, sc)) (λ _ h. absurd (omega arith))
+
+hex-clean : (n at : ℕ) (s : List ℕ) → hexPiece n at s .err ≡ 0 → (n ≤ run hexdig s) × Scalar (hexFrom 0 (take n s))
+unfolding hexPiece
+hex-clean n at s =
+    by-lt (λ (p : Piece). p .err ≡ 0 → (n ≤ run hexdig s) × Scalar (hexFrom 0 (take n s))) (run hexdig s) n (λ h e. absurd (omega arith))
+    λ h. cond-case (λ (p : Piece). p .err ≡ 0 → (n ≤ run hexdig s) × Scalar (hexFrom 0 (take n s))) (isScalar (hexFrom 0 (take n s)))
+    (λ v e. (h, true-scalar _ v)) (λ v e. absurd (omega arith))
+
+hex-front : (b n at : ℕ) (s : List ℕ) → 0 < n → Hex b n → hexPiece n at s .err ≡ 0 → EscapedAt (b ∷ s)
+hex-front b n at s h f e =
+    let w = hex-clean n at s e in
+    let x = f h (take n s) (hexFrom 0 (take n s)) (digits-of n 0 s (w .0)) (w .1) in
+    record {
+      t = b ∷ take n s;
+      rest = drop n s;
+      v = hexFrom 0 (take n s);
+      split = ap (b ∷_) (sym (take-append-drop n s));
+      char = x .0;
+      names = x .1;
+    }
+
+none-escaped : (at : ℕ) → escapePiece at [] .err ≡ 0 → EscapedAt []
+unfolding escapePiece simpleEscape hexLength
+none-escaped at e = absurd (omega arith)
+
+pub escape-inv : (at : ℕ) (s : List ℕ) → escapePiece at s .err ≡ 0 → EscapedAt s
+unfolding escapePiece
+escape-inv at [] = none-escaped at
+escape-inv at (b ∷ s) =
+    by-lt (λ (p : Piece). p .err ≡ 0 → EscapedAt (b ∷ s)) 0 (hexLength b) (λ h e. hex-front b (hexLength b) at s h (hex-is b) e)
+    λ h. by-lt (λ (p : Piece). p .err ≡ 0 → EscapedAt (b ∷ s)) 0 (simpleEscape b)
+    (λ l e. let x = simple-is b l in record { t = b ∷ []; rest = s; v = simpleEscape b; split = refl; char = x .0; names = x .1 })
+    (λ l e. absurd (omega arith))

@@ -1,0 +1,33 @@
+-- Small facts of lists.
+-- Assumes nothing.
+use Prim.Native.Nat.{ℕ, suc, _<_}
+use mathlib.Core.Path.{_≡_, refl, sym, _∙_, ap}
+use mathlib.Core.List.{List, [], _∷_, _++_}
+use native.Mathlib.Omega.{arith}
+use lib.ListN.{length, take, drop, getD, take-append-drop, drop-of-length-le}
+use lib.Seq.{drop-cons}
+use Rattle.text.specs.Utf8.{All}
+
+pub nil : {A : Type 0} (r : List A) → length r ≡ 0 → r ≡ []
+nil [] h = refl
+nil (x ∷ r) h = absurd (omega arith)
+
+pub all-weaken : {P Q : ℕ → Type 0} → ((c : ℕ) → P c → Q c) → (t : List ℕ) → All P t → All Q t
+all-weaken f [] h = tt
+all-weaken f (c ∷ t) h = (f c (h .0), all-weaken f t (h .1))
+
+-- the last element, and what stands before it
+pub last-split : (s : List ℕ) (n : ℕ) → length s ≡ suc n → s ≡ take n s ++ (getD s n 0 ∷ [])
+last-split s n h =
+    let e : drop n s ≡ getD s n 0 ∷ [] =
+    drop-cons s n 0 (omega arith) ∙ ap (λ x. getD s n 0 ∷ x) (drop-of-length-le s {i = suc n} (omega arith)) in
+    sym (take-append-drop n s) ∙ ap (λ x. take n s ++ x) e
+
+-- a byte that is not 0 is there
+pub first-there : (s : List ℕ) (b : ℕ) → 0 < b → getD s 0 0 ≡ b → (r : List ℕ) × (s ≡ b ∷ r)
+first-there [] b h e = absurd (omega arith)
+first-there (x ∷ s) b h e = (s, rw e)
+
+pub two-there : (s : List ℕ) (b c : ℕ) → 0 < b → 0 < c → getD s 0 0 ≡ b → getD s 1 0 ≡ c → (r : List ℕ) × (s ≡ b ∷ (c ∷ r))
+two-there [] b c h k e f = absurd (omega arith)
+two-there (x ∷ s) b c h k e f = let w = first-there s c k f in (w .0, rw e (ap (b ∷_) (w .1)))

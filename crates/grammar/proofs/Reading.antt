@@ -1,0 +1,116 @@
+-- What it is to read a part of a body without error, for any definition of pieces.
+-- Assumes nothing.
+use Prim.Native.Nat.{ℕ, suc, _+_, _≤_, _<_}
+use mathlib.Core.Path.{_≡_, refl, sym, _∙_, ap}
+use mathlib.Core.Bool.{Bool, true, false, cond}
+use mathlib.Core.List.{List, [], _∷_, _++_, append-assoc, append-eq-nil-iff}
+use native.Mathlib.Omega.{arith}
+use lib.ListN.{length, length-append, take, drop}
+use lib.Seq.{take-at, drop-at}
+use Rattle.classes.specs.Runs.{run}
+use Rattle.text.specs.Utf8.{encodeScalar, All}
+use Rattle.strings.specs.declared.Piece.{Piece}
+use Rattle.strings.specs.Pieces.{gives, notes, notesAt, Pieces, collect, copyPiece, charPiece, dropPiece}
+use Rattle.strings.proofs.PieceLaws.{gives-copy, gives-char, gives-nothing, collect-step, notes-none}
+use Rattle.strings.proofs.Bounds.{notes-clean}
+use Rattle.grammar.proofs.Encoded.{char-bytes}
+
+module _ (P : Pieces) where
+  -- s gives o without error, and s′ is left; d and d′ say whether that is within a line-ending escape
+  pub record Reads (d : Bool) (at : ℕ) (s o : List ℕ) (d′ : Bool) (s′ : List ℕ) : Type 0 where
+    pub to : ℕ
+    pub place : to + length s′ ≡ at + length s
+    pub quiet : collect P notesAt 0 d at s ≡ collect P notesAt 0 d′ to s′
+    pub bytes : collect P gives 0 d at s ≡ o ++ collect P gives 0 d′ to s′
+
+  pub reads-none : (d : Bool) (at : ℕ) (s : List ℕ) → Reads d at s [] d s
+  reads-none d at s = record { to = at; place = refl; quiet = refl; bytes = refl }
+
+  pub reads-then : {d : Bool} {at : ℕ} {d₁ d₂ : Bool} {s o s₁ o₁ s₂ : List ℕ}
+      → (a : Reads d at s o d₁ s₁) → Reads d₁ (a .to) s₁ o₁ d₂ s₂ → Reads d at s (o ++ o₁) d₂ s₂
+  reads-then {o = o} {o₁ = o₁} a b =
+      record {
+        to = b .to;
+        place = b .place ∙ a .place;
+        quiet = a .quiet ∙ b .quiet;
+        bytes = a .bytes ∙ (ap (λ x. o ++ x) (b .bytes) ∙ sym (append-assoc o o₁ _));
+      }
+
+  -- one piece that has no error
+  reads-piece : (d : Bool) (at : ℕ) (t s o : List ℕ) (p : Piece) → P d at (t ++ s) ≡ p → 0 < length t → p .take ≡ length t
+      → p .err ≡ 0 → gives p (t ++ s) ≡ o → Reads d at (t ++ s) o (p .dropping) s
+  reads-piece d at t s o p e l n h g =
+      let some : 0 < length (t ++ s) = omega (arith, length-append t s) in
+      let takes : 0 < P d at (t ++ s) .take = rw e (omega arith) in
+      let x : drop (p .take) (t ++ s) ≡ s = drop-at t s (p .take) (sym n) in
+      record {
+        to = at + p .take;
+        place = omega (arith, length-append t s);
+        quiet = collect-step P notesAt d at (t ++ s) some takes ∙ rw (e, notes-none p h, x);
+        bytes = collect-step P gives d at (t ++ s) some takes ∙ rw (e, g, x);
+      }
+
+  -- bytes as they are, a character, or nothing
+  pub reads-copy : (d : Bool) (at : ℕ) (t s : List ℕ) (a z : ℕ) → P d at (t ++ s) ≡ copyPiece (length t) 0 a z → 0 < length t
+      → Reads d at (t ++ s) t false s
+  reads-copy d at t s a z e l =
+      let p = copyPiece (length t) 0 a z in
+      reads-piece d at t s t p e l refl refl (gives-copy p (t ++ s) refl ∙ take-at t s (length t) refl)
+
+  pub reads-for : (d : Bool) (at : ℕ) (t s : List ℕ) (v : ℕ) → P d at (t ++ s) ≡ charPiece (length t) v 0 0 → 0 < length t
+      → Reads d at (t ++ s) (encodeScalar v) false s
+  reads-for d at t s v e l =
+      let p = charPiece (length t) v 0 0 in
+      reads-piece d at t s (encodeScalar v) p e l refl refl (gives-char p (t ++ s) v refl)
+
+  pub reads-drop : (d : Bool) (at : ℕ) (t s : List ℕ) → P d at (t ++ s) ≡ dropPiece (length t) 0 0 → 0 < length t
+      → Reads d at (t ++ s) [] true s
+  reads-drop d at t s e l =
+      let p = dropPiece (length t) 0 0 in
+      reads-piece d at t s [] p e l refl refl (gives-nothing p (t ++ s) refl)
+
+  -- the first piece of a body that is read without error has none
+  pub first-clean : (d : Bool) (at b : ℕ) (r : List ℕ) → collect P notesAt 0 d at (b ∷ r) ≡ [] → P d at (b ∷ r) .err ≡ 0
+  first-clean d at b r e =
+      notes-clean (P d at (b ∷ r)) (ap length (append-eq-nil-iff {p = notes (P d at (b ∷ r))} .0 e .0))
+
+  -- a whole run of plain bytes is one piece, and yet they may be read one by one
+  module _ (f : ℕ → Bool) (plain : (at b : ℕ) (s : List ℕ) → f b ≡ true → P false at (b ∷ s) ≡ copyPiece (suc (run f s)) 0 at at) where
+    rest-gives : (at : ℕ) (s : List ℕ) → take (run f s) s ++ collect P gives (run f s) false at s ≡ collect P gives 0 false at s
+    unfolding gives run
+    rest-gives at [] = refl
+    rest-gives at (b ∷ s) = go (f b) refl
+      where
+        go : (x : Bool) → f b ≡ x
+            → take (cond x (suc (run f s)) 0) (b ∷ s) ++ collect P gives (cond x (suc (run f s)) 0) false at (b ∷ s)
+            ≡ collect P gives 0 false at (b ∷ s)
+        go true e = rw (plain at b s e)
+        go false e = refl
+
+    rest-notes : (at : ℕ) (s : List ℕ) → collect P notesAt (run f s) false at s ≡ collect P notesAt 0 false at s
+    unfolding notes run
+    rest-notes at [] = refl
+    rest-notes at (b ∷ s) = go (f b) refl
+      where
+        go : (x : Bool) → f b ≡ x → collect P notesAt (cond x (suc (run f s)) 0) false at (b ∷ s) ≡ collect P notesAt 0 false at (b ∷ s)
+        go true e = rw (plain at b s e)
+        go false e = refl
+
+    pub reads-plain : (at b : ℕ) (s : List ℕ) → f b ≡ true → Reads false at (b ∷ s) (b ∷ []) false s
+    unfolding gives notes
+    reads-plain at b s e =
+        record {
+          to = suc at;
+          place = omega arith;
+          quiet = rw (plain at b s e) (rest-notes (suc at) s);
+          bytes = rw (plain at b s e) (ap (b ∷_) (rest-gives (suc at) s));
+        }
+
+    reads-bytes : (x : List ℕ) → All (λ b. f b ≡ true) x → (at : ℕ) (s : List ℕ) → Reads false at (x ++ s) x false s
+    reads-bytes [] h at s = reads-none false at s
+    reads-bytes (b ∷ x) h at s = let a = reads-plain at b (x ++ s) (h .0) in reads-then a (reads-bytes x (h .1) (a .to) s)
+
+    -- a code point of the class
+    pub reads-char : ((b : ℕ) → 0x80 ≤ b → f b ≡ true) → (c at : ℕ) (s : List ℕ) → f c ≡ true
+        → Reads false at (encodeScalar c ++ s) (encodeScalar c) false s
+    reads-char high c at s e = reads-bytes (encodeScalar c) (char-bytes high c e) at s

@@ -1,0 +1,5 @@
+pub mod Grammar
+pub mod Scalars
+pub mod Prose
+pub mod Strings
+pub mod Demand3

@@ -1,0 +1,58 @@
+-- RULE. TOML's four kinds of string: which token and which encoding each is, and what it is for a text of code points to be
+-- derived, and to mean a value.
+-- Assumes nothing.
+use Prim.Native.Nat.{ℕ}
+use mathlib.Core.Path.{_≡_}
+use mathlib.Core.List.{List}
+use lib.ListN.{getD}
+use Rattle.token.specs.declared.TokenKind.{TokenKind}
+use Rattle.token.specs.declared.TokenKind.the-variants.{LiteralString as LiteralToken, BasicString as BasicToken, MlLiteralString as MlLiteralToken, MlBasicString as MlBasicToken}
+use Rattle.strings.specs.declared.Encoding.{Encoding}
+use Rattle.strings.specs.declared.Encoding.the-variants.{LiteralString as LiteralText, BasicString as BasicText, MlLiteralString as MlLiteralText, MlBasicString as MlBasicText}
+use Rattle.grammar.specs.Grammar.{apostrophe, quotation-mark, LiteralString, BasicString, MlLiteralString, MlBasicString}
+use Rattle.grammar.specs.Scalars.{BasicNames, MlBasicNames}
+use Rattle.grammar.specs.Prose.{MlLiteralObeys, MlBasicObeys}
+
+-- string = ml-basic-string / basic-string / ml-literal-string / literal-string
+pub data StringKind : Type 0 where
+  ml-basic basic ml-literal literal : StringKind
+
+-- the token that the lexer gives for it
+abbrev pub tokenKind : StringKind → TokenKind
+tokenKind ml-basic = MlBasicToken
+tokenKind basic = BasicToken
+tokenKind ml-literal = MlLiteralToken
+tokenKind literal = LiteralToken
+
+-- the decoder that reads it
+abbrev pub encoding : StringKind → Encoding
+encoding ml-basic = MlBasicText
+encoding basic = BasicText
+encoding ml-literal = MlLiteralText
+encoding literal = LiteralText
+
+-- its quote mark
+abbrev pub mark : StringKind → ℕ
+mark ml-basic = quotation-mark
+mark basic = quotation-mark
+mark ml-literal = apostrophe
+mark literal = apostrophe
+
+-- the bytes s do not begin with the mark q (no mark is 0, which `getD` gives beyond the end)
+abbrev pub Apart : ℕ → List ℕ → Type 0
+Apart q s = getD s 0 0 ≡ q → ⊥
+
+-- the kind's rule derives the code points cs with the value v, and each \u and \U in them names a scalar value
+abbrev pub Derived : StringKind → List ℕ → List ℕ → Type 0
+Derived ml-basic cs v = (d : MlBasicString cs v) × MlBasicNames d
+Derived basic cs v = (d : BasicString cs v) × BasicNames d
+Derived ml-literal cs v = MlLiteralString cs v
+Derived literal cs v = LiteralString cs v
+
+-- and the derivation obeys the two prose rules: the newline after the opening is dropped, and a line-ending backslash drops
+-- all that it can
+abbrev pub Means : StringKind → List ℕ → List ℕ → Type 0
+Means ml-basic cs v = (d : MlBasicString cs v) × MlBasicNames d × MlBasicObeys d
+Means basic cs v = (d : BasicString cs v) × BasicNames d
+Means ml-literal cs v = (d : MlLiteralString cs v) × MlLiteralObeys d
+Means literal cs v = LiteralString cs v

@@ -1,0 +1,54 @@
+-- A token's kind and end at a place of the document.
+-- Assumes nothing.
+use Prim.Native.Nat.{ℕ, _+_, _<_}
+use mathlib.Core.Path.{_≡_, refl, ap}
+use mathlib.Core.Bool.{Bool, true, false}
+use mathlib.Core.List.{List, [], _∷_}
+use native.Mathlib.Omega.{arith}
+use borrow.Author.Tests.{eqb-true}
+use lib.Dec.{eqb}
+use lib.ListN.{length, getD, drop}
+use lib.Seq.{drop-cons}
+use Rattle.classes.specs.Classes.{wschar}
+use Rattle.classes.proofs.Conds.{cond-case}
+use Rattle.token.specs.declared.TokenKind.{TokenKind}
+use Rattle.token.specs.declared.TokenKind.the-variants.{Dot, Equals, Comma, LeftSquareBracket, RightSquareBracket, LeftCurlyBracket, RightCurlyBracket, Whitespace, Comment, Newline, LiteralString, BasicString, MlLiteralString, MlBasicString, Atom}
+use Rattle.token.specs.Records.{tokenOf}
+use Rattle.lexer.specs.Bytes.{eol}
+use Rattle.lexer.specs.Extents.{triple}
+use Rattle.lexer.specs.Table.{kindBy, kindOf, extent, tokenLen}
+use Rattle.lexer.specs.Tokens.{tokenBy, tokenAt}
+
+pub kind-at : (s : List ℕ) (i : ℕ) → i < length s → kindOf (drop i s) ≡ kindBy (getD s i 0) (triple (getD s i 0) (drop i s))
+unfolding kindOf
+kind-at s i h = rw (drop-cons s i 0)
+
+-- a token of the kind that stands there is the token there
+pub token-made : (k : TokenKind) (at : ℕ) (s : List ℕ) → kindOf s ≡ k → tokenBy k at s ≡ tokenAt at s
+unfolding tokenLen
+token-made k at s e = rw e
+
+-- the same token by an equal end
+pub end-is : (k : TokenKind) (at : ℕ) {e f : ℕ} → e ≡ f → tokenOf k at e ≡ tokenOf k at f
+end-is k at e = ap (tokenOf k at) e
+
+-- the kinds in turn: what holds of each kind under its test holds of the kind by a first byte
+pub by-kind : (P : TokenKind → Type 0) (b : ℕ) (three : Bool)
+    → (b ≡ 46 → P Dot) → (b ≡ 61 → P Equals) → (b ≡ 44 → P Comma) → (b ≡ 91 → P LeftSquareBracket) → (b ≡ 93 → P RightSquareBracket)
+    → (b ≡ 123 → P LeftCurlyBracket) → (b ≡ 125 → P RightCurlyBracket) → (wschar b ≡ true → P Whitespace) → (b ≡ 35 → P Comment)
+    → (eol b ≡ true → P Newline) → (b ≡ 39 → P LiteralString) → (b ≡ 34 → P BasicString) → (b ≡ 39 → three ≡ true → P MlLiteralString)
+    → (b ≡ 34 → three ≡ true → P MlBasicString) → P Atom → P (kindBy b three)
+unfolding kindBy
+by-kind P b three dot equals comma ls rs lc rc ws comment newline literal basic mll mlb atom =
+    cond-case P (eqb b 46) (λ t. dot (eqb-true b 46 t)) λ _.
+    cond-case P (eqb b 61) (λ t. equals (eqb-true b 61 t)) λ _.
+    cond-case P (eqb b 44) (λ t. comma (eqb-true b 44 t)) λ _.
+    cond-case P (eqb b 91) (λ t. ls (eqb-true b 91 t)) λ _.
+    cond-case P (eqb b 93) (λ t. rs (eqb-true b 93 t)) λ _.
+    cond-case P (eqb b 123) (λ t. lc (eqb-true b 123 t)) λ _.
+    cond-case P (eqb b 125) (λ t. rc (eqb-true b 125 t)) λ _.
+    cond-case P (wschar b) ws λ _.
+    cond-case P (eqb b 35) (λ t. comment (eqb-true b 35 t)) λ _.
+    cond-case P (eol b) newline λ _.
+    cond-case P (eqb b 39) (λ t. let e = eqb-true b 39 t in cond-case P three (mll e) (λ _. literal e)) λ _.
+    cond-case P (eqb b 34) (λ t. let e = eqb-true b 34 t in cond-case P three (mlb e) (λ _. basic e)) λ _. atom

@@ -1,0 +1,249 @@
+-- The laws of a string's tail at a place of the document, for the loop that walks it: by a byte, by a run of plain bytes,
+-- and at its end.
+-- Assumes nothing.
+use Prim.Native.Nat.{ℕ, suc, _+_, _≤_, _<_}
+use mathlib.Core.Path.{_≡_, refl, sym, ap, _∙_}
+use mathlib.Core.Bool.{Bool, true, false, not, cond, _&&_, _||_}
+use mathlib.Core.List.{List, [], _∷_}
+use native.Mathlib.Numerals.{add-one}
+use native.Mathlib.Omega.{arith}
+use borrow.Author.Tests.{eqb-true, ne-eqb, eq-eqb}
+use lib.Dec.{eqb}
+use lib.ListN.{length, getD, drop, drop-of-length-le, length-drop}
+use lib.Seq.{drop-cons, drop-drop, getD-drop}
+use Rattle.classes.specs.Runs.{run}
+use Rattle.classes.proofs.Conds.{cond-case, not-both}
+use Rattle.classes.proofs.RunLaws.{run-le}
+use Rattle.lexer.specs.Bytes.{hides, closes, inComment}
+use Rattle.lexer.specs.Extents.{lineTail, triple, upToTwo, mlTail}
+use Rattle.lexer.specs.Scans.{oneOf, noneOf, escapeOf}
+
+-- ---- by a byte
+
+module _ (q : ℕ) (h : Bool) (s : List ℕ) (i : ℕ) (l : i < length s) where
+  pub line-step : closes q h (getD s i 0) ≡ false → eqb (getD s i 0) 10 ≡ false
+      → lineTail q h (drop i s) ≡ suc (lineTail q (hides q h (getD s i 0)) (drop (i + 1) s))
+  unfolding lineTail
+  line-step t u = rw (add-one, drop-cons s i 0, t, u)
+
+  pub line-close : closes q h (getD s i 0) ≡ true → lineTail q h (drop i s) ≡ 1
+  unfolding lineTail
+  line-close t = rw (drop-cons s i 0, t)
+
+  pub line-lf : closes q h (getD s i 0) ≡ false → eqb (getD s i 0) 10 ≡ true → lineTail q h (drop i s) ≡ 0
+  unfolding lineTail
+  line-lf t u = rw (drop-cons s i 0, t, u)
+
+  pub ml-step : (not h && triple q (drop i s)) ≡ false
+      → mlTail q h (drop i s) ≡ suc (mlTail q (hides q h (getD s i 0)) (drop (i + 1) s))
+  unfolding mlTail
+  ml-step t = rw (add-one, drop-cons s i 0, rw (drop-cons s i 0) at t)
+
+  pub ml-close : (not h && triple q (drop i s)) ≡ true → mlTail q h (drop i s) ≡ 3 + upToTwo q (drop (i + 3) s)
+  unfolding mlTail
+  ml-close t = rw (← drop-drop 3 i s, drop-cons s i 0, rw (drop-cons s i 0) at t)
+
+module _ (q : ℕ) (h : Bool) (s : List ℕ) (i : ℕ) (l : length s ≤ i) where
+  pub line-end : lineTail q h (drop i s) ≡ 0
+  unfolding lineTail
+  line-end = rw (drop-of-length-le s l)
+
+  pub ml-end : mlTail q h (drop i s) ≡ 0
+  unfolding mlTail
+  ml-end = rw (drop-of-length-le s l)
+
+-- ---- one of three bytes
+
+none-each : (x y z : Bool) → not (x || (y || z)) ≡ true → (x ≡ false) × (y ≡ false) × (z ≡ false)
+none-each true y z h = not-both h refl
+none-each false true z h = not-both h refl
+none-each false false true h = not-both h refl
+none-each false false false h = (refl, refl, refl)
+
+some-middle : (x y z : Bool) → not (x || (y || z)) ≡ false → x ≡ false → z ≡ false → y ≡ true
+some-middle true y z h a c = not-both refl a
+some-middle false true z h a c = refl
+some-middle false false true h a c = not-both refl c
+some-middle false false false h a c = not-both refl h
+
+some-last : (x y : Bool) → not (x || (y || y)) ≡ false → x ≡ false → y ≡ true
+some-last true y h a = not-both refl a
+some-last false true h a = refl
+some-last false false h a = not-both refl h
+
+-- two of the three are the same
+two-of-three : (x y : Bool) → not (x || (y || y)) ≡ not (x || y)
+two-of-three true y = refl
+two-of-three false true = refl
+two-of-three false false = refl
+
+-- ---- the escape of a string with the mark q
+
+no-escape : (q b : ℕ) → eqb b (escapeOf q) ≡ false → hides q false b ≡ false
+no-escape q b = go (eqb q 34)
+  where
+    go : (x : Bool) → eqb b (cond x 92 q) ≡ false → (x && eqb b 92) ≡ false
+    go true e = e
+    go false e = refl
+
+an-escape : (q b : ℕ) → eqb b (escapeOf q) ≡ true → eqb b q ≡ false → hides q false b ≡ true
+an-escape q b = go (eqb q 34)
+  where
+    go : (x : Bool) → eqb b (cond x 92 q) ≡ true → eqb b q ≡ false → (x && eqb b 92) ≡ true
+    go true e n = e
+    go false e n = not-both e n
+
+-- a mark hides nothing
+mark-hides : (q b : ℕ) → b ≡ q → hides q false b ≡ false
+mark-hides q b e = rw e (go (eqb q 34) refl)
+  where
+    go : (x : Bool) → eqb q 34 ≡ x → (x && eqb q 92) ≡ false
+    go true t = ne-eqb q 92 (λ u. omega (arith, eqb-true q 34 t))
+    go false t = refl
+
+-- ---- by a run of plain bytes
+
+-- a tail that goes on over each byte of a class goes on over a run of them
+over-run : (F : List ℕ → ℕ) (p : ℕ → Bool) → ((b : ℕ) (s : List ℕ) → p b ≡ true → F (b ∷ s) ≡ suc (F s))
+    → (s : List ℕ) → F s ≡ run p s + F (drop (run p s) s)
+unfolding run
+over-run F p f [] = omega arith
+over-run F p f (b ∷ s) =
+    cond-case (λ (n : ℕ). F (b ∷ s) ≡ n + F (drop n (b ∷ s))) (p b)
+    (λ t. omega (arith, f b s t, over-run F p f s))
+    (λ t. omega arith)
+
+-- so the end of the tail is where it was
+over-run-at : (F : List ℕ → ℕ) (p : ℕ → Bool) → ((b : ℕ) (s : List ℕ) → p b ≡ true → F (b ∷ s) ≡ suc (F s))
+    → (s : List ℕ) (i r : ℕ) → r ≡ i + run p (drop i s) → i + F (drop i s) ≡ r + F (drop r s)
+over-run-at F p f s i r e =
+    let same : drop (run p (drop i s)) (drop i s) ≡ drop r s = drop-drop (run p (drop i s)) i s ∙ ap (λ (n : ℕ). drop n s) (sym e) in
+    omega (arith, over-run F p f (drop i s), ap F same)
+
+line-over : (q b : ℕ) (s : List ℕ) → noneOf q (escapeOf q) 10 b ≡ true → lineTail q false (b ∷ s) ≡ suc (lineTail q false s)
+unfolding lineTail
+line-over q b s t =
+    let n = none-each (eqb b q) (eqb b (escapeOf q)) (eqb b 10) t in
+    rw (n .0, n .2, no-escape q b (n .1))
+
+other-mark : (q b : ℕ) (s : List ℕ) → eqb b q ≡ false → triple q (b ∷ s) ≡ false
+unfolding triple
+other-mark q b s t = rw t
+
+ml-over : (q b : ℕ) (s : List ℕ) → noneOf q (escapeOf q) (escapeOf q) b ≡ true → mlTail q false (b ∷ s) ≡ suc (mlTail q false s)
+unfolding mlTail
+ml-over q b s t =
+    let n = none-each (eqb b q) (eqb b (escapeOf q)) (eqb b (escapeOf q)) t in
+    rw (other-mark q b s (n .0), no-escape q b (n .1))
+
+module _ (q : ℕ) (s : List ℕ) (i r : ℕ) where
+  pub line-plain : r ≡ i + run (noneOf q (escapeOf q) 10) (drop i s)
+      → i + lineTail q false (drop i s) ≡ r + lineTail q false (drop r s)
+  line-plain e = over-run-at (lineTail q false) (noneOf q (escapeOf q) 10) (line-over q) s i r e
+
+  pub ml-plain : r ≡ i + run (noneOf q (escapeOf q) (escapeOf q)) (drop i s)
+      → i + mlTail q false (drop i s) ≡ r + mlTail q false (drop r s)
+  ml-plain e = over-run-at (mlTail q false) (noneOf q (escapeOf q) (escapeOf q)) (ml-over q) s i r e
+
+-- ---- a run ends within the list, and at a byte that fails the test
+
+module _ (p : ℕ → Bool) where
+  fails-behind : (s : List ℕ) → run p s < length s → p (getD s (run p s) 0) ≡ false
+  unfolding run
+  fails-behind [] = λ h. absurd (omega arith)
+  fails-behind (b ∷ s) =
+      cond-case (λ (n : ℕ). n < suc (length s) → p (getD (b ∷ s) n 0) ≡ false) (p b)
+      (λ t h. fails-behind s (omega arith))
+      (λ t h. t)
+
+  module _ (s : List ℕ) (i r : ℕ) (e : r ≡ i + run p (drop i s)) where
+    pub run-within : i ≤ length s → r ≤ length s
+    run-within l = omega (arith, run-le p (drop i s), length-drop i s)
+
+    pub run-fails : r < length s → p (getD s r 0) ≡ false
+    run-fails h =
+        ap (λ (n : ℕ). p (getD s n 0)) e ∙ ap p (sym (getD-drop i s (run p (drop i s)) 0))
+        ∙ fails-behind (drop i s) (omega (arith, length-drop i s))
+
+-- ---- at an escape, and at the byte that it hides
+
+module _ (q : ℕ) (s : List ℕ) (i : ℕ) (l : i < length s) where
+  pub line-escape : noneOf q (escapeOf q) 10 (getD s i 0) ≡ false → (getD s i 0 ≡ q → ⊥) → (getD s i 0 ≡ 10 → ⊥)
+      → lineTail q false (drop i s) ≡ suc (lineTail q true (drop (i + 1) s))
+  line-escape t m n =
+      let b = getD s i 0 in
+      let escape = some-middle (eqb b q) (eqb b (escapeOf q)) (eqb b 10) t (ne-eqb _ _ m) (ne-eqb _ _ n) in
+      line-step q false s i l (ne-eqb _ _ m) (ne-eqb _ _ n)
+      ∙ ap (λ (h : Bool). suc (lineTail q h (drop (i + 1) s))) (an-escape q b escape (ne-eqb _ _ m))
+
+  pub line-hidden : (getD s i 0 ≡ 10 → ⊥) → lineTail q true (drop i s) ≡ suc (lineTail q false (drop (i + 1) s))
+  line-hidden n = line-step q true s i l refl (ne-eqb _ _ n)
+
+  pub ml-mark : triple q (drop i s) ≡ false → getD s i 0 ≡ q → mlTail q false (drop i s) ≡ suc (mlTail q false (drop (i + 1) s))
+  ml-mark t e =
+      ml-step q false s i l t ∙ ap (λ (h : Bool). suc (mlTail q h (drop (i + 1) s))) (mark-hides q (getD s i 0) e)
+
+  pub ml-escape : triple q (drop i s) ≡ false → noneOf q (escapeOf q) (escapeOf q) (getD s i 0) ≡ false → (getD s i 0 ≡ q → ⊥)
+      → mlTail q false (drop i s) ≡ suc (mlTail q true (drop (i + 1) s))
+  ml-escape t u m =
+      let b = getD s i 0 in
+      let escape = some-last (eqb b q) (eqb b (escapeOf q)) u (ne-eqb _ _ m) in
+      ml-step q false s i l t ∙ ap (λ (h : Bool). suc (mlTail q h (drop (i + 1) s))) (an-escape q b escape (ne-eqb _ _ m))
+
+  pub ml-hidden : mlTail q true (drop i s) ≡ suc (mlTail q false (drop (i + 1) s))
+  ml-hidden = ml-step q true s i l refl
+
+-- ---- behind a search for the bytes that matter, from place i to place r
+
+pub record LineFound (q : ℕ) (s : List ℕ) (i r : ℕ) : Type 0 where
+  pub within : r ≤ length s
+  pub forward : i ≤ r
+  pub same : i + lineTail q false (drop i s) ≡ r + lineTail q false (drop r s)
+  pub stopped : r < length s → noneOf q (escapeOf q) 10 (getD s r 0) ≡ false
+
+pub record MlFound (q : ℕ) (s : List ℕ) (i r : ℕ) : Type 0 where
+  pub within : r ≤ length s
+  pub forward : i ≤ r
+  pub same : i + mlTail q false (drop i s) ≡ r + mlTail q false (drop r s)
+  pub stopped : r < length s → noneOf q (escapeOf q) (escapeOf q) (getD s r 0) ≡ false
+
+module _ (q : ℕ) (s : List ℕ) (i r escape : ℕ) (by : escape ≡ escapeOf q) (l : i ≤ length s) where
+  pub line-found : r ≡ i + run (noneOf q escape 10) (drop i s) → LineFound q s i r
+  line-found e =
+      let f : r ≡ i + run (noneOf q (escapeOf q) 10) (drop i s) = rw by at e in
+      let p = noneOf q (escapeOf q) 10 in
+      record { within = run-within p s i r f l; forward = omega arith; same = line-plain q s i r f; stopped = run-fails p s i r f }
+
+  pub ml-found : r ≡ i + run (noneOf q escape escape) (drop i s) → MlFound q s i r
+  ml-found e =
+      let f : r ≡ i + run (noneOf q (escapeOf q) (escapeOf q)) (drop i s) = rw by at e in
+      let p = noneOf q (escapeOf q) (escapeOf q) in
+      record { within = run-within p s i r f l; forward = omega arith; same = ml-plain q s i r f; stopped = run-fails p s i r f }
+
+-- ---- a comment's bytes
+
+run-same : (p r : ℕ → Bool) → ((b : ℕ) → p b ≡ r b) → (s : List ℕ) → run p s ≡ run r s
+unfolding run
+run-same p r f [] = refl
+run-same p r f (b ∷ s) = rw (f b, run-same p r f s)
+
+pub comment-run : (s : List ℕ) → run (noneOf 13 10 10) s ≡ run inComment s
+comment-run = run-same (noneOf 13 10 10) inComment (λ b. two-of-three (eqb b 13) (eqb b 10))
+
+-- ---- what a backslash hides matters only if it is a backslash or the mark
+
+module _ (q b : ℕ) (s : List ℕ) (m : eqb b q ≡ false) (e : eqb b 92 ≡ false) where
+  hides-none : (eqb q 34 && eqb b 92) ≡ false
+  hides-none = ap (λ (x : Bool). eqb q 34 && x) e ∙ go (eqb q 34)
+    where
+      go : (x : Bool) → (x && false) ≡ false
+      go true = refl
+      go false = refl
+
+  pub line-hidden-other : lineTail q true (b ∷ s) ≡ lineTail q false (b ∷ s)
+  unfolding lineTail
+  line-hidden-other = rw (m, hides-none)
+
+  pub ml-hidden-other : mlTail q true (b ∷ s) ≡ mlTail q false (b ∷ s)
+  unfolding mlTail
+  ml-hidden-other = rw (other-mark q b s m, hides-none)

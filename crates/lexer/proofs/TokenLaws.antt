@@ -1,0 +1,144 @@
+-- A token has at least one byte and stays within the document; whole lexing goes from token to token, without a gap.
+-- Assumes nothing.
+use Prim.Native.Nat.{ℕ, zero, suc, pred, _+_, _≤_, _<_, suc-le-suc}
+use mathlib.Core.Path.{_≡_, refl, sym, ap, _∙_}
+use mathlib.Core.Bool.{Bool, true, false, not, _&&_}
+use mathlib.Core.List.{List, [], _∷_}
+use native.Mathlib.Omega.{arith}
+use native.Mathlib.Nat.{add-zero}
+use borrow.Author.Tests.{eqb-true}
+use lib.Dec.{eqb}
+use lib.ListN.{length, getD, drop, drop-of-length-le, length-drop}
+use lib.Seq.{drop-drop}
+use Rattle.classes.specs.Classes.{wschar}
+use Rattle.classes.proofs.Conds.{cond-case}
+use Rattle.classes.proofs.RunLaws.{run-le}
+use Rattle.token.specs.declared.TokenKind.{TokenKind}
+use Rattle.token.specs.declared.Token.{Token}
+use Rattle.lexer.specs.Bytes.{hides, closes, inComment, inAtom}
+use Rattle.lexer.specs.Extents.{lineTail, triple, upToTwo, mlTail, newlineTail}
+use Rattle.lexer.specs.Table.{kindOf, extent, tokenLen}
+use Rattle.lexer.specs.Tokens.{tokenAt, eofAt, walk, tokensFrom, hasBom, startOf, tokensOf}
+use Rattle.lexer.proofs.MarkLaws.{and-right, nonzero-at, triple-fits}
+use Rattle.lexer.proofs.KindLaws.{by-kind}
+
+-- ---- each extent stays within the bytes
+
+abbrev Fits : List ℕ → ℕ → Type 0
+Fits s n = n ≤ length s
+
+line-fits : (q : ℕ) (h : Bool) (s : List ℕ) → lineTail q h s ≤ length s
+unfolding lineTail
+line-fits q h [] = omega arith
+line-fits q h (b ∷ s) =
+    cond-case (Fits (b ∷ s)) (closes q h b) (λ _. omega arith)
+    λ _. cond-case (Fits (b ∷ s)) (eqb b 10) (λ _. omega arith) (λ _. suc-le-suc (line-fits q (hides q h b) s))
+
+two-fits : (q : ℕ) (s : List ℕ) → 0 < q → upToTwo q s ≤ length s
+unfolding upToTwo
+two-fits q s h =
+    cond-case (Fits s) (eqb (getD s 0 0) q)
+    (λ t. cond-case (Fits s) (eqb (getD s 1 0) q)
+    (λ u. let e : getD s 1 0 ≡ q = eqb-true _ _ u in nonzero-at s 1 (omega arith))
+    (λ u. let e : getD s 0 0 ≡ q = eqb-true _ _ t in nonzero-at s 0 (omega arith)))
+    (λ t. omega arith)
+
+ml-fits : (q : ℕ) (h : Bool) (s : List ℕ) → 0 < q → mlTail q h s ≤ length s
+unfolding mlTail
+ml-fits q h [] l = omega arith
+ml-fits q h (b ∷ s) l =
+    cond-case (Fits (b ∷ s)) (not h && triple q (b ∷ s))
+    (λ t. omega (arith, triple-fits q (b ∷ s) l (and-right (not h) _ t), two-fits q (drop 3 (b ∷ s)) l, length-drop 3 (b ∷ s)))
+    (λ t. suc-le-suc (ml-fits q (hides q h b) s l))
+
+ml-whole-fits : (q b : ℕ) (s : List ℕ) → 0 < q → b ≡ q → triple b s ≡ true → suc (suc (suc (mlTail q false (drop 3 s)))) ≤ length s
+ml-whole-fits q b s l e t = omega (arith, triple-fits b s (omega arith) t, ml-fits q false (drop 3 s) l, length-drop 3 s)
+
+newline-fits : (b : ℕ) (s : List ℕ) → suc (newlineTail (b ∷ s)) ≤ length (b ∷ s)
+unfolding newlineTail
+newline-fits b s =
+    cond-case (λ (n : ℕ). suc n ≤ length (b ∷ s)) (eqb b 13 && eqb (getD s 0 0) 10)
+    (λ t. let e : getD s 0 0 ≡ 10 = eqb-true _ _ (and-right (eqb b 13) _ t) in omega (arith, nonzero-at s 0 (omega arith)))
+    (λ t. omega arith)
+
+pub token-fits : (s : List ℕ) → tokenLen s ≤ length s
+unfolding tokenLen kindOf extent
+token-fits [] = omega arith
+token-fits (b ∷ s) =
+    let one : 1 ≤ suc (length s) = omega arith in
+    by-kind (λ (k : TokenKind). extent k (b ∷ s) ≤ suc (length s)) b (triple b (b ∷ s))
+    (λ _. one) (λ _. one) (λ _. one) (λ _. one) (λ _. one) (λ _. one) (λ _. one)
+    (λ _. suc-le-suc (run-le wschar s)) (λ _. suc-le-suc (run-le inComment s)) (λ _. newline-fits b s)
+    (λ _. suc-le-suc (line-fits 39 false s)) (λ _. suc-le-suc (line-fits 34 false s))
+    (ml-whole-fits 39 b (b ∷ s) (omega arith)) (ml-whole-fits 34 b (b ∷ s) (omega arith))
+    (suc-le-suc (run-le inAtom s))
+
+-- every token but Eof has at least one byte
+pub token-long : (s : List ℕ) → 0 < length s → 0 < tokenLen s
+unfolding tokenLen kindOf extent
+token-long [] h = omega arith
+token-long (b ∷ s) h =
+    by-kind (λ (k : TokenKind). 0 < extent k (b ∷ s)) b (triple b (b ∷ s))
+    (λ _. omega arith) (λ _. omega arith) (λ _. omega arith) (λ _. omega arith) (λ _. omega arith) (λ _. omega arith) (λ _. omega arith)
+    (λ _. omega arith) (λ _. omega arith) (λ _. omega arith) (λ _. omega arith) (λ _. omega arith)
+    (λ _ _. omega arith) (λ _ _. omega arith) (omega arith)
+
+-- ---- from token to token
+
+walk-skip : (k at : ℕ) (s : List ℕ) → k ≤ length s → walk at k s ≡ walk (at + k) 0 (drop k s)
+unfolding walk
+walk-skip zero at s h = rw add-zero
+walk-skip (suc k) at [] h = absurd (omega arith)
+walk-skip (suc k) at (b ∷ s) h =
+    let same : at + 1 + k ≡ at + suc k = omega arith in
+    walk-skip k (at + 1) s (omega arith) ∙ ap (λ (n : ℕ). walk n 0 (drop k s)) same
+
+walk-pass : (n at b : ℕ) (s : List ℕ) → 0 < n → n ≤ suc (length s) → walk (at + 1) (pred n) s ≡ walk (at + n) 0 (drop n (b ∷ s))
+walk-pass zero at b s h l = absurd (omega arith)
+walk-pass (suc n) at b s h l =
+    let same : at + 1 + n ≡ at + suc n = omega arith in
+    walk-skip n (at + 1) s (omega arith) ∙ ap (λ (m : ℕ). walk m 0 (drop n s)) same
+
+pub tokens-cons : (at : ℕ) (s : List ℕ) → 0 < length s
+    → tokensFrom at s ≡ tokenAt at s ∷ tokensFrom (at + tokenLen s) (drop (tokenLen s) s)
+unfolding tokensFrom walk
+tokens-cons at [] h = absurd (omega arith)
+tokens-cons at (b ∷ s) h =
+    ap (λ (r : List Token). tokenAt at (b ∷ s) ∷ r)
+    (walk-pass (tokenLen (b ∷ s)) at b s (token-long (b ∷ s) h) (token-fits (b ∷ s)))
+
+module _ (doc : List ℕ) (at : ℕ) where
+  -- the next token begins where this one ends
+  pub tokens-step : at < length doc
+      → tokensFrom at (drop at doc) ≡ tokenAt at (drop at doc) ∷ tokensFrom (at + tokenLen (drop at doc)) (drop (at + tokenLen (drop at doc)) doc)
+  tokens-step h = tokens-cons at (drop at doc) (omega (arith, length-drop at doc)) ∙ rw (drop-drop (tokenLen (drop at doc)) at doc)
+
+  pub tokens-end : length doc ≤ at → tokensFrom at (drop at doc) ≡ eofAt at ∷ []
+  unfolding tokensFrom walk
+  tokens-end h = rw (drop-of-length-le doc h)
+
+  pub token-fits-at : at ≤ length doc → at + tokenLen (drop at doc) ≤ length doc
+  token-fits-at h = omega (arith, token-fits (drop at doc), length-drop at doc)
+
+  pub token-long-at : at < length doc → 0 < tokenLen (drop at doc)
+  token-long-at h = token-long (drop at doc) (omega (arith, length-drop at doc))
+
+pub start-fits : (doc : List ℕ) → startOf doc ≤ length doc
+unfolding startOf
+start-fits doc =
+    cond-case (Fits doc) (hasBom doc)
+    (λ t.
+    let e : getD doc 2 0 ≡ 0xBF = eqb-true _ _ (and-right (eqb (getD doc 1 0) 0xBB) _ (and-right (eqb (getD doc 0 0) 0xEF) _ t)) in
+    nonzero-at doc 2 (omega arith))
+    (λ t. omega arith)
+
+walk-count : (at k : ℕ) (s : List ℕ) → length (walk at k s) ≤ suc (length s)
+unfolding walk
+walk-count at k [] = omega arith
+walk-count at zero (b ∷ s) = suc-le-suc (walk-count (at + 1) (pred (tokenLen (b ∷ s))) s)
+walk-count at (suc k) (b ∷ s) = omega (arith, walk-count (at + 1) k s)
+
+-- tokens number at most the bytes plus one
+pub tokens-count : (doc : List ℕ) → length (tokensOf doc) ≤ length doc + 1
+unfolding tokensOf tokensFrom
+tokens-count doc = omega (arith, walk-count (startOf doc) 0 (drop (startOf doc) doc), length-drop (startOf doc) doc)

@@ -1,0 +1,28 @@
+-- `lex_literal_string` is right because the token is its opening and the tail behind it.
+-- Assumes nothing.
+use mathlib.Core.Path.{_∙_}
+use lib.Seq.{drop-drop}
+use Rattle.token.specs.declared.TokenKind.the-variants.{LiteralString}
+use Rattle.lexer.specs.Table.{extent}
+use Rattle.lexer.proofs.KindLaws.{end-is}
+use borrow.Author.Needs.{needs}
+use native.Mathlib.Omega.{arith}
+use Rattle.lexer.proofs.lex_literal_string.Statement.{statement}
+use Rattle.lexer.proofs.lex_literal_string.Tie as tie
+
+add-line-tail : tie.Need-add-line-tail
+add-line-tail c = search needs
+
+line-tail-requires : tie.Need-line-tail-requires
+line-tail-requires c κs = search needs
+
+token-of-requires : tie.Need-token-of-requires
+token-of-requires c κs = search needs
+
+returns : tie.Need-returns
+unfolding extent
+returns c = c .token-of .ensures ∙ end-is LiteralString (c .before .before .before .args .at) (c .before .line-tail .ensures ∙ simp drop-drop (omega arith))
+
+pub lex-literal-string-spec : {M : Type 1} → statement M
+lex-literal-string-spec =
+    tie.close (tie.spec add-line-tail line-tail-requires token-of-requires returns)

@@ -1,0 +1,28 @@
+-- `lex_ml_basic_string` is right because the token is its opening and the tail behind it.
+-- Assumes nothing.
+use mathlib.Core.Path.{_∙_}
+use lib.Seq.{drop-drop}
+use Rattle.token.specs.declared.TokenKind.the-variants.{MlBasicString}
+use Rattle.lexer.specs.Table.{extent}
+use Rattle.lexer.proofs.KindLaws.{end-is}
+use borrow.Author.Needs.{needs}
+use native.Mathlib.Omega.{arith}
+use Rattle.lexer.proofs.lex_ml_basic_string.Statement.{statement}
+use Rattle.lexer.proofs.lex_ml_basic_string.Tie as tie
+
+add-ml-tail : tie.Need-add-ml-tail
+add-ml-tail c = search needs
+
+ml-tail-requires : tie.Need-ml-tail-requires
+ml-tail-requires c κs = search needs
+
+token-of-requires : tie.Need-token-of-requires
+token-of-requires c κs = search needs
+
+returns : tie.Need-returns
+unfolding extent
+returns c = c .token-of .ensures ∙ end-is MlBasicString (c .before .before .before .args .at) (c .before .ml-tail .ensures ∙ simp drop-drop (omega arith))
+
+pub lex-ml-basic-string-spec : {M : Type 1} → statement M
+lex-ml-basic-string-spec =
+    tie.close (tie.spec add-ml-tail ml-tail-requires token-of-requires returns)

@@ -1,0 +1,99 @@
+-- `lex_until` is right because the tokens still to come, stored from here on, give the records at the end: a turn stores
+-- the first of them, or would store it beyond the last record.
+-- Assumes nothing.
+use Prim.Native.Nat.{_+_, _-_, _≤_}
+use mathlib.Core.Path.{_≡_, refl, ap, sym, _∙_}
+use mathlib.Core.Logic.{⊎-elim}
+use mathlib.Core.List.{List, map}
+use native.Mathlib.Numerals.{add-one}
+use lib.ListN.{length, drop, set, length-set}
+use lib.Seq.{sets, set-out}
+use Rattle.token.specs.declared.Token.{Token}
+use Rattle.token.specs.Records.{recordOf}
+use Rattle.lexer.specs.Table.{tokenLen}
+use Rattle.lexer.specs.Tokens.{tokenAt}
+use Rattle.lexer.specs.Scans.{tokensUntil}
+use Rattle.lexer.proofs.TokenLaws.{token-fits-at, token-long-at}
+use Rattle.lexer.proofs.UntilLaws.{until-step, until-stop}
+use borrow.Author.Needs.{needs}
+use native.Mathlib.Omega.{arith}
+use Rattle.lexer.proofs.lex_until.Statement.{statement}
+use Rattle.lexer.proofs.lex_until.Tie as tie
+
+abbrev Inv-loop : tie.InvT-loop
+Inv-loop doc start stop records₀ at₀ n₀ records at n = (at ≤ length doc) × (n ≤ at) × (length records ≡ length records₀)
+    × (n + length (tokensUntil stop at doc) ≡ length (tokensUntil stop start doc))
+    × (sets records n (map recordOf (tokensUntil stop at doc)) ≡ sets records₀ 0 (map recordOf (tokensUntil stop start doc)))
+
+abbrev μ-loop : tie.MeasureT-loop
+μ-loop doc start stop records₀ at₀ n₀ records at n = length doc - at
+
+loop-holds : tie.Need-loop-holds Inv-loop μ-loop
+loop-holds c = (omega arith, omega arith, refl, omega arith, refl)
+
+process-token-requires : tie.Need-process-token-requires Inv-loop μ-loop
+process-token-requires c κs = omega arith
+
+as-record-requires : tie.Need-as-record-requires Inv-loop μ-loop
+as-record-requires c κs = search needs
+
+mul-t11 : tie.Need-mul-t11 Inv-loop μ-loop
+mul-t11 c = omega arith
+
+slice-set-from-records : tie.Need-slice-set-from-records Inv-loop μ-loop
+slice-set-from-records c = omega arith
+
+add-n : tie.Need-add-n Inv-loop μ-loop
+add-n c = omega arith
+
+loop-less : tie.Need-loop-less Inv-loop μ-loop
+loop-less c = let doc = c .before .before .before .before .before .args .doc .now in
+    let at = c .before .before .before .loop .at in
+    let end = ap (λ (t : Token). t .span .end) (c .before .process-token .ensures) in
+    omega (arith, token-long-at doc at (omega arith), token-fits-at doc at (omega arith))
+
+loop-again : tie.Need-loop-again Inv-loop μ-loop
+loop-again c = let doc = c .before .before .before .before .before .args .doc .now in
+    let stop = c .before .before .before .before .before .args .stop in
+    let at = c .before .before .before .loop .at in
+    let n = c .before .before .before .loop .n in
+    let l = c .before .before .before .loop .records in
+    let inv = c .before .before .before .loop .inv in
+    let here = c .before .process-token .ensures in
+    let end : c .before .process-token .result .span .end ≡ at + tokenLen (drop at doc) = ap (λ (t : Token). t .span .end) here in
+    let r = recordOf (tokenAt at (drop at doc)) in
+    let stored : c .if1 .records ≡ set l n r =
+    ⊎-elim (λ w. w .2 ∙ ap (set l n) (w .1 .ensures ∙ ap recordOf here)) (λ w. w .1 ∙ sym (set-out l n r (w .0 .left))) (c .if1 .came) in
+    let turn = until-step doc stop at (omega arith) (omega arith) in
+    rw (end, stored, add-one n) (
+      token-fits-at doc at (omega arith),
+      omega (arith, token-long-at doc at (omega arith)),
+      length-set l n r ∙ inv .2,
+      omega (arith, ap length turn),
+      ap (λ (x : List Token). sets l n (map recordOf x)) (sym turn) ∙ inv .4,
+    )
+
+same-length : tie.Need-same-length Inv-loop μ-loop
+same-length c = c .before .loop .inv .2
+
+returns : tie.Need-returns Inv-loop μ-loop
+returns c = let at = c .before .loop in
+    let done = until-stop (c .before .before .before .args .doc .now) (c .before .before .before .args .stop) (at .at) (omega arith) in
+    (omega (arith, ap length done), ap (λ (x : List Token). sets (at .records) (at .n) (map recordOf x)) (sym done) ∙ at .inv .4)
+
+pub lex-until-spec : {M : Type 1} → statement M
+lex-until-spec =
+    tie.close
+    (tie.spec
+    Inv-loop
+    μ-loop
+    loop-holds
+    process-token-requires
+    as-record-requires
+    mul-t11
+    slice-set-from-records
+    add-n
+    loop-less
+    loop-again
+    same-length
+    returns)

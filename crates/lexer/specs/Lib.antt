@@ -1,0 +1,7 @@
+pub mod Bytes
+pub mod Extents
+pub mod Table
+pub mod Tokens
+pub mod Steps
+pub mod Whole
+pub mod Scans

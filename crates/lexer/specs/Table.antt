@@ -1,0 +1,65 @@
+-- RULE. The token table: a token's kind by its first bytes, and its extent by its kind.
+-- Assumes nothing.
+use Prim.Native.Nat.{ℕ, suc}
+use mathlib.Core.Bool.{Bool, false, cond}
+use mathlib.Core.List.{List, [], _∷_}
+use lib.ListN.{drop}
+use lib.Dec.{eqb}
+use Rattle.classes.specs.Classes.{wschar}
+use Rattle.classes.specs.Runs.{run}
+use Rattle.token.specs.declared.TokenKind.{TokenKind}
+use Rattle.token.specs.declared.TokenKind.the-variants.{Dot, Equals, Comma, LeftSquareBracket, RightSquareBracket, LeftCurlyBracket, RightCurlyBracket, Whitespace, Comment, Newline, LiteralString, BasicString, MlLiteralString, MlBasicString, Atom, Eof}
+use Rattle.lexer.specs.Bytes.{eol, inComment, inAtom}
+use Rattle.lexer.specs.Extents.{lineTail, triple, mlTail, newlineTail}
+
+-- the kind by the first byte, and by whether three of it stand there: three quote marks always open the multi-line kind
+unfoldable pub kindBy : ℕ → Bool → TokenKind
+kindBy b three =
+    cond (eqb b 46) Dot
+    (cond (eqb b 61) Equals
+    (cond (eqb b 44) Comma
+    (cond (eqb b 91) LeftSquareBracket
+    (cond (eqb b 93) RightSquareBracket
+    (cond (eqb b 123) LeftCurlyBracket
+    (cond (eqb b 125) RightCurlyBracket
+    (cond (wschar b) Whitespace
+    (cond (eqb b 35) Comment
+    (cond (eol b) Newline
+    (cond (eqb b 39) (cond three MlLiteralString LiteralString)
+    (cond (eqb b 34) (cond three MlBasicString BasicString)
+    Atom)))))))))))
+
+-- no bytes are the end
+unfoldable pub kindOf : List ℕ → TokenKind
+kindOf [] = Eof
+kindOf (b ∷ s) = kindBy b (triple b (b ∷ s))
+
+-- the length of a token by its kind, on the bytes from its first on
+unfoldable pub extent : TokenKind → List ℕ → ℕ
+-- . = , [ ] { }: one byte
+extent Dot s = 1
+extent Equals s = 1
+extent Comma s = 1
+extent LeftSquareBracket s = 1
+extent RightSquareBracket s = 1
+extent LeftCurlyBracket s = 1
+extent RightCurlyBracket s = 1
+-- the whole run of spaces and tabs
+extent Whitespace s = suc (run wschar (drop 1 s))
+-- up to the next CR or LF, not included
+extent Comment s = suc (run inComment (drop 1 s))
+-- LF; CR LF; or a CR alone
+extent Newline s = suc (newlineTail s)
+-- the opening mark and what it opens
+extent LiteralString s = suc (lineTail 39 false (drop 1 s))
+extent BasicString s = suc (lineTail 34 false (drop 1 s))
+-- the three opening marks and what they open
+extent MlLiteralString s = suc (suc (suc (mlTail 39 false (drop 3 s))))
+extent MlBasicString s = suc (suc (suc (mlTail 34 false (drop 3 s))))
+-- up to one of . = , [ ] { } space tab # CR LF
+extent Atom s = suc (run inAtom (drop 1 s))
+-- empty
+extent Eof s = 0
+
+unfoldable pub tokenLen : List ℕ → ℕ
+tokenLen s = extent (kindOf s) s

@@ -1,0 +1,117 @@
+// The lister's work: the tokens of standard input, a line for each: kind, start, end, in decimal,
+// one space between, LF after; on refusal the one line `refused`, number, returned number.
+// What a program prints is tested, not proved; proved is that this ends and stays in its buffers.
+ghost use mathlib.Core.Path.{_≡_};
+ghost use Prim.Native.Nat.{_+_, _≤_};
+ghost use lib.ListN.{length};
+use lexer::Lexed;
+use libc::STDIN_FILENO;
+use libc::STDOUT_FILENO;
+
+// The most bytes that the lister takes.
+const MOST: usize = 65536;
+
+// The bytes that are collected before they are written, and the most that one line takes: three
+// numbers of at most 20 digits, and a byte behind each.
+const ROOM: usize = 16384;
+
+const LINE: usize = 63;
+
+// Lists standard input. It returns: of what is read and written no contract can speak.
+pub fn list_input()
+    ensures { λ r. ⌜ r ≡ tt ⌝ }
+{
+    // One byte more than the most, so that a longer input shows itself.
+    let mut doc = [0u8; 65537];
+    let n = io::read_full(STDIN_FILENO, &mut doc);
+    list(&doc[..n]);
+}
+
+fn list(doc: &[u8]) {
+    if MOST < doc.len() {
+        print_refused(2, MOST);
+        return;
+    }
+    // As many records as bytes and one: enough for every document that comes here.
+    let mut records = [[0usize; 3]; 65537];
+    match lexer::lex(doc, &mut records) {
+        Lexed::Tokens(count) => print_records(&records, count),
+        Lexed::Refused(refusal) => print_refused(refusal.number(), refusal.value()),
+    }
+}
+
+fn print_records(records: &[[usize; 3]], count: usize) {
+    let mut space = [0u8; ROOM];
+    let lines: &mut [u8] = &mut space;
+    let mut at: usize = 0;
+    let mut i = 0;
+    while i < records.len() {
+        if count <= i {
+            break;
+        }
+        let r = records[i];
+        at = make_room(lines, at);
+        at = put_line(lines, at, r[0], r[1], r[2]);
+        i += 1;
+    }
+    write_lines(lines, at);
+}
+
+// The place for one more line: where it might not fit, what is collected is written first.
+fn make_room(lines: &[u8], at: usize) -> usize
+    requires { ⌜ (at ≤ length (now lines)) × (63 ≤ length (now lines)) ⌝ }
+    ensures { λ r. ⌜ r + 63 ≤ length (now (lines .entry)) ⌝ }
+{
+    if lines.len() - LINE < at {
+        write_lines(lines, at);
+        return 0;
+    }
+    at
+}
+
+fn write_lines(lines: &[u8], at: usize)
+    requires { ⌜ at ≤ length (now lines) ⌝ }
+{
+    io::write_all(STDOUT_FILENO, &lines[..at]);
+}
+
+fn print_refused(number: usize, value: usize) {
+    io::write_all(STDOUT_FILENO, b"refused ");
+    io::print_decimal(STDOUT_FILENO, number as u64);
+    io::write_all(STDOUT_FILENO, b" ");
+    io::print_decimal(STDOUT_FILENO, value as u64);
+    io::write_all(STDOUT_FILENO, b"\n");
+}
+
+// A line of three numbers at a place of the buffer: the place behind it.
+fn put_line(out: &mut [u8], at: usize, kind: usize, start: usize, end: usize) -> usize
+    requires { ⌜ at + 63 ≤ length (now out) ⌝ }
+    ensures { λ r. ⌜ r ≤ at + 63 ⌝ }
+{
+    let behind_kind = put_number(out, at, kind, b' ');
+    let behind_start = put_number(out, behind_kind, start, b' ');
+    put_number(out, behind_start, end, b'\n')
+}
+
+// A number in decimal and one byte behind it: the place behind both.
+fn put_number(out: &mut [u8], at: usize, n: usize, last: u8) -> usize
+    requires { ⌜ at + 21 ≤ length (now out) ⌝ }
+    ensures { λ r. ⌜ r ≤ at + 21 ⌝ }
+{
+    let mut digits = [0u8; 20];
+    let k = at_most_twenty(io::decimal(n as u64, &mut digits));
+    let mut i = 0;
+    while i < k {
+        out[at + i] = digits[i];
+        i += 1;
+    }
+    out[at + k] = last;
+    at + k + 1
+}
+
+// A count of digits, of which there are never more than the buffer has.
+fn at_most_twenty(k: usize) -> usize
+    ensures { λ r. ⌜ r ≤ 20 ⌝ }
+{
+    if k < 20 { k } else { 20 }
+}

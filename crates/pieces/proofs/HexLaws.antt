@@ -1,0 +1,64 @@
+-- What the loop over the digits of a hex escape keeps.
+-- Assumes nothing.
+use Prim.Native.Nat.{ℕ, _+_, _*_, _^_, _≤_, _<_}
+use mathlib.Core.Path.{_≡_, refl, sym, ap, _∙_}
+use mathlib.Core.Bool.{true, false, not, _||_}
+use mathlib.Core.List.{List}
+use native.Mathlib.Nat.{pow-suc, pow-le-pow-right}
+use native.Mathlib.Numerals.{add-one}
+use native.Mathlib.Omega.{arith}
+use lib.Dec.{ltb}
+use lib.ListN.{take, drop, getD}
+use borrow.Author.Tests.{ltb-true}
+use Rattle.classes.specs.Classes.{hexdig}
+use Rattle.classes.specs.Runs.{run}
+use Rattle.classes.proofs.ByteTable.{class-is}
+use Rattle.classes.proofs.RunLaws.{run-step}
+use Rattle.strings.specs.Escapes.{hexValue, hexFrom}
+use Rattle.strings.proofs.Choices.{there}
+use Rattle.strings.proofs.EscapeLaws.{hex-more}
+use Rattle.strings.proofs.AsciiLaws.{hexdig-low}
+use Rattle.pieces.proofs.ScanLaws.{run-halts, hexdig-above}
+
+value-test : (b : ℕ) → b < 0x80 → true ≡ (not (hexdig b) || ltb (hexValue b) 16)
+unfolding hexdig hexValue
+value-test b h = class-is true (λ b. not (hexdig b) || ltb (hexValue b) 16) 0 0x80 tt b (omega arith) h
+
+pub value-small : (b : ℕ) → hexdig b ≡ true → hexValue b < 16
+value-small b e = ltb-true _ _ (sym (rw e at (value-test b (hexdig-low b e))))
+
+-- i digits are read, and v is their number
+pub record Digits (n : ℕ) (s : List ℕ) (i v : ℕ) : Type 0 where
+  pub within : i ≤ n
+  pub small : v < 16 ^ i
+  pub value : v ≡ hexFrom 0 (take i s)
+  pub found : i + run hexdig (drop i s) ≡ run hexdig s
+
+pub digits-start : (n : ℕ) (s : List ℕ) → Digits n s 0 0
+unfolding hexFrom
+digits-start n s = record { within = omega arith; small = omega arith; value = refl; found = omega arith }
+
+module _ (n : ℕ) (s : List ℕ) (i v : ℕ) (d : Digits n s i v) where
+  -- one more has room in 32 bits
+  pub digits-room : i < n → n ≤ 8 → v < 0x10000000
+  digits-room h l = omega (arith, d .small, pow-le-pow-right {n = 16} (omega arith) {i = i} {j = 7} (omega arith))
+
+  pub digits-turn : i < n → (w : ℕ) → hexdig (getD s i 0) ≡ true → w ≡ hexValue (getD s i 0) → Digits n s (i + 1) (v * 16 + w)
+  digits-turn h w e f =
+      let l = there s i (omega (arith, hexdig-above (getD s i 0) e)) in
+      record {
+        within = omega arith;
+        small = rw (add-one, pow-suc) (omega (arith, d .small, value-small (getD s i 0) e));
+        value = rw (f, d .value) (sym (hex-more s i l));
+        found = omega (arith, d .found, run-step hexdig s i l e);
+      }
+
+  -- no digit is here
+  pub digits-few : hexdig (getD s i 0) ≡ false → i ≡ run hexdig s
+  digits-few e = omega (arith, d .found, run-halts hexdig s i e)
+
+  -- all are read
+  pub digits-all : n ≤ i → (n ≤ run hexdig s) × (v ≡ hexFrom 0 (take n s))
+  digits-all h =
+      let e : i ≡ n = omega (arith, d .within) in
+      (omega (arith, d .found), d .value ∙ ap (λ (k : ℕ). hexFrom 0 (take k s)) e)

@@ -1,0 +1,4 @@
+pub mod ScanLaws
+pub mod HexLaws
+pub mod PlaceLaws
+pub mod OneAnswer

@@ -1,0 +1,112 @@
+-- `plain_block` is right because a byte that none of the tests finds is plain; the invariant says so of the j bytes passed,
+-- while no flag is set.
+-- Assumes nothing.
+use Prim.Native.Nat.{_+_, _-_, _≤_, _<_}
+use mathlib.Core.Path.{_≡_, sym}
+use mathlib.Core.Bool.{false≢true, false}
+use native.Mathlib.Omega.{arith}
+use borrow.Author.Needs.{needs}
+use borrow.Author.Tests.{not-true}
+use lib.ListN.{getD}
+use Rattle.classes.proofs.RunLaws.{Block, block-start, block-step, block-end}
+use Rattle.strings.specs.declared.Encoding.{Encoding}
+use Rattle.strings.specs.Encodings.{plain}
+use Rattle.pieces.proofs.ScanLaws.{clear-plain, flag-off}
+use Rattle.pieces.specs.Scan.{Wide, stopsOf}
+use Rattle.pieces.proofs.scan.plain_block.Statement.{statement}
+use Rattle.pieces.proofs.scan.plain_block.Tie as tie
+
+abbrev Inv-loop : tie.InvT-loop
+Inv-loop s i n a z l k first₀ second₀ delete₀ low₀ mid₀ j₀ first second delete low mid j =
+    (j ≤ n)
+    × ((e : Encoding) → Wide e → stopsOf e ≡ record { first = a; second = z; low = l; span = k }
+    → first ≡ false → second ≡ false → delete ≡ false → low ≡ false → mid ≡ false → Block (plain e) s i j)
+
+abbrev μ-loop : tie.MeasureT-loop
+μ-loop s i n a z l k first₀ second₀ delete₀ low₀ mid₀ j₀ first second delete low mid j = n - j
+
+stops-of-requires : tie.Need-stops-of-requires Inv-loop μ-loop
+stops-of-requires c κs = search needs
+
+loop-holds : tie.Need-loop-holds Inv-loop μ-loop
+loop-holds c = (omega arith, λ e w q f t d l m. block-start (plain e) (c .before .before .args .s .now) (c .before .before .args .i))
+
+add-b : tie.Need-add-b Inv-loop μ-loop
+add-b c = omega arith
+
+shared-slice-read-b : tie.Need-shared-slice-read-b Inv-loop μ-loop
+shared-slice-read-b c = omega arith
+
+wrapping-sub-u8-requires : tie.Need-wrapping-sub-u8-requires Inv-loop μ-loop
+wrapping-sub-u8-requires c κs = search needs
+
+add-j : tie.Need-add-j Inv-loop μ-loop
+add-j c = omega arith
+
+loop-less : tie.Need-loop-less Inv-loop μ-loop
+loop-less c = omega arith
+
+loop-again : tie.Need-loop-again Inv-loop μ-loop
+loop-again c =
+    let s = c .before .before .before .before .before .before .before .before .before .before .before .args .s .now in
+    let i = c .before .before .before .before .before .before .before .before .before .before .before .args .i in
+    let at = c .before .before .before .before .before .before .before .before .loop in
+    let b = getD s (i + at .j) 0 in
+    let byte : b < 256 = omega (arith, c .before .before .before .before .before .before .shared-slice-known2 .given (i + at .j)) in
+    let w = c .before .wrapping-sub-u8 in (
+      omega arith,
+      λ e v q f t d l m.
+          let off-f = flag-off _ _ (c .before .before .before .before .before .if1 .came) f in
+          let off-t = flag-off _ _ (c .before .before .before .before .if2 .came) t in
+          let off-d = flag-off _ _ (c .before .before .before .if3 .came) d in
+          let off-l = flag-off _ _ (c .before .before .if4 .came) l in
+          let off-m = flag-off _ _ (c .if5 .came) m in
+          let clear = clear-plain e v b (w .result) byte (omega arith) (w .ensures)
+          (rw q (off-f .1 .left)) (rw q (off-t .1 .left)) (off-d .1 .left) (rw q (off-l .1 .left)) (rw q (off-m .1 .left)) in
+          block-step (plain e) s i (at .j) (omega arith) clear (at .inv .1 e v q (off-f .0) (off-t .0) (off-d .0) (off-l .0) (off-m .0)),
+    )
+
+returns : tie.Need-returns Inv-loop μ-loop
+returns c = λ h. absurd (false≢true h)
+
+returns-2 : tie.Need-returns-2 Inv-loop μ-loop
+returns-2 c = λ h. absurd (false≢true h)
+
+returns-3 : tie.Need-returns-3 Inv-loop μ-loop
+returns-3 c = λ h. absurd (false≢true h)
+
+returns-4 : tie.Need-returns-4 Inv-loop μ-loop
+returns-4 c = λ h. absurd (false≢true h)
+
+returns-5 : tie.Need-returns-5 Inv-loop μ-loop
+returns-5 c =
+    let args = c .before .before .before .before .before .before .before .before .args in
+    let loop = c .before .before .before .before .before .loop in
+    let pre = c .before .before .before .before .before .before .before .before .pre in
+    let stops-of = c .before .before .before .before .before .before .stops-of in
+    let if6 = c .before .before .before .if6 in
+    λ h.
+    let a = args in
+    let at = loop in
+    block-end (plain (a .e)) (a .s .now) (a .i) (at .j) (a .n) (omega arith)
+    (at .inv .1 (a .e) (pre .0) (sym (stops-of .ensures)) (if6 .left) (c .before .before .if7 .left) (c .before .if8 .left) (c .if9 .left) (not-true _ h))
+
+pub plain-block-spec : {M : Type 1} → statement M
+plain-block-spec =
+    tie.close
+    (tie.spec
+    Inv-loop
+    μ-loop
+    stops-of-requires
+    loop-holds
+    add-b
+    shared-slice-read-b
+    wrapping-sub-u8-requires
+    add-j
+    loop-less
+    loop-again
+    returns
+    returns-2
+    returns-3
+    returns-4
+    returns-5)

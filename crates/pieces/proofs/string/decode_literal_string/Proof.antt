@@ -1,0 +1,41 @@
+-- `decode_literal_string` is right because a run that is empty begins with a byte that is not allowed.
+-- Assumes nothing.
+use mathlib.Core.Path.{_∙_}
+use borrow.Author.Needs.{needs}
+use Rattle.classes.specs.Classes.{literalChar}
+use Rattle.strings.specs.Bodies.{literalPiece}
+use Rattle.pieces.proofs.ScanLaws.{run-none, run-first}
+use Rattle.pieces.proofs.string.decode_literal_string.Statement.{statement}
+use Rattle.pieces.proofs.string.decode_literal_string.Tie as tie
+
+literal-chars-requires : tie.Need-literal-chars-requires
+literal-chars-requires c κs = search needs
+
+copy-piece-requires : tie.Need-copy-piece-requires
+copy-piece-requires c κs = search needs
+
+returns : tie.Need-returns
+unfolding literalPiece
+returns c =
+    let literal-chars = c .before .before .literal-chars in
+    let args = c .before .before .before .before .args in
+    let pre = c .before .before .before .before .pre in
+    let n = literal-chars in
+    c .copy-piece .ensures ∙ rw (run-first literalChar (args .s .now) pre _ (n .ensures) (c .before .if1 .taken), ← (n .ensures))
+
+copy-piece-requires-2 : tie.Need-copy-piece-requires-2
+copy-piece-requires-2 c κs = search needs
+
+returns-2 : tie.Need-returns-2
+unfolding literalPiece
+returns-2 c =
+    let literal-chars = c .before .before .literal-chars in
+    let args = c .before .before .before .before .args in
+    let pre = c .before .before .before .before .pre in
+    let n = literal-chars in
+    c .copy-piece2 .ensures ∙ rw (run-none literalChar (args .s .now) pre _ (n .ensures) (c .before .if1 .left))
+
+pub decode-literal-string-spec : {M : Type 1} → statement M
+decode-literal-string-spec =
+    tie.close
+    (tie.spec literal-chars-requires copy-piece-requires returns copy-piece-requires-2 returns-2)

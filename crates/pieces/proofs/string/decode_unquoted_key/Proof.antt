@@ -1,0 +1,39 @@
+-- `decode_unquoted_key` is right because a run that is empty begins with a byte that is not allowed.
+-- Assumes nothing.
+use mathlib.Core.Path.{_≡_, _∙_}
+use native.Mathlib.Omega.{arith}
+use borrow.Author.Needs.{needs}
+use Rattle.classes.specs.Classes.{unquotedChar}
+use Rattle.classes.specs.Runs.{run}
+use Rattle.strings.specs.Bodies.{keyPiece}
+use Rattle.pieces.proofs.ScanLaws.{run-none, run-first}
+use Rattle.pieces.proofs.string.decode_unquoted_key.Statement.{statement}
+use Rattle.pieces.proofs.string.decode_unquoted_key.Tie as tie
+
+run-from-requires : tie.Need-run-from-requires
+run-from-requires c κs = search needs
+
+copy-piece-requires : tie.Need-copy-piece-requires
+copy-piece-requires c κs = search needs
+
+returns : tie.Need-returns
+unfolding keyPiece
+returns c =
+    let s = c .before .before .before .before .args .s .now in
+    let n : c .before .before .run-from .result ≡ run unquotedChar s = omega (arith, c .before .before .run-from .ensures) in
+    c .copy-piece .ensures ∙ rw (run-first unquotedChar s (c .before .before .before .before .pre) _ n (c .before .if1 .taken), ← n)
+
+copy-piece-requires-2 : tie.Need-copy-piece-requires-2
+copy-piece-requires-2 c κs = search needs
+
+returns-2 : tie.Need-returns-2
+unfolding keyPiece
+returns-2 c =
+    let s = c .before .before .before .before .args .s .now in
+    let n : c .before .before .run-from .result ≡ run unquotedChar s = omega (arith, c .before .before .run-from .ensures) in
+    c .copy-piece2 .ensures ∙ rw (run-none unquotedChar s (c .before .before .before .before .pre) _ n (c .before .if1 .left))
+
+pub decode-unquoted-key-spec : {M : Type 1} → statement M
+decode-unquoted-key-spec =
+    tie.close
+    (tie.spec run-from-requires copy-piece-requires returns copy-piece-requires-2 returns-2)

@@ -1,0 +1,93 @@
+-- `escape_seq_char` is right because a letter asks for digits, or has a character, or neither.
+-- Assumes nothing.
+use mathlib.Core.Path.{_∙_}
+use native.Mathlib.Omega.{arith}
+use borrow.Author.Needs.{needs}
+use Rattle.strings.proofs.Fine.{rest-is}
+use Rattle.strings.proofs.EscapeLaws.{hex-letter, escape-hex, escape-simple, escape-none}
+use Rattle.strings.proofs.Choices.{there}
+use Rattle.pieces.proofs.string.escape_seq_char.Statement.{statement}
+use Rattle.pieces.proofs.string.escape_seq_char.Tie as tie
+
+peek-requires : tie.Need-peek-requires
+peek-requires c κs = search needs
+
+hex-length-requires : tie.Need-hex-length-requires
+hex-length-requires c κs = search needs
+
+sub-hexescape : tie.Need-sub-hexescape
+sub-hexescape c =
+    let letter = hex-letter _ (rw (c .before .hex-length .ensures) at (c .if1 .taken)) in
+    there (c .before .before .before .before .args .s .now) 0 (omega (arith, c .before .before .peek .ensures))
+
+part-hexescape-start : tie.Need-part-hexescape-start
+part-hexescape-start c =
+    let letter = hex-letter _ (rw (c .before .hex-length .ensures) at (c .if1 .taken)) in
+    there (c .before .before .before .before .args .s .now) 0 (omega (arith, c .before .before .peek .ensures))
+
+part-hexescape-end : tie.Need-part-hexescape-end
+part-hexescape-end c = search needs
+
+hexescape-requires : tie.Need-hexescape-requires
+hexescape-requires c κs =
+    let hex-length = c .before .before .hex-length in
+    let pre = c .before .before .before .before .before .pre in
+    (omega (arith, hex-length .ensures, hex-letter _ (rw (hex-length .ensures) at (c .before .if1 .taken)) .3), pre)
+
+returns : tie.Need-returns
+returns c =
+    let args = c .before .before .before .before .before .before .args in
+    let peek = c .before .before .before .before .peek in
+    let hex-length = c .before .before .before .hex-length in
+    rw rest-is at (c .hexescape .ensures)
+    ∙ escape-hex (args .at) (args .s .now) _ (rw (peek .ensures) at (hex-length .ensures)) (c .before .before .if1 .taken)
+
+simple-escape-requires : tie.Need-simple-escape-requires
+simple-escape-requires c κs = search needs
+
+char-piece-requires : tie.Need-char-piece-requires
+char-piece-requires c κs = search needs
+
+returns-2 : tie.Need-returns-2
+returns-2 c =
+    let peek = c .before .before .before .before .before .peek in
+    let simple-escape = c .before .before .simple-escape in
+    let args = c .before .before .before .before .before .before .before .args in
+    let hex-length = c .before .before .before .before .hex-length in
+    let if1 = c .before .before .before .if1 in
+    let simple = rw (peek .ensures) at (simple-escape .ensures) in
+    c .char-piece .ensures ∙ escape-simple (args .at) (args .s .now) _ _ (rw (peek .ensures) at (hex-length .ensures)) (if1 .left) simple (c .before .if2 .taken)
+
+add-char-piece : tie.Need-add-char-piece
+add-char-piece c = search needs
+
+char-piece-requires-2 : tie.Need-char-piece-requires-2
+char-piece-requires-2 c κs = search needs
+
+returns-3 : tie.Need-returns-3
+returns-3 c =
+    let peek = c .before .before .before .before .before .peek in
+    let simple-escape = c .before .before .simple-escape in
+    let args = c .before .before .before .before .before .before .before .args in
+    let hex-length = c .before .before .before .before .hex-length in
+    let if1 = c .before .before .before .if1 in
+    let simple = rw (peek .ensures) at (simple-escape .ensures) in
+    c .char-piece2 .ensures ∙ escape-none (args .at) (args .s .now) _ _ (rw (peek .ensures) at (hex-length .ensures)) (if1 .left) simple (c .before .if2 .left)
+
+pub escape-seq-char-spec : {M : Type 1} → statement M
+escape-seq-char-spec =
+    tie.close
+    (tie.spec
+    peek-requires
+    hex-length-requires
+    sub-hexescape
+    part-hexescape-start
+    part-hexescape-end
+    hexescape-requires
+    returns
+    simple-escape-requires
+    char-piece-requires
+    returns-2
+    add-char-piece
+    char-piece-requires-2
+    returns-3)

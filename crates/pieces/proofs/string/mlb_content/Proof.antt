@@ -1,0 +1,185 @@
+-- `mlb_content` is right because a run that is empty begins with a backslash, a CR, or a byte that is not allowed.
+-- Assumes nothing.
+use mathlib.Core.Path.{_∙_}
+use native.Mathlib.Omega.{arith}
+use borrow.Author.Needs.{needs}
+use borrow.Author.Tests.{eq-eqb, ne-eqb}
+use Rattle.strings.proofs.Fine.{rest-is}
+use Rattle.classes.proofs.RunLaws.{run-le}
+use Rattle.strings.specs.Encodings.{mlbPlain, mlbInvalid}
+use Rattle.strings.specs.Bodies.{mlbContent}
+use Rattle.pieces.proofs.ScanLaws.{run-none, run-first}
+use Rattle.pieces.proofs.string.mlb_content.Statement.{statement}
+use Rattle.pieces.proofs.string.mlb_content.Tie as tie
+
+mlb-unescaped-requires : tie.Need-mlb-unescaped-requires
+mlb-unescaped-requires c κs = search needs
+
+copy-piece-requires : tie.Need-copy-piece-requires
+copy-piece-requires c κs = search needs
+
+returns : tie.Need-returns
+unfolding mlbContent
+returns c =
+    let mlb-unescaped = c .before .before .mlb-unescaped in
+    let args = c .before .before .before .before .args in
+    let pre = c .before .before .before .before .pre in
+    let n = mlb-unescaped in
+    c .copy-piece .ensures ∙ rw (run-first mlbPlain (args .s .now) (pre .0) _ (n .ensures) (c .before .if1 .taken), ← (n .ensures))
+
+shared-slice-read-b : tie.Need-shared-slice-read-b
+shared-slice-read-b c = search needs
+
+peek-requires : tie.Need-peek-requires
+peek-requires c κs = search needs
+
+is-skipped-requires : tie.Need-is-skipped-requires
+is-skipped-requires c κs = search needs
+
+sub-mlb-escaped-nl : tie.Need-sub-mlb-escaped-nl
+sub-mlb-escaped-nl c = search needs
+
+part-mlb-escaped-nl-start : tie.Need-part-mlb-escaped-nl-start
+part-mlb-escaped-nl-start c = search needs
+
+part-mlb-escaped-nl-end : tie.Need-part-mlb-escaped-nl-end
+part-mlb-escaped-nl-end c = search needs
+
+mlb-escaped-nl-requires : tie.Need-mlb-escaped-nl-requires
+mlb-escaped-nl-requires c κs = search needs
+
+returns-2 : tie.Need-returns-2
+unfolding mlbContent
+returns-2 c =
+    let args = c .before .before .before .before .before .before .before .before .before .before .args in
+    let pre = c .before .before .before .before .before .before .before .before .before .before .pre in
+    let mlb-unescaped = c .before .before .before .before .before .before .before .before .mlb-unescaped in
+    let if1 = c .before .before .before .before .before .before .before .if1 in
+    let if2 = c .before .before .before .before .before .if2 in
+    let peek = c .before .before .before .before .peek in
+    let is-skipped = c .before .before .before .is-skipped in
+    let none = run-none mlbPlain (args .s .now) (pre .0) _ (mlb-unescaped .ensures) (if1 .left) in
+    rw rest-is at (c .mlb-escaped-nl .ensures)
+    ∙ rw (none, eq-eqb _ 0x5C (if2 .taken), ← (peek .ensures), ← (is-skipped .ensures), c .before .before .if3 .taken)
+
+sub-escape-seq-char : tie.Need-sub-escape-seq-char
+sub-escape-seq-char c = search needs
+
+part-escape-seq-char-start : tie.Need-part-escape-seq-char-start
+part-escape-seq-char-start c = search needs
+
+part-escape-seq-char-end : tie.Need-part-escape-seq-char-end
+part-escape-seq-char-end c = search needs
+
+escape-seq-char-requires : tie.Need-escape-seq-char-requires
+escape-seq-char-requires c κs = search needs
+
+returns-3 : tie.Need-returns-3
+unfolding mlbContent
+returns-3 c =
+    let args = c .before .before .before .before .before .before .before .before .before .before .args in
+    let pre = c .before .before .before .before .before .before .before .before .before .before .pre in
+    let mlb-unescaped = c .before .before .before .before .before .before .before .before .mlb-unescaped in
+    let if1 = c .before .before .before .before .before .before .before .if1 in
+    let if2 = c .before .before .before .before .before .if2 in
+    let peek = c .before .before .before .before .peek in
+    let is-skipped = c .before .before .before .is-skipped in
+    let none = run-none mlbPlain (args .s .now) (pre .0) _ (mlb-unescaped .ensures) (if1 .left) in
+    rw rest-is at (c .escape-seq-char .ensures)
+    ∙ rw (none, eq-eqb _ 0x5C (if2 .taken), ← (peek .ensures), ← (is-skipped .ensures), c .before .before .if3 .left)
+
+peek-requires-2 : tie.Need-peek-requires-2
+peek-requires-2 c κs = search needs
+
+copy-piece-requires-2 : tie.Need-copy-piece-requires-2
+copy-piece-requires-2 c κs = search needs
+
+returns-4 : tie.Need-returns-4
+unfolding mlbContent
+returns-4 c =
+    let args = c .before .before .before .before .before .before .before .before .before .args in
+    let pre = c .before .before .before .before .before .before .before .before .before .pre in
+    let mlb-unescaped = c .before .before .before .before .before .before .before .mlb-unescaped in
+    let if1 = c .before .before .before .before .before .before .if1 in
+    let if2 = c .before .before .before .before .if2 in
+    let if4 = c .before .before .before .if4 in
+    let peek2 = c .before .before .peek2 in
+    let none = run-none mlbPlain (args .s .now) (pre .0) _ (mlb-unescaped .ensures) (if1 .left) in
+    c .copy-piece2 .ensures ∙ rw (none, ne-eqb _ 0x5C (if2 .left), eq-eqb _ 0x0D (if4 .taken), ← (peek2 .ensures), eq-eqb _ 0x0A (c .before .if5 .taken))
+
+add-copy-piece : tie.Need-add-copy-piece
+add-copy-piece c = search needs
+
+add-copy-piece-2 : tie.Need-add-copy-piece-2
+add-copy-piece-2 c = search needs
+
+copy-piece-requires-3 : tie.Need-copy-piece-requires-3
+copy-piece-requires-3 c κs = search needs
+
+returns-5 : tie.Need-returns-5
+unfolding mlbContent
+returns-5 c =
+    let args = c .before .before .before .before .before .before .before .before .before .args in
+    let pre = c .before .before .before .before .before .before .before .before .before .pre in
+    let mlb-unescaped = c .before .before .before .before .before .before .before .mlb-unescaped in
+    let if1 = c .before .before .before .before .before .before .if1 in
+    let if2 = c .before .before .before .before .if2 in
+    let if4 = c .before .before .before .if4 in
+    let peek2 = c .before .before .peek2 in
+    let none = run-none mlbPlain (args .s .now) (pre .0) _ (mlb-unescaped .ensures) (if1 .left) in
+    c .copy-piece3 .ensures ∙ rw (none, ne-eqb _ 0x5C (if2 .left), eq-eqb _ 0x0D (if4 .taken), ← (peek2 .ensures), ne-eqb _ 0x0A (c .before .if5 .left))
+
+mlb-invalid-requires : tie.Need-mlb-invalid-requires
+mlb-invalid-requires c κs = search needs
+
+add-copy-piece-3 : tie.Need-add-copy-piece-3
+add-copy-piece-3 c =
+    let args = c .before .before .before .before .before .before .before .args in
+    omega (arith, c .mlb-invalid .ensures, run-le mlbInvalid (args .s .now))
+
+copy-piece-requires-4 : tie.Need-copy-piece-requires-4
+copy-piece-requires-4 c κs = search needs
+
+returns-6 : tie.Need-returns-6
+unfolding mlbContent
+returns-6 c =
+    let args = c .before .before .before .before .before .before .before .before .args in
+    let pre = c .before .before .before .before .before .before .before .before .pre in
+    let mlb-unescaped = c .before .before .before .before .before .before .mlb-unescaped in
+    let if1 = c .before .before .before .before .before .if1 in
+    let if2 = c .before .before .before .if2 in
+    let none = run-none mlbPlain (args .s .now) (pre .0) _ (mlb-unescaped .ensures) (if1 .left) in
+    c .copy-piece4 .ensures
+    ∙ rw (none, ne-eqb _ 0x5C (if2 .left), ne-eqb _ 0x0D (c .before .before .if4 .left), ← (c .before .mlb-invalid .ensures))
+
+pub mlb-content-spec : {M : Type 1} → statement M
+mlb-content-spec =
+    tie.close
+    (tie.spec
+    mlb-unescaped-requires
+    copy-piece-requires
+    returns
+    shared-slice-read-b
+    peek-requires
+    is-skipped-requires
+    sub-mlb-escaped-nl
+    part-mlb-escaped-nl-start
+    part-mlb-escaped-nl-end
+    mlb-escaped-nl-requires
+    returns-2
+    sub-escape-seq-char
+    part-escape-seq-char-start
+    part-escape-seq-char-end
+    escape-seq-char-requires
+    returns-3
+    peek-requires-2
+    copy-piece-requires-2
+    returns-4
+    add-copy-piece
+    add-copy-piece-2
+    copy-piece-requires-3
+    returns-5
+    mlb-invalid-requires
+    add-copy-piece-3
+    copy-piece-requires-4
+    returns-6)

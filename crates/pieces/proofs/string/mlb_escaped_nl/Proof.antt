@@ -1,0 +1,148 @@
+-- `mlb_escaped_nl` is right because behind the blanks there are the rule's four cases.
+-- Assumes nothing.
+use mathlib.Core.Path.{_≡_, _∙_}
+use native.Mathlib.Omega.{arith}
+use borrow.Author.Needs.{needs}
+use borrow.Author.Tests.{eq-eqb, ne-eqb}
+use Rattle.classes.specs.Classes.{wschar}
+use Rattle.classes.specs.Runs.{run}
+use Rattle.classes.proofs.RunLaws.{run-le}
+use Rattle.strings.specs.Bodies.{escapedNl}
+use Rattle.pieces.proofs.string.mlb_escaped_nl.Statement.{statement}
+use Rattle.pieces.proofs.string.mlb_escaped_nl.Tie as tie
+
+run-from-requires : tie.Need-run-from-requires
+run-from-requires c κs = search needs
+
+peek-requires : tie.Need-peek-requires
+peek-requires c κs = search needs
+
+add-drop-piece : tie.Need-add-drop-piece
+add-drop-piece c =
+    let s = c .before .before .before .before .args .s .now in
+    omega (arith, c .before .before .run-from .ensures, run-le wschar s)
+
+drop-piece-requires : tie.Need-drop-piece-requires
+drop-piece-requires c κs = search needs
+
+returns : tie.Need-returns
+unfolding escapedNl
+returns c =
+    let s = c .before .before .before .before .before .args .s .now in
+    let w : c .before .before .before .run-from .result ≡ run wschar s = omega (arith, c .before .before .before .run-from .ensures) in
+    c .drop-piece .ensures ∙ rw (← w, ← (c .before .before .peek .ensures), eq-eqb _ 0x0A (c .before .if1 .taken))
+
+add-peek : tie.Need-add-peek
+add-peek c =
+    let s = c .before .before .before .before .before .args .s .now in
+    omega (arith, c .before .before .before .run-from .ensures, run-le wschar s)
+
+peek-requires-2 : tie.Need-peek-requires-2
+peek-requires-2 c κs = search needs
+
+add-drop-piece-2 : tie.Need-add-drop-piece-2
+add-drop-piece-2 c =
+    let s = c .before .before .before .before .before .before .before .args .s .now in
+    omega (arith, c .before .before .before .before .before .run-from .ensures, run-le wschar s)
+
+drop-piece-requires-2 : tie.Need-drop-piece-requires-2
+drop-piece-requires-2 c κs = search needs
+
+returns-2 : tie.Need-returns-2
+unfolding escapedNl
+returns-2 c =
+    let args = c .before .before .before .before .before .before .before .before .args in
+    let run-from = c .before .before .before .before .before .before .run-from in
+    let peek = c .before .before .before .before .before .peek in
+    let if1 = c .before .before .before .before .if1 in
+    let if2 = c .before .before .before .if2 in
+    let peek2 = c .before .before .peek2 in
+    let s = args .s .now in
+    let w : run-from .result ≡ run wschar s = omega (arith, run-from .ensures) in
+    c .drop-piece2 .ensures
+    ∙ rw (← w, ← (peek .ensures), ne-eqb _ 0x0A (if1 .left), eq-eqb _ 0x0D (if2 .taken), ← (peek2 .ensures), eq-eqb _ 0x0A (c .before .if3 .taken))
+
+add-drop-piece-3 : tie.Need-add-drop-piece-3
+add-drop-piece-3 c =
+    let s = c .before .before .before .before .before .before .before .args .s .now in
+    omega (arith, c .before .before .before .before .before .run-from .ensures, run-le wschar s)
+
+add-drop-piece-4 : tie.Need-add-drop-piece-4
+add-drop-piece-4 c =
+    let s = c .before .before .before .before .before .before .before .args .s .now in
+    omega (arith, c .before .before .before .before .before .run-from .ensures, run-le wschar s)
+
+add-drop-piece-5 : tie.Need-add-drop-piece-5
+add-drop-piece-5 c =
+    let s = c .before .before .before .before .before .before .before .args .s .now in
+    omega (arith, c .before .before .before .before .before .run-from .ensures, run-le wschar s)
+
+drop-piece-requires-3 : tie.Need-drop-piece-requires-3
+drop-piece-requires-3 c κs = search needs
+
+returns-3 : tie.Need-returns-3
+unfolding escapedNl
+returns-3 c =
+    let args = c .before .before .before .before .before .before .before .before .args in
+    let run-from = c .before .before .before .before .before .before .run-from in
+    let peek = c .before .before .before .before .before .peek in
+    let if1 = c .before .before .before .before .if1 in
+    let if2 = c .before .before .before .if2 in
+    let peek2 = c .before .before .peek2 in
+    let s = args .s .now in
+    let w : run-from .result ≡ run wschar s = omega (arith, run-from .ensures) in
+    c .drop-piece3 .ensures
+    ∙ rw (← w, ← (peek .ensures), ne-eqb _ 0x0A (if1 .left), eq-eqb _ 0x0D (if2 .taken), ← (peek2 .ensures), ne-eqb _ 0x0A (c .before .if3 .left))
+
+add-drop-piece-6 : tie.Need-add-drop-piece-6
+add-drop-piece-6 c =
+    let s = c .before .before .before .before .before .args .s .now in
+    omega (arith, c .before .before .before .run-from .ensures, run-le wschar s)
+
+add-drop-piece-7 : tie.Need-add-drop-piece-7
+add-drop-piece-7 c =
+    let s = c .before .before .before .before .before .args .s .now in
+    omega (arith, c .before .before .before .run-from .ensures, run-le wschar s)
+
+add-drop-piece-8 : tie.Need-add-drop-piece-8
+add-drop-piece-8 c =
+    let s = c .before .before .before .before .before .args .s .now in
+    omega (arith, c .before .before .before .run-from .ensures, run-le wschar s)
+
+drop-piece-requires-4 : tie.Need-drop-piece-requires-4
+drop-piece-requires-4 c κs = search needs
+
+returns-4 : tie.Need-returns-4
+unfolding escapedNl
+returns-4 c =
+    let args = c .before .before .before .before .before .before .args in
+    let run-from = c .before .before .before .before .run-from in
+    let peek = c .before .before .before .peek in
+    let s = args .s .now in
+    let w : run-from .result ≡ run wschar s = omega (arith, run-from .ensures) in
+    c .drop-piece4 .ensures ∙ rw (← w, ← (peek .ensures), ne-eqb _ 0x0A (c .before .before .if1 .left), ne-eqb _ 0x0D (c .before .if2 .left))
+
+pub mlb-escaped-nl-spec : {M : Type 1} → statement M
+mlb-escaped-nl-spec =
+    tie.close
+    (tie.spec
+    run-from-requires
+    peek-requires
+    add-drop-piece
+    drop-piece-requires
+    returns
+    add-peek
+    peek-requires-2
+    add-drop-piece-2
+    drop-piece-requires-2
+    returns-2
+    add-drop-piece-3
+    add-drop-piece-4
+    add-drop-piece-5
+    drop-piece-requires-3
+    returns-3
+    add-drop-piece-6
+    add-drop-piece-7
+    add-drop-piece-8
+    drop-piece-requires-4
+    returns-4)

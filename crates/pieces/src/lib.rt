@@ -1,0 +1,42 @@
+// The piece at a place of a body, by the five decoders of string.rt. Rules: Bodies.antt and
+// Escapes.antt of crate `strings`.
+ghost use mathlib.Core.Path.{_≡_};
+ghost use Rattle.pieces.specs.Places.{pieceAt};
+
+mod piece;
+mod scan;
+mod string;
+
+use crate::piece::copy_piece;
+use crate::string::decode_basic_string;
+use crate::string::decode_literal_string;
+use crate::string::decode_ml_basic_string;
+use crate::string::decode_ml_literal_string;
+use crate::string::decode_unquoted_key;
+pub use crate::string::strip_start_newline;
+use strings::Encoding;
+use strings::Piece;
+use text::LIMIT;
+
+// The piece at the front of s, which is a body from the place `at` of its text on; `dropping` says
+// whether it is within a line-ending escape. Of no bytes, and beyond the limit, a piece of nothing.
+pub fn piece_at(e: Encoding, dropping: bool, s: &[u8], at: usize) -> Piece
+    ensures { λ r. ⌜ r ≡ pieceAt e dropping at (now (s .entry)) ⌝ }
+{
+    if s.len() == 0 {
+        return copy_piece(0, 0, at, at);
+    }
+    if LIMIT < s.len() {
+        return copy_piece(0, 0, at, at);
+    }
+    if LIMIT < at {
+        return copy_piece(0, 0, at, at);
+    }
+    match e {
+        Encoding::LiteralString => decode_literal_string(s, at),
+        Encoding::MlLiteralString => decode_ml_literal_string(s, at),
+        Encoding::BasicString => decode_basic_string(s, at),
+        Encoding::MlBasicString => decode_ml_basic_string(dropping, s, at),
+        Encoding::UnquotedKey => decode_unquoted_key(s, at),
+    }
+}

@@ -1,0 +1,222 @@
+// Runs of bytes: those that stand for themselves, sixteen and eight at a time, and the others one
+// by one. Rule: the byte sets in Encodings.antt of crate `strings`.
+ghost use mathlib.Core.Path.{_≡_};
+ghost use mathlib.Core.Bool.{true};
+ghost use Prim.Native.Nat.{_+_, _<_, _≤_};
+ghost use lib.ListN.{length, drop, getD};
+ghost use Rattle.classes.specs.Runs.{run};
+ghost use Rattle.classes.proofs.RunLaws.{Block};
+ghost use Rattle.strings.specs.Encodings.{mllPlain, mlbPlain, basicInvalid, mlbInvalid, plain};
+ghost use Rattle.pieces.specs.Scan.{setOf, Wide, stopsOf};
+use classes::is_basic_unescaped;
+use classes::is_literal_char;
+use classes::is_mlb_unescaped;
+use classes::is_mll_char;
+use classes::is_unquoted_char;
+use classes::is_wschar;
+use std::num::wrapping_sub_u8;
+use strings::Encoding;
+
+// The byte at place i, 0 past the end.
+pub(crate) fn peek(s: &[u8], i: usize) -> u8
+    ensures { λ r. ⌜ r ≡ getD (now (s .entry)) i 0 ⌝ }
+{
+    if i < s.len() { s[i] } else { 0 }
+}
+
+fn is_mll_plain(b: u8) -> bool
+    ensures { λ r. ⌜ r ≡ mllPlain b ⌝ }
+{
+    match b {
+        b'\'' | b'\n' => true,
+        _ => is_mll_char(b),
+    }
+}
+
+fn is_mlb_plain(b: u8) -> bool
+    ensures { λ r. ⌜ r ≡ mlbPlain b ⌝ }
+{
+    match b {
+        b'"' | b'\n' => true,
+        _ => is_mlb_unescaped(b),
+    }
+}
+
+// Does the byte stand for itself?
+fn is_plain(e: Encoding, b: u8) -> bool
+    ensures { λ r. ⌜ r ≡ plain e b ⌝ }
+{
+    match e {
+        Encoding::LiteralString => is_literal_char(b),
+        Encoding::BasicString => is_basic_unescaped(b),
+        Encoding::MlLiteralString => is_mll_plain(b),
+        Encoding::MlBasicString => is_mlb_plain(b),
+        Encoding::UnquotedKey => is_unquoted_char(b),
+    }
+}
+
+fn is_basic_invalid(b: u8) -> bool
+    ensures { λ r. ⌜ r ≡ basicInvalid b ⌝ }
+{
+    match b {
+        b'\\' => false,
+        _ => !is_basic_unescaped(b),
+    }
+}
+
+fn is_mlb_invalid(b: u8) -> bool
+    ensures { λ r. ⌜ r ≡ mlbInvalid b ⌝ }
+{
+    match b {
+        b'\\' | b'\r' => false,
+        _ => !is_mlb_plain(b),
+    }
+}
+
+// The byte sets that are scanned.
+pub(crate) enum Set {
+    Plain(Encoding),
+    BasicInvalid,
+    MlbInvalid,
+    Blank,
+}
+
+fn is_in(set: Set, b: u8) -> bool
+    ensures { λ r. ⌜ r ≡ setOf set b ⌝ }
+{
+    match set {
+        Set::Plain(e) => is_plain(e, b),
+        Set::BasicInvalid => is_basic_invalid(b),
+        Set::MlbInvalid => is_mlb_invalid(b),
+        Set::Blank => is_wschar(b),
+    }
+}
+
+// The place of the first byte from `start` on that is not in the set, or the end.
+pub(crate) fn run_from(set: Set, s: &[u8], start: usize) -> usize
+    requires { ⌜ start ≤ length (now s) ⌝ }
+    ensures { λ r. ⌜ r ≡ start + run (setOf set) (drop start (now (s .entry))) ⌝ }
+{
+    let mut i = start;
+    while i < s.len() {
+        if !is_in(set, s[i]) {
+            return i;
+        }
+        i += 1;
+    }
+    i
+}
+
+// Blocks of n bytes that stand for themselves, passed over. Each caller names its encoding, so that
+// the compiler makes a loop of its own for it, with that encoding's bytes as constants.
+pub(crate) fn plain_blocks(e: Encoding, s: &[u8], start: usize, n: usize) -> usize
+    requires { ⌜ Wide e × (start ≤ length (now s)) × (0 < n) ⌝ }
+    ensures { λ r. ⌜ (r ≤ length (now (s .entry))) × (r + run (plain e) (drop r (now (s .entry))) ≡ start + run (plain e) (drop start (now (s .entry)))) ⌝ }
+{
+    let mut i = start;
+    while n <= s.len() - i {
+        if !plain_block(e, s, i, n) {
+            return i;
+        }
+        i += n;
+    }
+    i
+}
+
+// What a block is given up at, besides DEL: two bytes, the bytes below `low`, and `span` of them
+// from 0B on.
+pub(crate) struct Stops {
+    pub first: u8,
+    pub second: u8,
+    pub low: u8,
+    pub span: u8,
+}
+
+// In a line a tab ends the blocks too, though it is plain; over lines the tab and the LF do not.
+fn stops_of(e: Encoding) -> Stops
+    ensures { λ r. ⌜ r ≡ stopsOf e ⌝ }
+{
+    match e {
+        Encoding::LiteralString => Stops {
+            first: b'\'',
+            second: b'\'',
+            low: 0x20,
+            span: 0,
+        },
+        Encoding::BasicString => Stops {
+            first: b'"',
+            second: b'\\',
+            low: 0x20,
+            span: 0,
+        },
+        Encoding::MlLiteralString => Stops {
+            first: 0x7F,
+            second: 0x7F,
+            low: 0x09,
+            span: 21,
+        },
+        Encoding::MlBasicString => Stops {
+            first: b'\\',
+            second: b'\\',
+            low: 0x09,
+            span: 21,
+        },
+        Encoding::UnquotedKey => Stops {
+            first: 0x7F,
+            second: 0x7F,
+            low: 0x20,
+            span: 0,
+        },
+    }
+}
+
+// Whether n bytes from i on surely stand for themselves. A flag for each test, one comparison in
+// each, and no branch among them, so that the compiler takes sixteen at once.
+fn plain_block(e: Encoding, s: &[u8], i: usize, n: usize) -> bool
+    requires { ⌜ Wide e × (i + n ≤ length (now s)) ⌝ }
+    ensures { λ r. ⌜ (r ≡ true → Block (plain e) (now (s .entry)) i n) ⌝ }
+{
+    let stops = stops_of(e);
+    let a = stops.first;
+    let z = stops.second;
+    let l = stops.low;
+    let k = stops.span;
+    let mut first = false;
+    let mut second = false;
+    let mut delete = false;
+    let mut low = false;
+    let mut mid = false;
+    let mut j = 0;
+    while j < n {
+        let b = s[i + j];
+        if b == a {
+            first = true;
+        }
+        if b == z {
+            second = true;
+        }
+        if b == 0x7F {
+            delete = true;
+        }
+        if b < l {
+            low = true;
+        }
+        if wrapping_sub_u8(b, 0x0B) < k {
+            mid = true;
+        }
+        j += 1;
+    }
+    if first {
+        return false;
+    }
+    if second {
+        return false;
+    }
+    if delete {
+        return false;
+    }
+    if low {
+        return false;
+    }
+    !mid
+}

@@ -1,0 +1,310 @@
+// The string decoders, under the Rust's names and in its order. Each says the piece at the front of
+// its body; the loops of crate `decoder` walk the pieces. Rules: Bodies.antt and Escapes.antt of crate
+// `strings`. s is the body from the place `at` of the text on.
+ghost use mathlib.Core.Path.{_≡_};
+ghost use Prim.Native.Nat.{_+_, _<_, _≤_, _^_};
+ghost use lib.ListN.{length};
+ghost use Rattle.classes.specs.Classes.{literalChar, basicUnescaped};
+ghost use Rattle.classes.specs.Runs.{run};
+ghost use Rattle.strings.specs.Encodings.{mllPlain, mlbPlain, basicInvalid, mlbInvalid};
+ghost use Rattle.strings.specs.Escapes.{simpleEscape, hexLength, hexValue, hexPiece, escapePiece};
+ghost use Rattle.strings.specs.Bodies.{crError, literalPiece, mlLiteralPiece, basicPiece, skips, escapedNl, escapedMore, mlbContent, mlBasicPiece, keyPiece};
+ghost use Rattle.strings.specs.Marks.{newlineLen};
+use crate::piece::char_piece;
+use crate::piece::copy_piece;
+use crate::piece::drop_piece;
+use crate::scan::Set;
+use crate::scan::peek;
+use crate::scan::plain_blocks;
+use crate::scan::run_from;
+use classes::is_hexdig;
+use classes::is_wschar;
+use strings::Encoding;
+use strings::Piece;
+use text::is_scalar;
+
+// literal-string = apostrophe *literal-char apostrophe
+pub(crate) fn decode_literal_string(s: &[u8], at: usize) -> Piece
+    requires { ⌜ 0 < length (now s) ⌝ }
+    ensures { λ r. ⌜ r ≡ literalPiece at (now (s .entry)) ⌝ }
+{
+    let n = literal_chars(s);
+    if 0 < n {
+        return copy_piece(n, 0, at, at);
+    }
+    copy_piece(1, 2, at, at)
+}
+
+// literal-char = %x09 / %x20-26 / %x28-7E / non-ascii
+fn literal_chars(s: &[u8]) -> usize
+    ensures { λ r. ⌜ r ≡ run literalChar (now (s .entry)) ⌝ }
+{
+    let wide = plain_blocks(Encoding::LiteralString, s, 0, 16);
+    let i = plain_blocks(Encoding::LiteralString, s, wide, 8);
+    run_from(Set::Plain(Encoding::LiteralString), s, i)
+}
+
+// ml-literal-body = *mll-content *( mll-quotes 1*mll-content ) [ mll-quotes ]
+pub(crate) fn decode_ml_literal_string(s: &[u8], at: usize) -> Piece
+    requires { ⌜ (0 < length (now s)) × (at < 2 ^ 62) ⌝ }
+    ensures { λ r. ⌜ r ≡ mlLiteralPiece at (now (s .entry)) ⌝ }
+{
+    let n = mll_chars(s);
+    if 0 < n {
+        return copy_piece(n, 0, at, at);
+    }
+    if s[0] == b'\r' {
+        return copy_piece(1, cr_error(peek(s, 1)), at + 1, at + 1);
+    }
+    copy_piece(1, 5, at, at)
+}
+
+// mll-char, with mll-quotes and LF
+fn mll_chars(s: &[u8]) -> usize
+    ensures { λ r. ⌜ r ≡ run mllPlain (now (s .entry)) ⌝ }
+{
+    let wide = plain_blocks(Encoding::MlLiteralString, s, 0, 16);
+    let i = plain_blocks(Encoding::MlLiteralString, s, wide, 8);
+    run_from(Set::Plain(Encoding::MlLiteralString), s, i)
+}
+
+// The error of a CR, by the byte behind it.
+fn cr_error(next: u8) -> usize
+    ensures { λ r. ⌜ r ≡ crError next ⌝ }
+{
+    if next == b'\n' { 0 } else { 4 }
+}
+
+// basic-char = basic-unescaped / escaped
+pub(crate) fn decode_basic_string(s: &[u8], at: usize) -> Piece
+    requires { ⌜ (0 < length (now s)) × (at + length (now s) < 2 ^ 62) ⌝ }
+    ensures { λ r. ⌜ r ≡ basicPiece at (now (s .entry)) ⌝ }
+{
+    let n = basic_unescaped(s);
+    if 0 < n {
+        return copy_piece(n, 0, at, at);
+    }
+    if s[0] == b'\\' {
+        return escape_seq_char(&s[1..], at);
+    }
+    let k = basic_invalid(s);
+    copy_piece(k, 7, at, at + k)
+}
+
+// basic-unescaped = wschar / %x21 / %x23-5B / %x5D-7E / non-ascii
+fn basic_unescaped(s: &[u8]) -> usize
+    ensures { λ r. ⌜ r ≡ run basicUnescaped (now (s .entry)) ⌝ }
+{
+    let wide = plain_blocks(Encoding::BasicString, s, 0, 16);
+    let i = plain_blocks(Encoding::BasicString, s, wide, 8);
+    run_from(Set::Plain(Encoding::BasicString), s, i)
+}
+
+fn basic_invalid(s: &[u8]) -> usize
+    ensures { λ r. ⌜ r ≡ run basicInvalid (now (s .entry)) ⌝ }
+{
+    run_from(Set::BasicInvalid, s, 0)
+}
+
+// escape-seq-char, behind a backslash at `at`
+fn escape_seq_char(s: &[u8], at: usize) -> Piece
+    requires { ⌜ at < 2 ^ 62 ⌝ }
+    ensures { λ r. ⌜ r ≡ escapePiece at (now (s .entry)) ⌝ }
+{
+    let b = peek(s, 0);
+    let n = hex_length(b);
+    if 0 < n {
+        return hexescape(&s[1..], n, at);
+    }
+    let c = simple_escape(b);
+    if 0 < c {
+        return char_piece(2, c, 0, 0);
+    }
+    char_piece(1, 0x5C, 8, at + 1)
+}
+
+// How many digits the letter asks for, 0 for none.
+fn hex_length(b: u8) -> usize
+    ensures { λ r. ⌜ r ≡ hexLength b ⌝ }
+{
+    match b {
+        b'u' => 4,
+        b'U' => 8,
+        _ => 0,
+    }
+}
+
+// The character of the letter, 0 for none.
+fn simple_escape(b: u8) -> u32
+    ensures { λ r. ⌜ r ≡ simpleEscape b ⌝ }
+{
+    match b {
+        b'b' => 0x08,
+        b'f' => 0x0C,
+        b'n' => 0x0A,
+        b'r' => 0x0D,
+        b't' => 0x09,
+        b'\\' => 0x5C,
+        b'"' => 0x22,
+        _ => 0,
+    }
+}
+
+// The escape at `at` whose digits s begins with.
+fn hexescape(s: &[u8], digits: usize, at: usize) -> Piece
+    requires { ⌜ (digits ≤ 8) × (at < 2 ^ 62) ⌝ }
+    ensures { λ r. ⌜ r ≡ hexPiece digits at (now (s .entry)) ⌝ }
+{
+    let mut i = 0;
+    let mut value: u32 = 0;
+    while i < digits {
+        let b = peek(s, i);
+        if !is_hexdig(b) {
+            return char_piece(2 + i, 0xFFFD, 9, at + (2 + i));
+        }
+        value = value * 16 + hex_value(b);
+        i += 1;
+    }
+    if is_scalar(value) {
+        return char_piece(2 + digits, value, 0, 0);
+    }
+    char_piece(2 + digits, 0xFFFD, 10, at + 2)
+}
+
+// The value of a hex digit.
+fn hex_value(b: u8) -> u32
+    requires { ⌜ 0x30 ≤ b ⌝ }
+    ensures { λ r. ⌜ r ≡ hexValue b ⌝ }
+{
+    match b {
+        0..=0x40 => (b - 0x30) as u32,
+        0x41..=0x60 => (b - 0x37) as u32,
+        _ => (b - 0x57) as u32,
+    }
+}
+
+// How many bytes of s are a newline to be dropped behind an opening.
+pub fn strip_start_newline(s: &[u8]) -> usize
+    ensures { λ r. ⌜ r ≡ newlineLen (now (s .entry)) ⌝ }
+{
+    let b = peek(s, 0);
+    if b == b'\n' {
+        return 1;
+    }
+    if b == b'\r' {
+        if peek(s, 1) == b'\n' {
+            return 2;
+        }
+        return 0;
+    }
+    0
+}
+
+// mlb-content = mlb-char / newline / mlb-escaped-nl, or the rest of an mlb-escaped-nl
+pub(crate) fn decode_ml_basic_string(dropping: bool, s: &[u8], at: usize) -> Piece
+    requires { ⌜ (0 < length (now s)) × (at + length (now s) < 2 ^ 62) ⌝ }
+    ensures { λ r. ⌜ r ≡ mlBasicPiece dropping at (now (s .entry)) ⌝ }
+{
+    if dropping {
+        if is_skipped(s[0]) {
+            return mlb_escaped_more(s, at);
+        }
+        return mlb_content(s, at);
+    }
+    mlb_content(s, at)
+}
+
+fn mlb_content(s: &[u8], at: usize) -> Piece
+    requires { ⌜ (0 < length (now s)) × (at + length (now s) < 2 ^ 62) ⌝ }
+    ensures { λ r. ⌜ r ≡ mlbContent at (now (s .entry)) ⌝ }
+{
+    let n = mlb_unescaped(s);
+    if 0 < n {
+        return copy_piece(n, 0, at, at);
+    }
+    let b = s[0];
+    if b == b'\\' {
+        if is_skipped(peek(s, 1)) {
+            return mlb_escaped_nl(&s[1..], at);
+        }
+        return escape_seq_char(&s[1..], at);
+    }
+    if b == b'\r' {
+        if peek(s, 1) == b'\n' {
+            return copy_piece(2, 0, at, at);
+        }
+        return copy_piece(1, 4, at + 1, at + 1);
+    }
+    let k = mlb_invalid(s);
+    copy_piece(k, 12, at, at + k)
+}
+
+// What a line-ending escape drops.
+fn is_skipped(b: u8) -> bool
+    ensures { λ r. ⌜ r ≡ skips b ⌝ }
+{
+    match b {
+        b'\n' | b'\r' => true,
+        _ => is_wschar(b),
+    }
+}
+
+// mlb-escaped-nl = escape ws newline *( wschar / newline ): its first line, s behind the backslash
+fn mlb_escaped_nl(s: &[u8], at: usize) -> Piece
+    requires { ⌜ at + length (now s) < 2 ^ 62 ⌝ }
+    ensures { λ r. ⌜ r ≡ escapedNl at (now (s .entry)) ⌝ }
+{
+    let w = run_from(Set::Blank, s, 0);
+    let b = peek(s, w);
+    if b == b'\n' {
+        return drop_piece(2 + w, 0, 0);
+    }
+    if b == b'\r' {
+        if peek(s, w + 1) == b'\n' {
+            return drop_piece(3 + w, 0, 0);
+        }
+        return drop_piece(2 + w, 4, at + (2 + w));
+    }
+    drop_piece(1 + w, 13, at + (1 + w))
+}
+
+// Its further lines: one blank or newline.
+fn mlb_escaped_more(s: &[u8], at: usize) -> Piece
+    requires { ⌜ at < 2 ^ 62 ⌝ }
+    ensures { λ r. ⌜ r ≡ escapedMore at (now (s .entry)) ⌝ }
+{
+    if peek(s, 0) == b'\r' {
+        if peek(s, 1) == b'\n' {
+            return drop_piece(2, 0, 0);
+        }
+        return drop_piece(1, 4, at + 1);
+    }
+    drop_piece(1, 0, 0)
+}
+
+// mlb-unescaped, with mlb-quotes and LF
+fn mlb_unescaped(s: &[u8]) -> usize
+    ensures { λ r. ⌜ r ≡ run mlbPlain (now (s .entry)) ⌝ }
+{
+    let wide = plain_blocks(Encoding::MlBasicString, s, 0, 16);
+    let i = plain_blocks(Encoding::MlBasicString, s, wide, 8);
+    run_from(Set::Plain(Encoding::MlBasicString), s, i)
+}
+
+fn mlb_invalid(s: &[u8]) -> usize
+    ensures { λ r. ⌜ r ≡ run mlbInvalid (now (s .entry)) ⌝ }
+{
+    run_from(Set::MlbInvalid, s, 0)
+}
+
+// unquoted-key = 1*( ALPHA / DIGIT / %x2D / %x5F ) ; A-Z / a-z / 0-9 / - / _
+pub(crate) fn decode_unquoted_key(s: &[u8], at: usize) -> Piece
+    requires { ⌜ 0 < length (now s) ⌝ }
+    ensures { λ r. ⌜ r ≡ keyPiece at (now (s .entry)) ⌝ }
+{
+    let n = run_from(Set::Plain(Encoding::UnquotedKey), s, 0);
+    if 0 < n {
+        return copy_piece(n, 0, at, at);
+    }
+    copy_piece(1, 15, at, at)
+}

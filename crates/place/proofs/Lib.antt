@@ -1,0 +1,4 @@
+pub mod SpanLaws
+pub mod PositionLaws
+pub mod NumberLaws
+pub mod OneAnswer

@@ -1,0 +1,99 @@
+// Places in a document: whether a span cuts it between characters, the text of a span, and the
+// line and column of an offset. Rules: specs/Spans.antt, Positions.antt.
+ghost use mathlib.Core.Path.{_≡_};
+ghost use Prim.Native.Nat.{_≤_};
+ghost use lib.ListN.{length, getD};
+ghost use Rattle.place.specs.Spans.{inside, spanAnswer, spanNumber, spanValue, spanRefusal, spanReturned, spanText};
+ghost use Rattle.place.specs.Positions.{positionAnswer, positionNumber, positionValue, positionRefusal, positionReturned};
+use text::LIMIT;
+use text::Refusal;
+use token::Span;
+
+// What the span check answers.
+pub enum SpanCheck {
+    Whole,
+    Refused(Refusal),
+}
+
+// Does the span lie within the document, and cut no character?
+pub fn check_span(doc: &[u8], span: Span) -> SpanCheck
+    ensures answer { λ r. ⌜ r ≡ spanAnswer (now (doc .entry)) span ⌝ }
+    ensures number { λ r. ⌜ spanNumber r ≡ spanRefusal (now (doc .entry)) span ⌝ }
+    ensures value { λ r. ⌜ spanValue r ≡ spanReturned (now (doc .entry)) span ⌝ }
+{
+    let start = span.start;
+    let end = span.end;
+    if LIMIT < doc.len() {
+        return SpanCheck::Refused(Refusal::TooLong);
+    }
+    if doc.len() < end {
+        return SpanCheck::Refused(Refusal::OutOfPlace { length: doc.len() });
+    }
+    if end < start {
+        return SpanCheck::Refused(Refusal::OutOfPlace { length: doc.len() });
+    }
+    if is_inside(doc, start) {
+        return SpanCheck::Refused(Refusal::OutOfPlace { length: doc.len() });
+    }
+    if is_inside(doc, end) {
+        return SpanCheck::Refused(Refusal::OutOfPlace { length: doc.len() });
+    }
+    SpanCheck::Whole
+}
+
+// Does a place lie inside a character, by the byte there? The end does not.
+fn is_inside(doc: &[u8], at: usize) -> bool
+    requires { ⌜ at ≤ length (now doc) ⌝ }
+    ensures { λ r. ⌜ r ≡ inside (now (doc .entry)) at ⌝ }
+{
+    if at < doc.len() {
+        return classes::is_continuation(doc[at]);
+    }
+    false
+}
+
+// The text of a span: that part of the document, or the empty part at its start where the span is
+// refused.
+pub fn text_of(doc: &[u8], span: Span) -> &[u8]
+    ensures { λ r. ⌜ now r ≡ spanText (now (doc .entry)) span ⌝ }
+{
+    let start = span.start;
+    let end = span.end;
+    if let SpanCheck::Refused(_) = check_span(doc, span) {
+        return &doc[..0];
+    }
+    &doc[start..end]
+}
+
+// Line and column, both counted from 1.
+pub enum Position {
+    At { line: usize, column: usize },
+    Refused(Refusal),
+}
+
+// The line and column of an offset, which may be the end.
+pub fn position_of(doc: &[u8], offset: usize) -> Position
+    ensures answer { λ r. ⌜ r ≡ positionAnswer (now (doc .entry)) offset ⌝ }
+    ensures number { λ r. ⌜ positionNumber r ≡ positionRefusal (now (doc .entry)) offset ⌝ }
+    ensures value { λ r. ⌜ positionValue r ≡ positionReturned (now (doc .entry)) offset ⌝ }
+{
+    if LIMIT < doc.len() {
+        return Position::Refused(Refusal::TooLong);
+    }
+    if doc.len() < offset {
+        return Position::Refused(Refusal::OutOfPlace { length: doc.len() });
+    }
+    let mut line: usize = 1;
+    let mut column: usize = 1;
+    let mut i = 0;
+    while i < offset {
+        if doc[i] == b'\n' {
+            line += 1;
+            column = 1;
+        } else {
+            column += 1;
+        }
+        i += 1;
+    }
+    Position::At { line, column }
+}

@@ -1,0 +1,5 @@
+pub mod TurnLaws
+pub mod PlanLaws
+pub mod Returned
+pub mod Agreement
+pub mod OneAnswer

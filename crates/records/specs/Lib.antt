@@ -1,0 +1,3 @@
+pub mod TokenMemory
+pub mod Turns
+pub mod Agreement

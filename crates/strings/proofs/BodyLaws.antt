@@ -1,0 +1,116 @@
+-- The pieces of each body are fine.
+-- Assumes nothing.
+use Prim.Native.Nat.{ℕ, suc, _+_, _≤_, _<_}
+use mathlib.Core.Path.{_≡_}
+use mathlib.Core.Bool.{Bool, true, false, _&&_}
+use mathlib.Core.List.{List}
+use native.Mathlib.Omega.{arith}
+use lib.ListN.{length, drop, getD, length-drop}
+use borrow.Author.Tests.{ne-eqb}
+use Rattle.classes.specs.Classes.{wschar, literalChar, basicUnescaped, unquotedChar}
+use Rattle.classes.specs.Runs.{run}
+use Rattle.classes.proofs.Conds.{cond-case}
+use Rattle.classes.proofs.RunLaws.{run-le, run-step}
+use Rattle.strings.specs.declared.Piece.{Piece}
+use Rattle.strings.specs.declared.Encoding.{Encoding}
+use Rattle.strings.specs.declared.Encoding.the-variants.{LiteralString, BasicString, MlLiteralString, MlBasicString, UnquotedKey}
+use Rattle.strings.specs.Encodings.{mllPlain, mlbPlain, basicInvalid, mlbInvalid}
+use Rattle.strings.specs.Pieces.{copyPiece}
+use Rattle.strings.specs.Bodies.{literalPiece, crError, mlLiteralPiece, basicPiece, skips, lineEnd, escapedNl, escapedMore, mlbContent, mlBasicPiece, keyPiece, pieceOf}
+use Rattle.strings.proofs.Choices.{by-eq, there}
+use Rattle.strings.proofs.Fine.{FineAt, Fine, fine-copy, fine-drop}
+use Rattle.strings.proofs.EscapeLaws.{escape-fine}
+
+-- a byte of the class begins a run of at least one
+pub run-some : (f : ℕ → Bool) (s : List ℕ) → 0 < length s → f (getD s 0 0) ≡ true → 0 < run f s
+run-some f s h e = omega (arith, run-step f s 0 h e)
+
+pub invalid-basic : (b : ℕ) → basicUnescaped b ≡ false → (b ≡ 0x5C → ⊥) → basicInvalid b ≡ true
+unfolding basicInvalid
+invalid-basic b e f = rw (e, ne-eqb _ _ f)
+
+pub invalid-mlb : (b : ℕ) → mlbPlain b ≡ false → (b ≡ 0x5C → ⊥) → (b ≡ 0x0D → ⊥) → mlbInvalid b ≡ true
+unfolding mlbInvalid
+invalid-mlb b e f g = rw (e, ne-eqb _ _ f, ne-eqb _ _ g)
+
+module _ (at : ℕ) (s : List ℕ) (h : 0 < length s) where
+  abbrev Good : Piece → Type 0
+  Good p = FineAt p s
+
+  -- a run that starts here, as one piece
+  fine-run : (f : ℕ → Bool) (n a z : ℕ) → f (getD s 0 0) ≡ true → FineAt (copyPiece (run f s) n a z) s
+  fine-run f n a z e = fine-copy (run f s) n a z s (run-some f s h e) (run-le f s)
+
+  fine-one : (n a z : ℕ) → FineAt (copyPiece 1 n a z) s
+  fine-one n a z = fine-copy 1 n a z s (omega arith) h
+
+  literal-fine : FineAt (literalPiece at s) s
+  unfolding literalPiece
+  literal-fine = cond-case Good (literalChar (getD s 0 0)) (fine-run literalChar 0 at at) (λ e. fine-one 2 at at)
+
+  ml-literal-fine : FineAt (mlLiteralPiece at s) s
+  unfolding mlLiteralPiece
+  ml-literal-fine =
+      cond-case Good (mllPlain (getD s 0 0)) (fine-run mllPlain 0 at at)
+      λ e. by-eq Good (getD s 0 0) 0x0D (λ f. fine-one (crError (getD s 1 0)) (at + 1) (at + 1)) (λ f. fine-one 5 at at)
+
+  basic-fine : FineAt (basicPiece at s) s
+  unfolding basicPiece
+  basic-fine =
+      cond-case Good (basicUnescaped (getD s 0 0)) (fine-run basicUnescaped 0 at at)
+      λ e. by-eq Good (getD s 0 0) 0x5C (λ f. escape-fine at s (drop 1 s) (omega (arith, length-drop 1 s)))
+      (λ f. fine-run basicInvalid 7 at _ (invalid-basic (getD s 0 0) e f))
+
+  -- a line-ending escape, where t stands behind the backslash at the front of s
+  line-fine : (t : List ℕ) (w : ℕ) → length s ≡ suc (length t) → w ≤ length t → FineAt (lineEnd at w (getD t w 0) (getD t (w + 1) 0)) s
+  line-fine t w long l =
+      by-eq Good (getD t w 0) 0x0A (λ e. let k = there t w (omega arith) in fine-drop (2 + w) 0 0 s (omega arith) (omega arith))
+      λ e. by-eq Good (getD t w 0) 0x0D
+      (λ f.
+      let k = there t w (omega arith) in
+      by-eq Good (getD t (w + 1) 0) 0x0A
+      (λ g. let m = there t (w + 1) (omega arith) in fine-drop (3 + w) 0 0 s (omega arith) (omega arith))
+      (λ g. fine-drop (2 + w) 4 _ s (omega arith) (omega arith)))
+      (λ f. fine-drop (1 + w) 13 _ s (omega arith) (omega arith))
+
+  escaped-fine : (t : List ℕ) → length s ≡ suc (length t) → FineAt (escapedNl at t) s
+  unfolding escapedNl
+  escaped-fine t long = line-fine t (run wschar t) long (run-le wschar t)
+
+  more-fine : FineAt (escapedMore at s) s
+  unfolding escapedMore
+  more-fine =
+      by-eq Good (getD s 0 0) 0x0D
+      (λ e. by-eq Good (getD s 1 0) 0x0A
+      (λ f. let k = there s 1 (omega arith) in fine-drop 2 0 0 s (omega arith) (omega arith))
+      (λ f. fine-drop 1 4 _ s (omega arith) h))
+      (λ e. fine-drop 1 0 0 s (omega arith) h)
+
+  content-fine : FineAt (mlbContent at s) s
+  unfolding mlbContent
+  content-fine =
+      cond-case Good (mlbPlain (getD s 0 0)) (fine-run mlbPlain 0 at at)
+      λ e. by-eq Good (getD s 0 0) 0x5C
+      (λ f. cond-case Good (skips (getD s 1 0))
+      (λ g. escaped-fine (drop 1 s) (omega (arith, length-drop 1 s)))
+      (λ g. escape-fine at s (drop 1 s) (omega (arith, length-drop 1 s))))
+      λ f. by-eq Good (getD s 0 0) 0x0D
+      (λ g. by-eq Good (getD s 1 0) 0x0A
+      (λ i. let k = there s 1 (omega arith) in fine-copy 2 0 at at s (omega arith) (omega arith))
+      (λ i. fine-one 4 (at + 1) (at + 1)))
+      (λ g. fine-run mlbInvalid 12 at _ (invalid-mlb (getD s 0 0) e f g))
+
+  ml-basic-fine : (d : Bool) → FineAt (mlBasicPiece d at s) s
+  unfolding mlBasicPiece
+  ml-basic-fine d = cond-case Good (d && skips (getD s 0 0)) (λ e. more-fine) (λ e. content-fine)
+
+  key-fine : FineAt (keyPiece at s) s
+  unfolding keyPiece
+  key-fine = cond-case Good (unquotedChar (getD s 0 0)) (fine-run unquotedChar 0 at at) (λ e. fine-one 15 at at)
+
+pub piece-fine : (e : Encoding) → Fine (pieceOf e)
+piece-fine LiteralString d at s h = literal-fine at s h
+piece-fine MlLiteralString d at s h = ml-literal-fine at s h
+piece-fine BasicString d at s h = basic-fine at s h
+piece-fine MlBasicString d at s h = ml-basic-fine at s h d
+piece-fine UnquotedKey d at s h = key-fine at s h

@@ -1,0 +1,88 @@
+-- How long what is decoded can be, and how many errors there can be.
+-- Assumes nothing.
+use Prim.Native.Nat.{ℕ, zero, suc, pred, _+_, _-_, _*_, _≤_}
+use mathlib.Core.Path.{_≡_, ap}
+use mathlib.Core.Bool.{Bool, true, false}
+use mathlib.Core.List.{List, [], _∷_}
+use native.Mathlib.Omega.{arith}
+use lib.ListN.{length, length-append, length-take, length-drop}
+use Rattle.strings.specs.declared.Piece.{Piece}
+use Rattle.strings.specs.declared.Encoding.{Encoding}
+use Rattle.strings.specs.Encodings.{markError}
+use Rattle.strings.specs.Pieces.{gives, notes, notesAt, Pieces, collect}
+use Rattle.strings.specs.Bodies.{pieceOf}
+use Rattle.strings.specs.Marks.{endsOf, bodyOf}
+use Rattle.strings.specs.Decoding.{bytesOf, missing, errorsOf}
+use Rattle.strings.proofs.PieceLaws.{notes-few, notes-one}
+use Rattle.strings.proofs.Fine.{Fine}
+use Rattle.strings.proofs.BodyLaws.{piece-fine}
+use native.Mathlib.Decide.{ℕ-discrete}
+
+-- a piece that notes nothing has no error
+pub notes-clean : (p : Piece) → length (notes p) ≡ 0 → p .err ≡ 0
+notes-clean p h = go (ℕ-discrete (p .err) 0)
+  where
+    go : Dec (p .err ≡ 0) → p .err ≡ 0
+    go (yes e) = e
+    go (no e) = absurd (omega (arith, ap length (notes-one p e)))
+
+module _ (P : Pieces) (fine : Fine P) where
+  collect-most : (k : ℕ) (d : Bool) (at : ℕ) (s : List ℕ) → k ≤ length s → 2 * length (collect P gives k d at s) ≤ 3 * (length s - k)
+  collect-most k d at [] h = omega arith
+  collect-most zero d at (b ∷ r) h =
+      let p = P d at (b ∷ r) in
+      let f = fine d at (b ∷ r) (omega arith) in
+      rw length-append (omega (arith, f .small, f .some, f .fits, collect-most (pred (p .take)) (p .dropping) (suc at) r (omega (arith, f .fits))))
+  collect-most (suc k) d at (b ∷ r) h = omega (arith, collect-most k d (suc at) r (omega arith))
+
+  collect-quiet : (k : ℕ) (d : Bool) (at : ℕ) (s : List ℕ) → k ≤ length s → length (collect P notesAt k d at s) ≡ 0
+      → length (collect P gives k d at s) ≤ length s - k
+  collect-quiet k d at [] h e = omega arith
+  collect-quiet zero d at (b ∷ r) h e =
+      let p = P d at (b ∷ r) in
+      let f = fine d at (b ∷ r) (omega arith) in
+      let n = rw length-append at e in
+      let q = f .quiet (notes-clean p (omega (arith, n))) in
+      rw length-append (omega (arith, q, f .some, f .fits, collect-quiet (pred (p .take)) (p .dropping) (suc at) r (omega (arith, f .fits)) (omega (arith, n))))
+  collect-quiet (suc k) d at (b ∷ r) h e = omega (arith, collect-quiet k d (suc at) r (omega arith) e)
+
+  collect-few : (k : ℕ) (d : Bool) (at : ℕ) (s : List ℕ) → k ≤ length s → length (collect P notesAt k d at s) ≤ length s - k
+  collect-few k d at [] h = omega arith
+  collect-few zero d at (b ∷ r) h =
+      let p = P d at (b ∷ r) in
+      let f = fine d at (b ∷ r) (omega arith) in
+      rw length-append (omega (arith, notes-few p, f .some, f .fits, collect-few (pred (p .take)) (p .dropping) (suc at) r (omega (arith, f .fits))))
+  collect-few (suc k) d at (b ∷ r) h = omega (arith, collect-few k d (suc at) r (omega arith))
+
+body-le : (k : Encoding) (t : List ℕ) → length (bodyOf (endsOf k t) t) ≤ length t
+body-le k t = rw (length-take, length-drop) (omega arith)
+
+pub missing-few : (b : Bool) (n at : ℕ) → length (missing b n at) ≤ 1
+missing-few true n at = omega arith
+missing-few false n at = omega arith
+
+module _ (k : Encoding) (t : List ℕ) where
+  -- twice the decoded length is at most three times the text's
+  pub bytes-most : 2 * length (bytesOf k t) ≤ 3 * length t
+  unfolding bytesOf
+  bytes-most = omega (arith, collect-most (pieceOf k) (piece-fine k) 0 false (endsOf k t .start) (bodyOf (endsOf k t) t) (omega arith), body-le k t)
+
+  -- and without an error the decoded length is at most the text's
+  pub bytes-quiet : errorsOf k t ≡ [] → length (bytesOf k t) ≤ length t
+  unfolding bytesOf errorsOf
+  bytes-quiet e =
+      let n = simp length-append at (ap length e) in
+      omega (arith, collect-quiet (pieceOf k) (piece-fine k) 0 false (endsOf k t .start) (bodyOf (endsOf k t) t) (omega arith) (omega (arith, n)), body-le k t)
+
+  -- errors number at most the text's length plus two
+  pub errors-few : length (errorsOf k t) ≤ length t + 2
+  unfolding errorsOf
+  errors-few =
+      rw (length-append, length-append)
+      (omega (
+        arith,
+        missing-few (endsOf k t .opened) (markError k) 0,
+        missing-few (endsOf k t .closed) (markError k) (length t),
+        collect-few (pieceOf k) (piece-fine k) 0 false (endsOf k t .start) (bodyOf (endsOf k t) t) (omega arith),
+        body-le k t,
+      ))

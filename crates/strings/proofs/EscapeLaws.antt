@@ -1,0 +1,133 @@
+-- The escapes: their pieces case by case, what their letters and digits are, and that the pieces are fine.
+-- Assumes nothing.
+use Prim.Native.Nat.{ℕ, suc, _+_, _*_, _≤_, _<_}
+use mathlib.Core.Path.{_≡_, refl, ap}
+use mathlib.Core.Logic.{inl, inr}
+use mathlib.Core.Bool.{true, false}
+use mathlib.Core.List.{List, [], _∷_, _++_}
+use native.Mathlib.Omega.{arith}
+use lib.ListN.{length, take, drop, getD, length-drop}
+use lib.Seq.{take-suc}
+use native.Mathlib.Numerals.{add-one}
+use borrow.Author.Tests.{lt-ltb, le-ltb}
+use Rattle.classes.specs.Classes.{hexdig}
+use Rattle.classes.specs.Runs.{run}
+use Rattle.classes.proofs.Conds.{cond-case, by-lt}
+use Rattle.classes.proofs.RunLaws.{run-le}
+use Rattle.text.specs.Utf8.{encodeScalar}
+use Rattle.text.specs.Utf8Read.{isScalar}
+use Rattle.text.proofs.EncodeLaws.{encode-1, encode-length, true-scalar}
+use Rattle.strings.specs.declared.Piece.{Piece}
+use Rattle.strings.specs.Pieces.{charPiece}
+use Rattle.strings.specs.Escapes.{simpleEscape, hexLength, hexValue, hexFrom, hexPiece, escapePiece}
+use Rattle.strings.proofs.Choices.{by-eq, there}
+use Rattle.strings.proofs.Fine.{FineAt, fine-char}
+
+-- ---- letters
+
+-- a letter that has a character is one byte that is there, and so is the character
+abbrev Simple : ℕ → ℕ → Type 0
+Simple b c = 0 < c → (0x22 ≤ b) × (b < 0x80) × (c < 0x80)
+
+pub simple-ascii : (b : ℕ) → Simple b (simpleEscape b)
+unfolding simpleEscape
+simple-ascii b =
+    by-eq (Simple b) b 0x22 (λ e z. omega arith)
+    λ e. by-eq (Simple b) b 0x5C (λ e z. omega arith)
+    λ e. by-eq (Simple b) b 0x62 (λ e z. omega arith)
+    λ e. by-eq (Simple b) b 0x66 (λ e z. omega arith)
+    λ e. by-eq (Simple b) b 0x6E (λ e z. omega arith)
+    λ e. by-eq (Simple b) b 0x72 (λ e z. omega arith)
+    λ e. by-eq (Simple b) b 0x74 (λ e z. omega arith) (λ e z. omega arith)
+
+-- a letter that asks for digits asks for four to eight
+abbrev Hex : ℕ → ℕ → Type 0
+Hex b n = 0 < n → (0x22 ≤ b) × (b < 0x80) × (4 ≤ n) × (n ≤ 8)
+
+pub hex-letter : (b : ℕ) → Hex b (hexLength b)
+unfolding hexLength
+hex-letter b =
+    by-eq (Hex b) b 0x75 (λ e z. omega arith)
+    λ e. by-eq (Hex b) b 0x55 (λ e z. omega arith) (λ e z. omega arith)
+
+-- ---- digits
+
+-- one more digit
+pub hex-snoc : (v : ℕ) (s : List ℕ) (b : ℕ) → hexFrom v (s ++ (b ∷ [])) ≡ hexFrom v s * 16 + hexValue b
+unfolding hexFrom
+hex-snoc v [] b = refl
+hex-snoc v (a ∷ s) b = hex-snoc (v * 16 + hexValue a) s b
+
+pub hex-more : (s : List ℕ) (i : ℕ) → i < length s → hexFrom 0 (take (i + 1) s) ≡ hexFrom 0 (take i s) * 16 + hexValue (getD s i 0)
+hex-more s i h = rw (add-one, take-suc s i 0 h) (hex-snoc 0 (take i s) (getD s i 0))
+
+-- ---- pieces, case by case
+
+module _ (n at : ℕ) (s : List ℕ) where
+  pub hex-few : (k : ℕ) → k ≡ run hexdig s → k < n → charPiece (2 + k) 0xFFFD 9 (at + (2 + k)) ≡ hexPiece n at s
+  unfolding hexPiece
+  hex-few k e h =
+      let l : run hexdig s < n = omega arith in
+      rw (lt-ltb _ _ l, e)
+
+  pub hex-char : (v : ℕ) → n ≤ run hexdig s → v ≡ hexFrom 0 (take n s) → isScalar v ≡ true → charPiece (2 + n) v 0 0 ≡ hexPiece n at s
+  unfolding hexPiece
+  hex-char v h e t = rw (le-ltb _ _ h, ← e, t)
+
+  pub hex-none : (v : ℕ) → n ≤ run hexdig s → v ≡ hexFrom 0 (take n s) → isScalar v ≡ false → charPiece (2 + n) 0xFFFD 10 (at + 2) ≡ hexPiece n at s
+  unfolding hexPiece
+  hex-none v h e t = rw (le-ltb _ _ h, ← e, t)
+
+module _ (at : ℕ) (s : List ℕ) where
+  pub escape-hex : (n : ℕ) → n ≡ hexLength (getD s 0 0) → 0 < n → hexPiece n at (drop 1 s) ≡ escapePiece at s
+  unfolding escapePiece
+  escape-hex n e h = rw (← e, lt-ltb _ _ h)
+
+  pub escape-simple : (n c : ℕ) → n ≡ hexLength (getD s 0 0) → n ≤ 0 → c ≡ simpleEscape (getD s 0 0) → 0 < c → charPiece 2 c 0 0 ≡ escapePiece at s
+  unfolding escapePiece
+  escape-simple n c e h f l = rw (← e, le-ltb _ _ h, ← f, lt-ltb _ _ l)
+
+  pub escape-none : (n c : ℕ) → n ≡ hexLength (getD s 0 0) → n ≤ 0 → c ≡ simpleEscape (getD s 0 0) → c ≤ 0 → charPiece 1 0x5C 8 (at + 1) ≡ escapePiece at s
+  unfolding escapePiece
+  escape-none n c e h f l = rw (← e, le-ltb _ _ h, ← f, le-ltb _ _ l)
+
+-- ---- they are fine
+
+replacement : length (encodeScalar 0xFFFD) ≡ 3
+unfolding encodeScalar
+replacement = refl
+
+-- n digits asked for behind the first two bytes of s
+module _ (n at : ℕ) (s t : List ℕ) (four : 4 ≤ n) (long : 2 + length t ≤ length s) where
+  pub hex-fine : FineAt (hexPiece n at t) s
+  unfolding hexPiece
+  hex-fine =
+      let r = run-le hexdig t in
+      by-lt (λ (p : Piece). FineAt p s) (run hexdig t) n
+      (λ h. fine-char _ 0xFFFD 9 _ s (omega arith) (omega arith) (inr (omega arith)) (omega (arith, replacement)) (λ z. omega arith))
+      λ h. cond-case (λ (p : Piece). FineAt p s) (isScalar (hexFrom 0 (take n t)))
+      (λ v.
+      let size = encode-length (hexFrom 0 (take n t)) in
+      fine-char _ _ 0 0 s (omega arith) (omega arith) (true-scalar _ v) (omega arith) (λ z. omega arith))
+      (λ v. fine-char _ 0xFFFD 10 _ s (omega arith) (omega arith) (inr (omega arith)) (omega (arith, replacement)) (λ z. omega arith))
+
+-- an escape, where t stands behind the backslash at the front of s
+module _ (at : ℕ) (s t : List ℕ) (long : length s ≡ suc (length t)) where
+  pub escape-fine : FineAt (escapePiece at t) s
+  unfolding escapePiece
+  escape-fine =
+      let b = getD t 0 0 in
+      by-lt (λ (p : Piece). FineAt p s) 0 (hexLength b)
+      (λ h.
+      let l = hex-letter b h in
+      let k = there t 0 (omega arith) in
+      hex-fine (hexLength b) at s (drop 1 t) (l .2) (omega (arith, length-drop 1 t)))
+      λ h. by-lt (λ (p : Piece). FineAt p s) 0 (simpleEscape b)
+      (λ h.
+      let l = simple-ascii b h in
+      let k = there t 0 (omega arith) in
+      let one : length (encodeScalar (simpleEscape b)) ≡ 1 = ap length (encode-1 _ (l .2)) in
+      fine-char 2 _ 0 0 s (omega arith) (omega arith) (inl (omega arith)) (omega arith) (λ z. omega arith))
+      (λ h.
+      let one : length (encodeScalar 0x5C) ≡ 1 = ap length (encode-1 0x5C (omega arith)) in
+      fine-char 1 0x5C 8 _ s (omega arith) (omega arith) (inl (omega arith)) (omega arith) (λ z. omega arith))

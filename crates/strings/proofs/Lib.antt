@@ -1,0 +1,13 @@
+pub mod Choices
+pub mod PieceLaws
+pub mod StoreLaws
+pub mod Fine
+pub mod EscapeLaws
+pub mod BodyLaws
+pub mod MarkLaws
+pub mod LoopLaws
+pub mod DecodeLaws
+pub mod Bounds
+pub mod AsciiLaws
+pub mod Utf8Laws
+pub mod AnswerLaws

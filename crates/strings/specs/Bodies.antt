@@ -1,0 +1,89 @@
+-- RULE. The piece at the front of each kind of body, whose first byte stands at place `at` of the text. A run of bytes
+-- that stand for themselves is one piece. Errors 2, 4, 5, 7, 12 and 15 keep their bytes; 13 gives nothing, and neither
+-- does a CR within a line-ending escape.
+-- Assumes nothing.
+use Prim.Native.Nat.{ℕ, _+_}
+use mathlib.Core.Bool.{Bool, cond, _&&_, _||_}
+use mathlib.Core.List.{List}
+use lib.Dec.{eqb}
+use lib.ListN.{drop, getD}
+use Rattle.classes.specs.Classes.{wschar, literalChar, basicUnescaped, unquotedChar}
+use Rattle.classes.specs.Runs.{run}
+use Rattle.strings.specs.declared.Piece.{Piece}
+use Rattle.strings.specs.declared.Encoding.{Encoding}
+use Rattle.strings.specs.declared.Encoding.the-variants.{LiteralString, BasicString, MlLiteralString, MlBasicString, UnquotedKey}
+use Rattle.strings.specs.Encodings.{mllPlain, mlbPlain, basicInvalid, mlbInvalid}
+use Rattle.strings.specs.Pieces.{Pieces, copyPiece, dropPiece}
+use Rattle.strings.specs.Escapes.{escapePiece}
+
+-- a byte that is not allowed in a literal string: error 2 at it
+unfoldable pub literalPiece : ℕ → List ℕ → Piece
+literalPiece at s =
+    cond (literalChar (getD s 0 0)) (copyPiece (run literalChar s) 0 at at)
+    (copyPiece 1 2 at at)
+
+-- a CR: error 4 behind it, unless the byte there is an LF
+abbrev pub crError : ℕ → ℕ
+crError next = cond (eqb next 0x0A) 0 4
+
+-- a byte that is not allowed in an ml-literal string: error 5 at it
+unfoldable pub mlLiteralPiece : ℕ → List ℕ → Piece
+mlLiteralPiece at s =
+    cond (mllPlain (getD s 0 0)) (copyPiece (run mllPlain s) 0 at at)
+    (cond (eqb (getD s 0 0) 0x0D) (copyPiece 1 (crError (getD s 1 0)) (at + 1) (at + 1))
+    (copyPiece 1 5 at at))
+
+-- bytes that are not allowed in a basic string: error 7 at their whole run
+unfoldable pub basicPiece : ℕ → List ℕ → Piece
+basicPiece at s =
+    cond (basicUnescaped (getD s 0 0)) (copyPiece (run basicUnescaped s) 0 at at)
+    (cond (eqb (getD s 0 0) 0x5C) (escapePiece at (drop 1 s))
+    (copyPiece (run basicInvalid s) 7 at (at + run basicInvalid s)))
+
+-- what a line-ending escape drops: blanks, LF and CR
+unfoldable pub skips : ℕ → Bool
+skips b = wschar b || (eqb b 0x0A || eqb b 0x0D)
+
+-- a line-ending escape's own line, whose backslash is at place `at`: w blanks, and then the bytes b and next
+abbrev pub lineEnd : ℕ → ℕ → ℕ → ℕ → Piece
+lineEnd at w b next =
+    cond (eqb b 0x0A) (dropPiece (2 + w) 0 0)
+    (cond (eqb b 0x0D) (cond (eqb next 0x0A) (dropPiece (3 + w) 0 0) (dropPiece (2 + w) 4 (at + (2 + w))))
+    (dropPiece (1 + w) 13 (at + (1 + w))))
+
+-- mlb-escaped-nl = escape ws newline *( wschar / newline )
+-- the backslash, the blanks behind it and the newline; s stands behind the backslash. No newline: error 13 behind the blanks
+unfoldable pub escapedNl : ℕ → List ℕ → Piece
+escapedNl at s = lineEnd at (run wschar s) (getD s (run wschar s) 0) (getD s (run wschar s + 1) 0)
+
+-- what it drops in the lines that follow, a piece for each blank and each newline
+unfoldable pub escapedMore : ℕ → List ℕ → Piece
+escapedMore at s =
+    cond (eqb (getD s 0 0) 0x0D) (cond (eqb (getD s 1 0) 0x0A) (dropPiece 2 0 0) (dropPiece 1 4 (at + 1)))
+    (dropPiece 1 0 0)
+
+-- bytes that are not allowed in an ml-basic string: error 12 at their run, which ends at a CR too
+unfoldable pub mlbContent : ℕ → List ℕ → Piece
+mlbContent at s =
+    cond (mlbPlain (getD s 0 0)) (copyPiece (run mlbPlain s) 0 at at)
+    (cond (eqb (getD s 0 0) 0x5C) (cond (skips (getD s 1 0)) (escapedNl at (drop 1 s)) (escapePiece at (drop 1 s)))
+    (cond (eqb (getD s 0 0) 0x0D) (cond (eqb (getD s 1 0) 0x0A) (copyPiece 2 0 at at) (copyPiece 1 4 (at + 1) (at + 1)))
+    (copyPiece (run mlbInvalid s) 12 at (at + run mlbInvalid s))))
+
+-- within a line-ending escape, what it drops comes first
+unfoldable pub mlBasicPiece : Bool → ℕ → List ℕ → Piece
+mlBasicPiece dropping at s = cond (dropping && skips (getD s 0 0)) (escapedMore at s) (mlbContent at s)
+
+-- a byte that is not allowed in a key: error 15 at it
+unfoldable pub keyPiece : ℕ → List ℕ → Piece
+keyPiece at s =
+    cond (unquotedChar (getD s 0 0)) (copyPiece (run unquotedChar s) 0 at at)
+    (copyPiece 1 15 at at)
+
+-- the kinds; only an ml-basic body has line-ending escapes
+abbrev pub pieceOf : Encoding → Pieces
+pieceOf LiteralString dropping at s = literalPiece at s
+pieceOf MlLiteralString dropping at s = mlLiteralPiece at s
+pieceOf BasicString dropping at s = basicPiece at s
+pieceOf MlBasicString dropping at s = mlBasicPiece dropping at s
+pieceOf UnquotedKey dropping at s = keyPiece at s

@@ -1,0 +1,63 @@
+-- RULE. A backslash and what it stands for: errors 8, 9 and 10. What the two letters of the hex escapes and the seven of
+-- the others are is said here and nowhere else.
+-- Assumes nothing.
+use Prim.Native.Nat.{ℕ, _+_, _-_, _*_}
+use mathlib.Core.Bool.{cond}
+use mathlib.Core.List.{List, [], _∷_}
+use lib.Dec.{eqb, ltb}
+use lib.ListN.{take, drop, getD}
+use Rattle.classes.specs.Classes.{hexdig}
+use Rattle.classes.specs.Runs.{run}
+use Rattle.text.specs.Utf8Read.{isScalar}
+use Rattle.strings.specs.declared.Piece.{Piece}
+use Rattle.strings.specs.Pieces.{charPiece}
+
+-- escape-seq-char =  %x22         ; "    quotation mark  U+0022
+-- escape-seq-char =/ %x5C         ; \    reverse solidus U+005C
+-- escape-seq-char =/ %x62         ; b    backspace       U+0008
+-- escape-seq-char =/ %x66         ; f    form feed       U+000C
+-- escape-seq-char =/ %x6E         ; n    line feed       U+000A
+-- escape-seq-char =/ %x72         ; r    carriage return U+000D
+-- escape-seq-char =/ %x74         ; t    tab             U+0009
+-- the character of a letter, 0 where it has none
+unfoldable pub simpleEscape : ℕ → ℕ
+simpleEscape b =
+    cond (eqb b 0x22) 0x22
+    (cond (eqb b 0x5C) 0x5C
+    (cond (eqb b 0x62) 0x08
+    (cond (eqb b 0x66) 0x0C
+    (cond (eqb b 0x6E) 0x0A
+    (cond (eqb b 0x72) 0x0D
+    (cond (eqb b 0x74) 0x09
+    0))))))
+
+-- escape-seq-char =/ %x75 4HEXDIG ; uXXXX                U+XXXX
+-- escape-seq-char =/ %x55 8HEXDIG ; UXXXXXXXX            U+XXXXXXXX
+-- how many digits a letter asks for, 0 where it asks for none
+unfoldable pub hexLength : ℕ → ℕ
+hexLength b = cond (eqb b 0x75) 4 (cond (eqb b 0x55) 8 0)
+
+-- the value of a hex digit: 0 to 9, A to F, a to f
+unfoldable pub hexValue : ℕ → ℕ
+hexValue b = cond (ltb b 0x41) (b - 0x30) (cond (ltb b 0x61) (b - 0x37) (b - 0x57))
+
+-- the number that digits have, read from left to right after v
+unfoldable pub hexFrom : ℕ → List ℕ → ℕ
+hexFrom v [] = v
+hexFrom v (b ∷ s) = hexFrom (v * 16 + hexValue b) s
+
+-- \u or \U at place `at`, with n digits to come in s. Fewer: error 9 behind those that are there. No scalar value: error
+-- 10 at the first digit. Either gives U+FFFD.
+unfoldable pub hexPiece : ℕ → ℕ → List ℕ → Piece
+hexPiece n at s =
+    cond (ltb (run hexdig s) n) (charPiece (2 + run hexdig s) 0xFFFD 9 (at + (2 + run hexdig s)))
+    (cond (isScalar (hexFrom 0 (take n s))) (charPiece (2 + n) (hexFrom 0 (take n s)) 0 0)
+    (charPiece (2 + n) 0xFFFD 10 (at + 2)))
+
+-- a backslash at place `at`, with s behind it. Behind it the end or another letter: error 8 there, and the backslash is
+-- given alone.
+unfoldable pub escapePiece : ℕ → List ℕ → Piece
+escapePiece at s =
+    cond (ltb 0 (hexLength (getD s 0 0))) (hexPiece (hexLength (getD s 0 0)) at (drop 1 s))
+    (cond (ltb 0 (simpleEscape (getD s 0 0))) (charPiece 2 (simpleEscape (getD s 0 0)) 0 0)
+    (charPiece 1 0x5C 8 (at + 1)))

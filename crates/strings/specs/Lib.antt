@@ -1,0 +1,6 @@
+pub mod Encodings
+pub mod Pieces
+pub mod Escapes
+pub mod Bodies
+pub mod Marks
+pub mod Decoding

@@ -1,0 +1,80 @@
+-- RULE. The marks of a text and the body between them. A mark that is missing is simply not removed; but an ml-literal
+-- text without its closing loses all its trailing apostrophes.
+-- Assumes nothing.
+use Prim.Native.Nat.{ℕ, suc, _+_, _-_}
+use mathlib.Core.Bool.{Bool, true, false, cond, _&&_}
+use mathlib.Core.List.{List, [], _∷_}
+use lib.Dec.{eqb, leb, ltb}
+use lib.ListN.{length, take, drop, getD}
+use Rattle.strings.specs.declared.Encoding.{Encoding}
+use Rattle.strings.specs.declared.Encoding.the-variants.{LiteralString, BasicString, MlLiteralString, MlBasicString, UnquotedKey}
+use Rattle.strings.specs.declared.Ends.{Ends}
+
+-- ---- one mark q at each end
+
+abbrev pub opens : ℕ → List ℕ → Bool
+opens q t = ltb 0 (length t) && eqb (getD t 0 0) q
+
+-- a closing mark behind the first n bytes, of which the opening is one
+abbrev pub closes : ℕ → ℕ → List ℕ → Bool
+closes n q t = ltb n (length t) && eqb (getD t (length t - 1) 0) q
+
+unfoldable pub lineEnds : ℕ → List ℕ → Ends
+lineEnds q t =
+    let n : ℕ = cond (opens q t) 1 0 in
+    record { opened = opens q t; closed = closes n q t; start = n; end = cond (closes n q t) (length t - 1) (length t) }
+
+-- ---- three marks q at each end, and a newline behind the opening
+
+-- three marks at the front
+unfoldable pub threes : ℕ → List ℕ → Bool
+threes q s = leb 3 (length s) && (eqb (getD s 0 0) q && (eqb (getD s 1 0) q && eqb (getD s 2 0) q))
+
+-- how long a newline at the front is: LF, or CR LF
+unfoldable pub newlineLen : List ℕ → ℕ
+newlineLen s = cond (eqb (getD s 0 0) 0x0A) 1 (cond (eqb (getD s 0 0) 0x0D && eqb (getD s 1 0) 0x0A) 2 0)
+
+-- the body starts behind the opening, where it is there, and behind a newline right after
+unfoldable pub mlStart : Bool → List ℕ → ℕ
+mlStart opened t = cond opened 3 0 + newlineLen (drop (cond opened 3 0) t)
+
+-- three marks at the end, none of them before the body's start
+unfoldable pub mlClosed : ℕ → ℕ → List ℕ → Bool
+mlClosed q start t = leb (start + 3) (length t) && threes q (drop (length t - 3) t)
+
+-- the length without the marks at the end
+unfoldable pub trimmed : ℕ → List ℕ → ℕ
+trimmed q [] = 0
+trimmed q (b ∷ r) = cond (eqb (trimmed q r) 0) (cond (eqb b q) 0 1) (suc (trimmed q r))
+
+-- the body ends before the closing; where that is missing, before the marks that are there, or at the text's end
+unfoldable pub mlEnd : Bool → ℕ → ℕ → List ℕ → Bool → ℕ
+mlEnd trims q start t closed = cond closed (length t - 3) (cond trims (start + trimmed q (drop start t)) (length t))
+
+unfoldable pub mlEnds : Bool → ℕ → List ℕ → Ends
+mlEnds trims q t =
+    let start : ℕ = mlStart (threes q t) t in
+    record {
+      opened = threes q t;
+      closed = mlClosed q start t;
+      start = start;
+      end = mlEnd trims q start t (mlClosed q start t);
+    }
+
+-- ---- a key has no marks; in their place it has to be there
+
+unfoldable pub keyEnds : List ℕ → Ends
+keyEnds t = record { opened = ltb 0 (length t); closed = true; start = 0; end = length t }
+
+-- ---- the kinds
+
+abbrev pub endsOf : Encoding → List ℕ → Ends
+endsOf LiteralString t = lineEnds 0x27 t
+endsOf MlLiteralString t = mlEnds true 0x27 t
+endsOf BasicString t = lineEnds 0x22 t
+endsOf MlBasicString t = mlEnds false 0x22 t
+endsOf UnquotedKey t = keyEnds t
+
+-- the bytes from the start to the end
+abbrev pub bodyOf : Ends → List ℕ → List ℕ
+bodyOf d t = take (d .end - d .start) (drop (d .start) t)

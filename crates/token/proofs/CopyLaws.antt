@@ -1,0 +1,32 @@
+-- A copy, byte by byte, to the front of a run: its turn, and what it leaves of zeros.
+-- Assumes nothing.
+use Prim.Native.Nat.{ℕ, zero, suc, _+_, _-_, _≤_, _<_}
+use mathlib.Core.Path.{_≡_, refl, ap, _∙_, subst}
+use mathlib.Core.List.{List, [], _∷_, _++_}
+use native.Mathlib.Numerals.{add-one}
+use native.Mathlib.Omega.{arith}
+use lib.ListN.{length, getD, take, drop, set, replicate}
+use lib.Seq.{paste, paste-suc, take-length}
+
+module _ (d s bytes : List ℕ) where
+  pub copy-turn : (i : ℕ) → i < length d → i < length s → bytes ≡ paste d 0 s i → set bytes i (getD s i 0) ≡ paste d 0 s (i + 1)
+  copy-turn i l h e =
+      let same : 0 + i ≡ i = omega arith in
+      let l′ : 0 + i < length d = omega arith in
+      rw (e, add-one i) (subst (λ (k : ℕ). set (paste d 0 s i) k (getD s i 0) ≡ paste d 0 s (suc i)) same (paste-suc d 0 s i 0 l′ h))
+
+abbrev pub zeros : ℕ → List ℕ
+zeros n = replicate n 0
+
+drop-zeros : (k n : ℕ) → k ≤ n → drop k (zeros n) ≡ zeros (n - k)
+drop-zeros zero n h = let same : n ≡ n - 0 = omega arith in ap zeros same
+drop-zeros (suc k) zero h = absurd (omega arith)
+drop-zeros (suc k) (suc n) h = let same : n - k ≡ suc n - suc k = omega arith in drop-zeros k n (omega arith) ∙ ap zeros same
+
+pub copy-end : (n i : ℕ) (s bytes : List ℕ) → length s ≤ n → i ≡ length s → bytes ≡ paste (zeros n) 0 s i
+    → bytes ≡ s ++ zeros (n - length s)
+copy-end n i s bytes l e h =
+    let all : take i s ≡ s = ap (λ (k : ℕ). take k s) e ∙ take-length s in
+    let same : 0 + i ≡ length s = omega arith in
+    let left : drop (0 + i) (zeros n) ≡ zeros (n - length s) = ap (λ (k : ℕ). drop k (zeros n)) same ∙ drop-zeros (length s) n l in
+    h ∙ ap (λ (t : List ℕ). t ++ drop (0 + i) (zeros n)) all ∙ ap (λ (t : List ℕ). s ++ t) left

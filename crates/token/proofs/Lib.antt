@@ -1,0 +1,5 @@
+pub mod ChoiceLaws
+pub mod CopyLaws
+pub mod KindLaws
+pub mod NumberLaws
+pub mod OneAnswer

@@ -1,0 +1,4 @@
+pub mod KindNumbers
+pub mod Descriptions
+pub mod Encodings
+pub mod Records

@@ -1,0 +1,19 @@
+-- RULE. A token is its kind and its span; its record is three numbers.
+-- Assumes nothing.
+use Prim.Native.Nat.{ℕ}
+use mathlib.Core.List.{List, [], _∷_}
+use Rattle.token.specs.declared.TokenKind.{TokenKind}
+use Rattle.token.specs.declared.Span.{Span}
+use Rattle.token.specs.declared.Token.{Token}
+use Rattle.token.specs.KindNumbers.{kindNumber}
+
+abbrev pub spanOf : ℕ → ℕ → Span
+spanOf start end = record { start = start; end = end }
+
+-- the one place where a token is made
+abbrev pub tokenOf : TokenKind → ℕ → ℕ → Token
+tokenOf kind start end = record { kind = kind; span = spanOf start end }
+
+-- the one place where a token is read into a record: kind number, start, end
+abbrev pub recordOf : Token → List ℕ
+recordOf t = kindNumber (t .kind) ∷ t .span .start ∷ t .span .end ∷ []

@@ -1,0 +1,168 @@
+// Runs the worked examples of tokens, spans and places, and each refusal but 2 (whose documents no
+// program's stack can hold), through the calls; the file `stdout` says what must come out.
+use lexer::Cursor;
+use lexer::Lexed;
+use lexer::Start;
+use lexer::Step;
+use libc::STDOUT_FILENO;
+use place::Position;
+use place::SpanCheck;
+use text::Refusal;
+use token::Answer;
+use token::Span;
+use token::Token;
+use token::TokenKind;
+
+fn say(words: &[u8]) {
+    io::write_all(STDOUT_FILENO, words);
+}
+
+fn number(n: usize, last: &[u8]) {
+    io::print_decimal(STDOUT_FILENO, n as u64);
+    io::write_all(STDOUT_FILENO, last);
+}
+
+fn refused(r: Refusal) {
+    say(b"refused ");
+    number(r.number(), b" ");
+    number(r.value(), b"\n");
+}
+
+fn row(kind: usize, start: usize, end: usize) {
+    number(kind, b" ");
+    number(start, b" ");
+    number(end, b"\n");
+}
+
+fn rows(records: &[[usize; 3]], count: usize) {
+    let mut i = 0;
+    while i < records.len() {
+        if count <= i {
+            return;
+        }
+        let r = records[i];
+        row(r[0], r[1], r[2]);
+        i += 1;
+    }
+}
+
+// Whole lexing, with more records than tokens: those behind the last written are still 9 9 9.
+fn tokens(doc: &[u8]) {
+    let mut records = [[9usize; 3]; 8];
+    match lexer::lex(doc, &mut records) {
+        Lexed::Tokens(count) => {
+            rows(&records, 8);
+            number(count, b" tokens\n");
+        }
+        Lexed::Refused(r) => {
+            refused(r);
+            rows(&records, 1);
+        }
+    }
+}
+
+// Whole lexing with two records.
+fn tokens_in_two(doc: &[u8]) {
+    let mut records = [[9usize; 3]; 2];
+    match lexer::lex(doc, &mut records) {
+        Lexed::Tokens(count) => number(count, b" tokens\n"),
+        Lexed::Refused(r) => refused(r),
+    }
+    rows(&records, 2);
+}
+
+fn token(t: Token, c: Cursor) {
+    let kind = t.kind;
+    row(kind.number(), t.span.start, t.span.end);
+    number(c.place, b" next\n");
+}
+
+fn step(doc: &[u8], place: usize, ended: bool) {
+    let c = Cursor { place, ended };
+    match c.step(doc) {
+        Step::Token(t, next) => token(t, next),
+        Step::End => say(b"end\n"),
+        Step::Refused(r) => refused(r),
+    }
+}
+
+fn start(doc: &[u8]) {
+    match Cursor::start(doc) {
+        Start::At(c) => number(c.place, b" start\n"),
+        Start::Refused(r) => refused(r),
+    }
+}
+
+fn span(doc: &[u8], start: usize, end: usize) {
+    let s = Span::new(start, end);
+    match place::check_span(doc, s) {
+        SpanCheck::Whole => say(b"whole\n"),
+        SpanCheck::Refused(r) => refused(r),
+    }
+    let text = place::text_of(doc, s);
+    say(text);
+    say(b"|\n");
+}
+
+fn position(doc: &[u8], offset: usize) {
+    match place::position_of(doc, offset) {
+        Position::At { line, column } => {
+            number(line, b" ");
+            number(column, b"\n");
+        }
+        Position::Refused(r) => refused(r),
+    }
+}
+
+fn answered(a: Answer) {
+    match a {
+        Answer::Given => say(b"given\n"),
+        Answer::Refused(r) => refused(r),
+    }
+}
+
+fn kind(n: usize) {
+    let d = TokenKind::description(n);
+    let a = d.answer;
+    let bytes = d.bytes;
+    answered(a);
+    number(d.len, b" ");
+    say(&bytes);
+    say(b"\n");
+    let e = TokenKind::encoding(n);
+    let b = e.answer;
+    answered(b);
+    number(e.number, b"\n");
+}
+
+fn main() {
+    tokens(b"");
+    tokens(b"\xEF\xBB\xBF");
+    tokens(b"'''a'''''");
+    tokens(b"'''a''''''");
+    tokens(b"'a\r\n");
+    tokens(b"#x\ry");
+    tokens(b"a\"b c");
+    tokens(b"a\xFF");
+    tokens_in_two(b"a=");
+    tokens_in_two(b"a");
+    start(b"\xEF\xBB\xBFa");
+    start(b"a");
+    step(b"\xEF\xBB\xBFa", 0, false);
+    step(b"a=", 1, true);
+    step(b"a", 1, false);
+    step(b"a", 1, true);
+    step(b"a", 2, false);
+    span(b"\xC3\xA9=1", 0, 2);
+    span(b"\xC3\xA9=1", 2, 4);
+    span(b"\xC3\xA9=1", 1, 2);
+    span(b"\xC3\xA9=1", 0, 1);
+    span(b"\xC3\xA9=1", 3, 2);
+    span(b"\xC3\xA9=1", 0, 5);
+    position(b"\xC3\xA9=1", 2);
+    position(b"a\nb", 3);
+    position(b"a\nb", 4);
+    kind(1);
+    kind(3);
+    kind(5);
+}

@@ -1,0 +1,250 @@
+#!/usr/bin/env python3
+"""Makes what the program `answers` is run on and held to: crates/answers/stdin and crates/answers/stdout.
+
+    tests/make_answers.py            writes them, and prints how many lines each section has
+    tests/make_answers.py --check    writes nothing; fails if what is committed is not what would be written
+
+A line is a call; what is expected of it comes from its section's source, and the sections are held to
+each other: what tests/scope.txt, the published suite and the vectors expect is what tests/reference.py
+answers, or this script fails. tests/README.md says more. No line's answer comes from `answers` itself.
+"""
+import itertools
+import json
+import pathlib
+import sys
+
+sys.dont_write_bytecode = True
+import reference
+
+TESTS = pathlib.Path(__file__).resolve().parent
+CRATE = TESTS.parent / 'crates' / 'answers'
+OUT_OF_SIGHT = TESTS / 'toml-test' / 'out-of-sight.txt'
+MAX = 2 ** 64 - 1
+DECODERS = (39, 34, 1, 2, 3)
+BOM = b'\xef\xbb\xbf'
+
+
+def call(name, *words):
+    return ' '.join([name] + [(word.hex() or '-') if isinstance(word, bytes) else str(word) for word in words]).encode()
+
+
+def by_reference(*calls):
+    return [(line, reference.answer(line)) for line in calls]
+
+
+def agreed(lines):
+    """Lines whose answers have a source of their own: the second implementation has to answer the same."""
+    for line, answer in lines:
+        if reference.answer(line) != answer:
+            sys.exit('%s: expected %s, tests/reference.py says %s' % (line.decode(), answer.decode(), reference.answer(line).decode()))
+    return lines
+
+
+def read_lines(name):
+    return agreed([tuple(line.split(b' => ')) for line in (TESTS / name).read_bytes().splitlines()])
+
+
+# ---- 1: document 01's texts; 3: the vectors
+
+def scope():
+    return read_lines('scope.txt')
+
+
+def vectors():
+    return [line for name in ('lex', 'dec', 'utf8') for line in read_lines('vectors/%s.txt' % name)]
+
+
+# ---- 2: the published suite
+
+def cases():
+    return [json.loads(line) for line in (TESTS / 'toml-test' / 'cases.jsonl').read_text().splitlines()]
+
+
+def token_texts(case, kinds=reference.STRINGS):
+    doc = bytes.fromhex(case['hex'])
+    return [(kind, doc[start:end]) for kind, start, end in reference.tokens(doc) if kind in kinds]
+
+
+def valid_cases():
+    """Each document's tokens, by the second implementation, and each string value, by the suite."""
+    out = []
+    for case in cases():
+        if case['valid'] and case['toml10']:
+            doc = bytes.fromhex(case['hex'])
+            out += by_reference(call('lex', doc))
+            for value in case['strings']:
+                token = value['kind'], value['start'], value['end']
+                if token not in reference.tokens(doc):
+                    sys.exit('%s: no token %s' % (case['name'], token))
+                out.append((call('dec', value['kind'], doc[value['start']:value['end']]), (value['hex'] or '-').encode() + b' | -'))
+    return agreed(out)
+
+
+def left_out_cases():
+    """The valid cases that the suite leaves out for TOML 1.0.0: an escape that it does not have, error 8."""
+    out = []
+    for case in cases():
+        if case['valid'] and not case['toml10']:
+            lines = by_reference(*[call('dec', kind, text) for kind, text in token_texts(case)])
+            if not any(b'| 8 ' in answer for _, answer in lines):
+                sys.exit('%s: no error 8' % case['name'])
+            out += lines
+    return out
+
+
+def invalid_cases(seen):
+    return [case for case in cases() if not case['valid'] and case['seen'] == seen]
+
+
+def invalid_utf8():
+    out = by_reference(*[call('utf8', bytes.fromhex(case['hex'])) for case in invalid_cases('utf8')])
+    if not all(answer.startswith(b'1 ') for _, answer in out):
+        sys.exit('a case that is to be seen as no UTF-8 is not')
+    return out
+
+
+def invalid_strings():
+    """Of each case the string tokens that report an error: one at least."""
+    out = []
+    for case in invalid_cases('string'):
+        lines = by_reference(*[call('dec', kind, text) for kind, text in token_texts(case)])
+        wrong = [(line, answer) for line, answer in lines if not answer.endswith(b' | -')]
+        if not wrong:
+            sys.exit('%s: no string reports an error' % case['name'])
+        out += by_reference(call('lex', bytes.fromhex(case['hex']))) + wrong
+    return out
+
+
+def out_of_sight():
+    for case in invalid_cases('no'):
+        if reference.check(bytes.fromhex(case['hex'])) or any(reference.decode(*token)[1] for token in token_texts(case)):
+            sys.exit('%s: said to be out of sight, and is seen' % case['name'])
+    return ''.join(case['name'] + '\n' for case in invalid_cases('no')).encode()
+
+
+# ---- 4: boundaries, by the second implementation
+
+def around(n):
+    """None, one short, exact, one more."""
+    return sorted({0, max(n - 1, 0), n, n + 1})
+
+
+def lent_records():
+    documents = [b'', b'a', BOM, b'a = "b"\n', b"'''a''''''", b'\xff', b'a\xff', BOM + b'.\xc3']
+    return by_reference(*[call('lexcap', cap, doc) for doc in documents for cap in around(len(reference.tokens(doc)))])
+
+
+def lent_output():
+    texts = [(39, b"'a\x01b\x02"), (34, b'"\\u\\u\\u"'), (34, b'"abc"'), (1, b"'''\na\x01\r"), (2, b'"""\\q\\ \na\r'), (3, b'a\xc3\xa9'),
+             (3, b''), (39, b''), (1, b''), (5, b'a'), (5, b'\xff'), (39, b'a\xff')]
+    out = []
+    for kind, text in texts:
+        bytes_, errors = reference.decode(kind if kind in DECODERS else 3, text)
+        out += [call('deccap', kind, o, e, text) for o in around(len(bytes_)) for e in around(len(errors))]
+    return by_reference(*out)
+
+
+def sizes():
+    """Documents of 0, 1, 65,535, 65,536 and 65,537 bytes."""
+    small = [line for doc in (b'', b'a') for line in every_call(doc)]
+    short, whole = b'# ' + b'a' * 65533, b'"' + b'\xc3\xa9' * 32767 + b'"'
+    dots, escapes = b'.' * 65536, b'\\u' * 32768
+    large = [call('lex', short), call('lex', whole), call('utf8', whole), call('dec', 34, whole),
+             call('pos', 65536, b'\n' * 65536),
+             call('lexcap', 65536, dots), call('lexcap', 65537, dots), call('step', 65535, 0, dots),
+             call('deccap', 34, 98304, 32770, escapes), call('deccap', 34, 98303, 32770, escapes),
+             call('deccap', 39, 65537, 65539, b'\x01' * 65536), call('lex', dots + b'.')]
+    return by_reference(*small, *large)
+
+
+def every_call(doc):
+    return [call('lex', doc), call('utf8', doc), call('start', doc), call('step', 0, 0, doc), call('step', 0, 1, doc),
+            call('step', 1, 0, doc), call('step', 1, 1, doc), call('step', 2, 0, doc), call('span', 0, 0, doc),
+            call('span', 0, 1, doc), call('text', 0, 1, doc), call('pos', 0, doc), call('pos', 1, doc), call('pos', 2, doc)] + \
+           [call('dec', kind, doc) for kind in DECODERS]
+
+
+PLACES = [b'', b'a', '\u00e9=1'.encode(), BOM + b'a', b'a\nb\r\n\nc', 'a\u20ac\U0001f600'.encode(), b'\x80\xbf', b'"a\\"\n']
+
+
+def cursors():
+    starts = [call('start', doc) for doc in PLACES + [b'\xef', b'\xef\xbb', b'\xef\xbb\xbe', BOM, BOM + BOM, b'\xff']]
+    steps = [call('step', place, ended, doc) for doc in PLACES + [BOM, b'\xff', b"'''a\n'"] for ended in (0, 1)
+             for place in [*range(len(doc) + 2), MAX - 1, MAX]]
+    return by_reference(*starts, *steps)
+
+
+def spans():
+    out = []
+    for doc in PLACES:
+        ends = [*range(len(doc) + 2), MAX]
+        out += [call(name, a, e, doc) for a in ends for e in ends for name in ('span', 'text')]
+    return by_reference(*out)
+
+
+def positions():
+    return by_reference(*[call('pos', place, doc) for doc in PLACES for place in [*range(len(doc) + 2), MAX]])
+
+
+def kinds():
+    numbers = [*range(130), 255, 256, 65536, 2 ** 32 + 46, MAX]
+    return by_reference(*[call('desc', n) for n in numbers], *[call('dec', n, b'a') for n in numbers],
+                        *[call('dec', n, b'a\xff') for n in (0, 3, 4, MAX)])
+
+
+def every_byte():
+    """Each byte as a whole document, and between the marks of each kind."""
+    marks = {39: b"'", 34: b'"', 1: b"'''", 2: b'"""', 3: b'a'}
+    single = [bytes([b]) for b in range(256)]
+    return by_reference(*[call(name, doc) for doc in single for name in ('lex', 'utf8')],
+                        *[call('dec', kind, mark + b + mark) for kind, mark in marks.items() for b in single])
+
+
+def short_texts():
+    """All texts of up to three bytes over ten, lexed and by each decoder."""
+    texts = [bytes(t) for n in range(4) for t in itertools.product(b'\'"\\\n\r au#.', repeat=n)]
+    return by_reference(*[call('lex', text) for text in texts], *[call('dec', kind, text) for kind in DECODERS for text in texts])
+
+
+def wrong_lines():
+    """Lines that are no call. The last has no LF behind it."""
+    over = b'0' * 131200
+    return by_reference(
+        b'', b' ', b'-', b'lexx -', b'Lex -', b'le', b'lex\t-', b'\x00', b'\xff\xfe', b' lex -', b'=> 4 0 0', b'span0 0 -',
+        b'\x00lex -', b'lex\x00 -', b'xdeccap 39 0 0 -', b'deccapx 39 0 0 -', b'\x01lexcap 0 -', b'\x01\x6c\x65\x78 -',
+        b'lex', b'lex ', b'lex - ', b'lex  -', b'lex - -', b'lexcap -', b'dec 39', b'dec 39 - -', b'deccap 39 1 -', b'step 0 -',
+        b'span 0 -', b'text 0 0', b'pos -', b'desc', b'desc 1 -', b'utf8 0 -', b'start 0 -',
+        b'dec x -', b'dec  -', b'dec -1 -', b'dec +1 -', b'dec 0x1 -', b'dec 3\r -', b'dec 3. -', b'pos 18446744073709551616 -',
+        b'pos 99999999999999999999 -', b'pos 100000000000000000000000000000000000000000 -', b'desc -', b'desc 1_0',
+        b'pos 00000000000000000000000000000000000000000 -', b'desc 00000000000000000000000000000000000000039',
+        b'pos 18446744073709551615 -', b'step x 2 zz', b'span 0 x 6',
+        b'lex 6', b'lex 616', b'lex 6A', b'lex 6g', b'lex g6', b'lex --', b'lex 61-', b'lex 61\r', b'lex \xc3\xa9', b'lex 0x61',
+        b'step 0 2 -', b'step 0 18446744073709551615 -', b'step 9 2 6', b'step 00 01 -',
+        b'lexcap 65539 -', b'lexcap 65540 -', b'lexcap 18446744073709551615 -', b'lexcap 65540 6',
+        b'deccap 39 98305 65539 -', b'deccap 39 98306 0 -', b'deccap 39 0 65540 -', b'deccap 5 98306 65540 ff',
+        over, over + b'0', b'lex 6', b'lex ' + over, b'desc 4')
+
+
+SECTIONS = [scope, valid_cases, left_out_cases, invalid_utf8, invalid_strings, vectors, lent_records, lent_output, sizes, cursors, spans,
+            positions, kinds, every_byte, short_texts, wrong_lines]
+
+
+def main():
+    lines = []
+    for section in SECTIONS:
+        made = section()
+        lines += made
+        print('%6d  %s' % (len(made), section.__name__))
+    print('%6d  lines' % len(lines))
+    made = {CRATE / 'stdin': b'\n'.join(line for line, _ in lines),
+            CRATE / 'stdout': b''.join(line + b' => ' + answer + b'\n' for line, answer in lines),
+            OUT_OF_SIGHT: out_of_sight()}
+    for path, data in made.items():
+        if sys.argv[1:] != ['--check']:
+            path.write_bytes(data)
+        elif not path.exists() or path.read_bytes() != data:
+            sys.exit('%s is not what this script makes' % path.relative_to(TESTS.parent))
+
+
+if __name__ == '__main__':
+    main()

@@ -1,0 +1,397 @@
+#!/usr/bin/env python3
+"""A second implementation of the rules, apart from the proved one and written from the rules alone.
+
+It answers the same lines as the program `answers`: reads calls from standard input, a call a line, and
+writes each with ` => ` and its answer. Tests take expected answers from here where neither the rules'
+own examples nor the published suite have them. It is slow and plain on purpose: it shares no structure
+with the proved code (no pieces, no blocks, no tables), so that the two fail apart.
+
+    tests/reference.py < calls > answers
+"""
+import sys
+
+LIMIT = 16777216
+BOM = b'\xef\xbb\xbf'
+KINDS = {46: '`.`', 61: '`=`', 44: '`,`', 91: '`[`', 93: '`]`', 123: '`{`', 125: '`}`', 32: 'whitespace', 35: 'comment',
+         10: 'newline', 39: 'literal string', 34: 'basic string', 1: 'multi-line literal string',
+         2: 'multi-line basic string', 3: 'token', 4: 'end-of-input'}
+STRINGS = (39, 34, 1, 2)
+
+
+# ---- UTF-8
+
+def valid_prefix(doc):
+    try:
+        doc.decode('utf-8')
+        return len(doc)
+    except UnicodeDecodeError as broken:
+        return broken.start
+
+
+def check(doc):
+    """The refusal of the check, or None."""
+    if len(doc) > LIMIT:
+        return 2, LIMIT
+    n = valid_prefix(doc)
+    return None if n == len(doc) else (1, n)
+
+
+# ---- lexing
+
+def find(doc, at, targets):
+    """The earliest place from `at` on where one of the targets stands, and which; the end and None."""
+    best, which = len(doc), None
+    for target in targets:
+        i = doc.find(target, at)
+        if i >= 0 and i < best:
+            best, which = i, target
+    return best, which
+
+
+def quoted(doc, at, closing, stop):
+    """Behind an opening mark: through the closing, escapes observed for the quotation mark."""
+    basic = closing[:1] == b'"'
+    while True:
+        i, which = find(doc, at, [closing] + ([b'\\'] if basic else []) + ([b'\n'] if stop else []))
+        if which is None or which == b'\n':
+            return i, False
+        if which == closing:
+            return i + len(closing), True
+        at = i + (2 if doc[i + 1:i + 2] in (b'\\', b'"') else 1)
+
+
+def token(doc, at):
+    """The kind and the end of the token that starts at a place before the end."""
+    b = doc[at]
+    if b in b'.=,[]{}\n':
+        return b, at + 1
+    if b in b' \t':
+        end = at
+        while end < len(doc) and doc[end] in b' \t':
+            end += 1
+        return 32, end
+    if b == 0x23:
+        return 35, find(doc, at, [b'\r', b'\n'])[0]
+    if b == 0x0D:
+        return 10, at + (2 if doc[at + 1:at + 2] == b'\n' else 1)
+    if b in b'\'"':
+        mark = bytes([b])
+        if doc[at:at + 3] != mark * 3:
+            return b, quoted(doc, at + 1, mark, True)[0]
+        end, closed = quoted(doc, at + 3, mark * 3, False)
+        for _ in range(2):
+            if closed and doc[end:end + 1] == mark:
+                end += 1
+        return (1 if b == 0x27 else 2), end
+    end = at
+    while end < len(doc) and doc[end] not in b'.=,[]{} \t#\r\n':
+        end += 1
+    return 3, end
+
+
+def tokens(doc):
+    at = 3 if doc.startswith(BOM) else 0
+    out = []
+    while at < len(doc):
+        kind, end = token(doc, at)
+        out.append((kind, at, end))
+        at = end
+    return out + [(4, at, at)]
+
+
+# ---- decoding
+
+LITERAL = set([9]) | set(range(0x20, 0x27)) | set(range(0x28, 0x7F)) | set(range(0x80, 0x100))
+BASIC = set(b' \t!') | set(range(0x23, 0x5C)) | set(range(0x5D, 0x7F)) | set(range(0x80, 0x100))
+KEY = set(b'ABCDEFGHIJKLMNOPQRSTUVWXYZabcdefghijklmnopqrstuvwxyz0123456789-_')
+HEX = set(b'0123456789ABCDEFabcdef')
+SIMPLE = {0x62: 8, 0x66: 12, 0x6E: 10, 0x72: 13, 0x74: 9, 0x5C: 0x5C, 0x22: 0x22}
+REPLACEMENT = '\ufffd'.encode()
+
+
+def strip(text, mark, number, trims, newline):
+    """Where the body starts and ends, and the errors of missing marks."""
+    errors, start, end = [], 0, len(text)
+    if text.startswith(mark):
+        start = len(mark)
+    else:
+        errors.append((number, 0, 0))
+    if newline:
+        if text[start:start + 1] == b'\n':
+            start += 1
+        elif text[start:start + 2] == b'\r\n':
+            start += 2
+    if end - start >= len(mark) and text.endswith(mark):
+        end -= len(mark)
+    else:
+        errors.append((number, len(text), len(text)))
+        while trims and end > start and text[end - 1:end] == mark[:1]:
+            end -= 1
+    return start, end, errors
+
+
+def escape(text, at, end, errors):
+    """An escape whose backslash stands before `at`: its bytes, and the place behind it."""
+    b = text[at] if at < end else None
+    if b in SIMPLE:
+        return bytes([SIMPLE[b]]), at + 1
+    if b not in (0x75, 0x55):
+        errors.append((8, at, at))
+        return b'\\', at
+    want, first = (4 if b == 0x75 else 8), at + 1
+    at = first
+    while at < end and at - first < want and text[at] in HEX:
+        at += 1
+    if at - first < want:
+        errors.append((9, at, at))
+        return REPLACEMENT, at
+    value = int(text[first:at], 16)
+    if value > 0x10FFFF or 0xD800 <= value <= 0xDFFF:
+        errors.append((10, first, first))
+        return REPLACEMENT, at
+    return chr(value).encode(), at
+
+
+def line_ending(text, at, end, errors):
+    """A line-ending escape whose backslash stands before `at`: the place behind all that it drops."""
+    while at < end and text[at] in b' \t':
+        at += 1
+    if at < end and text[at] == 0x0A:
+        at += 1
+    elif at < end and text[at] == 0x0D:
+        at += 1
+        if at < end and text[at] == 0x0A:
+            at += 1
+        else:
+            errors.append((4, at, at))
+    else:
+        errors.append((13, at, at))
+    while at < end and text[at] in b' \t\r\n':
+        at += 1
+        if text[at - 1] == 0x0D:
+            if at < end and text[at] == 0x0A:
+                at += 1
+            else:
+                errors.append((4, at, at))
+    return at
+
+
+def decode_basic(text, ml):
+    start, end, errors = strip(text, b'"""' if ml else b'"', 11 if ml else 6, False, ml)
+    plain = BASIC | set(b'"\n') if ml else BASIC
+    stops = plain | set(b'\\\r') if ml else plain | set(b'\\')
+    out, at = b'', start
+    while at < end:
+        b = text[at]
+        if b in plain:
+            out, at = out + text[at:at + 1], at + 1
+        elif b == 0x5C and ml and at + 1 < end and text[at + 1] in b' \t\r\n':
+            at = line_ending(text, at + 1, end, errors)
+        elif b == 0x5C:
+            given, at = escape(text, at + 1, end, errors)
+            out += given
+        elif ml and b == 0x0D:
+            out, at = out + b'\r', at + 1
+            if at < end and text[at] == 0x0A:
+                out, at = out + b'\n', at + 1
+            else:
+                errors.append((4, at, at))
+        else:
+            first = at
+            while at < end and text[at] not in stops:
+                at += 1
+            out += text[first:at]
+            errors.append((12 if ml else 7, first, at))
+    return out, errors
+
+
+def decode_literal(text, ml):
+    start, end, errors = strip(text, b"'''" if ml else b"'", 3 if ml else 1, ml, ml)
+    for i in range(start, end):
+        b = text[i]
+        if ml and b in b"'\n":
+            continue
+        if ml and b == 0x0D:
+            if not (i + 1 < end and text[i + 1] == 0x0A):
+                errors.append((4, i + 1, i + 1))
+        elif b not in LITERAL:
+            errors.append((5 if ml else 2, i, i))
+    return text[start:end], errors
+
+
+def decode(kind, text):
+    if kind == 3:
+        return text, ([] if text else [(14, 0, 0)]) + [(15, i, i) for i, b in enumerate(text) if b not in KEY]
+    return decode_basic(text, kind == 2) if kind in (34, 2) else decode_literal(text, kind == 1)
+
+
+def decode_refusal(kind, text):
+    refusal = check(text)
+    return refusal or (None if kind in STRINGS + (3,) else (7, kind))
+
+
+# ---- the calls, as lines
+
+def hexed(data):
+    return data.hex() or '-'
+
+
+def records(rows):
+    return '; '.join(' '.join(map(str, row)) for row in rows) or '-'
+
+
+def refused(refusal):
+    return 'refused %d %d' % refusal
+
+
+def lex(doc):
+    refusal = check(doc)
+    return refused(refusal) if refusal else records(tokens(doc))
+
+
+def lexcap(cap, doc):
+    refusal = check(doc)
+    if not refusal:
+        needed = len(tokens(doc))
+        refusal = (3, needed) if cap < needed else (0, needed)
+    return '%d %d' % refusal
+
+
+def dec(kind, text):
+    refusal = decode_refusal(kind, text)
+    if refusal:
+        return refused(refusal)
+    out, errors = decode(kind, text)
+    return hexed(out) + ' | ' + records(errors)
+
+
+def deccap(kind, out_len, err_len, text):
+    refusal = decode_refusal(kind, text)
+    if refusal:
+        return '%d %d 0' % refusal
+    out, errors = decode(kind, text)
+    if out_len < len(out):
+        return '4 %d 0' % len(out)
+    if err_len < len(errors):
+        return '5 %d 0' % len(errors)
+    return '0 %d %d' % (len(out), len(errors))
+
+
+def start(doc):
+    if len(doc) > LIMIT:
+        return '2 %d 0 0' % LIMIT
+    return '0 0 %d 0' % (3 if doc.startswith(BOM) else 0)
+
+
+def step(place, ended, doc):
+    if len(doc) > LIMIT:
+        return '2 %d | - | -' % LIMIT
+    if place > len(doc):
+        return '6 %d | - | -' % len(doc)
+    if place == len(doc):
+        return '0 0 | end | -' if ended else '0 0 | 4 %d %d | %d 1' % (place, place, place)
+    kind, end = token(doc, place)
+    return '0 0 | %d %d %d | %d %d' % (kind, place, end, end, ended)
+
+
+def span_refusal(first, last, doc):
+    if len(doc) > LIMIT:
+        return 2, LIMIT
+    inside = any(p < len(doc) and 0x80 <= doc[p] <= 0xBF for p in (first, last))
+    return (6, len(doc)) if first > last or last > len(doc) or inside else (0, 0)
+
+
+def span(first, last, doc):
+    return '%d %d' % span_refusal(first, last, doc)
+
+
+def text(first, last, doc):
+    return hexed(b'' if span_refusal(first, last, doc)[0] else doc[first:last])
+
+
+def pos(offset, doc):
+    if len(doc) > LIMIT:
+        return '2 %d 0 0' % LIMIT
+    if offset > len(doc):
+        return '6 %d 0 0' % len(doc)
+    before = doc[:offset]
+    return '0 0 %d %d' % (1 + before.count(b'\n'), 1 + len(before) - (before.rfind(b'\n') + 1))
+
+
+def desc(kind):
+    if kind not in KINDS:
+        return '7 %d 0 %s 0' % (kind, '00' * 25)
+    name = KINDS[kind].encode()
+    return '0 0 %d %s %d' % (len(name), (name + bytes(25 - len(name))).hex(), kind if kind in STRINGS else 0)
+
+
+def utf8(doc):
+    return '%d %d' % (check(doc) or (0, 0))
+
+
+# The name, and what stands behind it: n a number, b a flag, r records lent, o output lent, x bytes in hex.
+CALLS = {b'lex': (lex, 'x'), b'lexcap': (lexcap, 'rx'), b'dec': (dec, 'nx'), b'deccap': (deccap, 'norx'), b'utf8': (utf8, 'x'),
+         b'start': (start, 'x'), b'step': (step, 'nbx'), b'span': (span, 'nnx'), b'text': (text, 'nnx'), b'pos': (pos, 'nx'),
+         b'desc': (desc, 'n')}
+
+# What the program has: for a line, a document, output and records.
+LINE, DOCUMENT, OUTPUT, RECORDS = 131200, 65536, 98305, 65539
+MOST = {'o': OUTPUT, 'r': RECORDS}
+
+
+class NoCall(Exception):
+    """A line that is no call, with the reason."""
+
+
+def number(word):
+    digits = word.lstrip(b'0')
+    if not word or set(word) - set(b'0123456789') or len(digits) > 20 or int(word[-20:]) > 2 ** 64 - 1:
+        raise NoCall('not a number')
+    return int(word[-20:])
+
+
+def data(word):
+    if len(word) // 2 > DOCUMENT:
+        raise NoCall('too long')
+    if word == b'-':
+        return b''
+    if not word or len(word) % 2 or set(word) - set(b'0123456789abcdef'):
+        raise NoCall('not hex')
+    return bytes.fromhex(word.decode())
+
+
+def answer(line):
+    """The answer to a line, both as bytes. The reasons are looked for in this order."""
+    try:
+        if len(line) > LINE:
+            raise NoCall('too long')
+        words = line.split(b' ')
+        if words[0] not in CALLS:
+            raise NoCall('unknown call')
+        call, shape = CALLS[words[0]]
+        if len(words) != 1 + len(shape):
+            raise NoCall('wrong number of words')
+        values = [number(word) for letter, word in zip(shape, words[1:]) if letter != 'x']
+        values += [data(word) for letter, word in zip(shape, words[1:]) if letter == 'x']
+        for letter, value in zip(shape, values):
+            if letter == 'b' and value > 1:
+                raise NoCall('not 0 or 1')
+            if letter in 'or' and value > MOST[letter]:
+                raise NoCall('more than can be lent')
+        return call(*values).encode()
+    except NoCall as reason:
+        return b'? ' + str(reason).encode()
+
+
+def answered(line):
+    return line + b' => ' + answer(line)
+
+
+def main():
+    lines = sys.stdin.buffer.read().split(b'\n')
+    for line in lines if lines[-1] else lines[:-1]:
+        sys.stdout.buffer.write(answered(line) + b'\n')
+
+
+if __name__ == '__main__':
+    main()
