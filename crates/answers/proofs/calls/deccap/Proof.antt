@@ -40,8 +40,8 @@ decode-requires c κs = search needs
 enum-known-count : tie.Need-enum-known-count
 enum-known-count c = search needs
 
-three-requires : tie.Need-three-requires
-three-requires c κs = search needs
+filled-requires : tie.Need-filled-requires
+filled-requires c κs = search needs
 
 enum-known-why : tie.Need-enum-known-why
 enum-known-why c = search needs
@@ -82,7 +82,7 @@ deccap-spec =
     slice-aggregate-decode-2
     decode-requires
     enum-known-count
-    three-requires
+    filled-requires
     enum-known-why
     refused-requires
     same-length

@@ -7,6 +7,9 @@ use borrow.Author.Needs.{needs}
 use Rattle.answers.proofs.calls.lexcap.Statement.{statement}
 use Rattle.answers.proofs.calls.lexcap.Tie as tie
 
+array-read-least : tie.Need-array-read-least
+array-read-least c = search needs
+
 least-requires : tie.Need-least-requires
 least-requires c κs = search needs
 
@@ -22,8 +25,8 @@ lex-requires c κs = search needs
 enum-known-count : tie.Need-enum-known-count
 enum-known-count c = search needs
 
-two-requires : tie.Need-two-requires
-two-requires c κs = search needs
+filled-requires : tie.Need-filled-requires
+filled-requires c κs = search needs
 
 enum-known-why : tie.Need-enum-known-why
 enum-known-why c = search needs
@@ -47,12 +50,13 @@ pub lexcap-spec : {M : Type 1} → statement M
 lexcap-spec =
     tie.close
     (tie.spec
+    array-read-least
     least-requires
     slice-relend-prefix-lex
     slice-aggregate-lex
     lex-requires
     enum-known-count
-    two-requires
+    filled-requires
     enum-known-why
     refused-requires
     same-length
