@@ -1,20 +1,11 @@
-// One function for each call: makes it, and gives what it answers as numbers and their form. The
-// call's own promise says what that is.
+// One function for each call that needs one: makes it. The call's own promise says what it answers,
+// `forms` what that comes to.
 ghost use Prim.Native.Nat.{_≤_};
 use crate::forms;
 use asking::Call;
-use decoder::Decoded;
 use lexer::Cursor;
-use lexer::Lexed;
-use lexer::Start;
-use lexer::Step;
-use place::Position;
-use place::SpanCheck;
 use spelling::Answer;
-use text::Utf8Check;
-use token::Answer as Described;
 use token::Span;
-use token::Token;
 use token::TokenKind;
 
 pub(crate) fn make(
@@ -38,27 +29,21 @@ pub(crate) fn make(
 // The calls that give nothing but numbers.
 fn make_plain(call: Call, numbers: [usize; 3], doc: &[u8]) -> Answer {
     match call {
-        Call::Utf8 => utf8(doc),
-        Call::Start => start(doc),
+        Call::Utf8 => forms::checked(text::check_utf8(doc)),
+        Call::Start => forms::started(Cursor::start(doc)),
         Call::Step => step(numbers, doc),
-        Call::Span => span(numbers, doc),
-        _ => pos(numbers, doc),
+        Call::Span => forms::span_checked(place::check_span(doc, span_of(numbers))),
+        _ => forms::positioned(place::position_of(doc, numbers[0])),
     }
 }
 
 fn lex(doc: &[u8], records: &mut [[usize; 3]]) -> Answer {
-    match lexer::lex(doc, records) {
-        Lexed::Tokens(count) => forms::filled(forms::TOKENS, count, 0, 0, 0),
-        Lexed::Refused(why) => forms::refused(forms::REFUSED, why),
-    }
+    forms::tokens(lexer::lex(doc, records))
 }
 
 fn lexcap(numbers: [usize; 3], doc: &[u8], records: &mut [[usize; 3]]) -> Answer {
     let lent = least(numbers[0], records.len());
-    match lexer::lex(doc, &mut records[..lent]) {
-        Lexed::Tokens(count) => forms::filled(forms::TWO, 0, count, 0, 0),
-        Lexed::Refused(why) => forms::refused(forms::TWO, why),
-    }
+    forms::token_count(lexer::lex(doc, &mut records[..lent]))
 }
 
 // What is asked for, as far as it is there.
@@ -69,40 +54,15 @@ fn least(asked: usize, there: usize) -> usize
 }
 
 fn dec(numbers: [usize; 3], doc: &[u8], bytes: &mut [u8], records: &mut [[usize; 3]]) -> Answer {
-    match decoder::decode(doc, numbers[0], bytes, records) {
-        Decoded::Written {
-            bytes: count,
-            errors,
-        } => forms::filled(forms::DECODED, count, errors, 0, 0),
-        Decoded::Refused(why) => forms::refused(forms::REFUSED, why),
-    }
+    forms::decoded(decoder::decode(doc, numbers[0], bytes, records))
 }
 
 // The numbers are the kind, the bytes of output and the records lent.
 fn deccap(numbers: [usize; 3], doc: &[u8], bytes: &mut [u8], records: &mut [[usize; 3]]) -> Answer {
     let output = least(numbers[1], bytes.len());
     let lent = least(numbers[2], records.len());
-    match decoder::decode(doc, numbers[0], &mut bytes[..output], &mut records[..lent]) {
-        Decoded::Written {
-            bytes: count,
-            errors,
-        } => forms::filled(forms::THREE, 0, count, errors, 0),
-        Decoded::Refused(why) => forms::refused(forms::THREE, why),
-    }
-}
-
-fn utf8(doc: &[u8]) -> Answer {
-    match text::check_utf8(doc) {
-        Utf8Check::Valid => forms::filled(forms::TWO, 0, 0, 0, 0),
-        Utf8Check::Refused(why) => forms::refused(forms::TWO, why),
-    }
-}
-
-fn start(doc: &[u8]) -> Answer {
-    match Cursor::start(doc) {
-        Start::At(cursor) => forms::filled(forms::FOUR, 0, 0, cursor.place, cursor.ended as usize),
-        Start::Refused(why) => forms::refused(forms::FOUR, why),
-    }
+    let decoded = decoder::decode(doc, numbers[0], &mut bytes[..output], &mut records[..lent]);
+    forms::decoded_count(decoded)
 }
 
 fn step(numbers: [usize; 3], doc: &[u8]) -> Answer {
@@ -110,71 +70,31 @@ fn step(numbers: [usize; 3], doc: &[u8]) -> Answer {
         place: numbers[0],
         ended: numbers[1] == 1,
     };
-    match cursor.step(doc) {
-        Step::Token(token, next) => stepped(token, next),
-        Step::End => forms::filled(forms::ENDED, 0, 0, 0, 0),
-        Step::Refused(why) => forms::refused(forms::NO_STEP, why),
-    }
+    forms::stepped(cursor.step(doc))
 }
 
-// A token and the next cursor.
-fn stepped(token: Token, next: Cursor) -> Answer {
-    let record = token.as_record();
-    Answer {
-        form: forms::STEPPED,
-        numbers: [
-            record[0],
-            record[1],
-            record[2],
-            next.place,
-            next.ended as usize,
-            0,
-            0,
-            0,
-        ],
-    }
-}
-
-fn span(numbers: [usize; 3], doc: &[u8]) -> Answer {
-    match place::check_span(doc, Span::new(numbers[0], numbers[1])) {
-        SpanCheck::Whole => forms::filled(forms::TWO, 0, 0, 0, 0),
-        SpanCheck::Refused(why) => forms::refused(forms::TWO, why),
-    }
+fn span_of(numbers: [usize; 3]) -> Span {
+    Span::new(numbers[0], numbers[1])
 }
 
 fn text_of_span(numbers: [usize; 3], doc: &[u8], bytes: &mut [u8]) -> Answer {
-    let part = place::text_of(doc, Span::new(numbers[0], numbers[1]));
-    let count = copy(part, bytes);
-    forms::filled(forms::HEX, count, 0, 0, 0)
-}
-
-fn pos(numbers: [usize; 3], doc: &[u8]) -> Answer {
-    match place::position_of(doc, numbers[0]) {
-        Position::At { line, column } => forms::filled(forms::FOUR, 0, 0, line, column),
-        Position::Refused(why) => forms::refused(forms::FOUR, why),
-    }
+    let part = place::text_of(doc, span_of(numbers));
+    forms::hex(copy(part, bytes))
 }
 
 // The description, all 25 bytes of it, and the encoding.
 fn desc(numbers: [usize; 3], bytes: &mut [u8]) -> Answer {
-    let description = TokenKind::description(numbers[0]);
-    let encoding = TokenKind::encoding(numbers[0]);
+    let kind = numbers[0];
+    let description = TokenKind::description(kind);
     let text = description.bytes;
     let count = copy(&text, bytes);
     let answer = description.answer;
-    described(answer, description.len, count, encoding.number)
-}
-
-fn described(answer: Described, len: usize, count: usize, encoding: usize) -> Answer {
-    let mut numbers = [0, 0, len, count, encoding, 0, 0, 0];
-    if let Described::Refused(why) = answer {
-        numbers[0] = why.number();
-        numbers[1] = why.value();
-    }
-    Answer {
-        form: forms::DESCRIBED,
-        numbers,
-    }
+    forms::described(
+        answer,
+        description.len,
+        count,
+        TokenKind::encoding(kind).number,
+    )
 }
 
 // To the front of the memory, as far as it reaches: how many.

@@ -12,6 +12,7 @@ use asking::OUTPUT;
 use asking::RECORDS;
 use asking::Reading;
 use asking::Request;
+use spelling::Answer;
 
 fn main() {
     let mut input = [0u8; 65536];
@@ -42,20 +43,22 @@ fn answer_all(input: &mut [u8], line: &mut [u8], bytes: &mut [u8], records: &mut
     }
 }
 
-// The answer to a line, without the line.
 fn answer(request: Request, line: &[u8], bytes: &mut [u8], records: &mut [[usize; 3]])
+    requires { ⌜ request .len ≤ length (now line) ⌝ }
+{
+    let made = answer_to(request, line, bytes, records);
+    spelling::print_answer(made, bytes, records);
+}
+
+fn answer_to(request: Request, line: &[u8], bytes: &mut [u8], records: &mut [[usize; 3]]) -> Answer
     requires { ⌜ request .len ≤ length (now line) ⌝ }
 {
     let fault = request.fault;
     let call = request.call;
     let numbers = request.numbers;
     let len = request.len;
-    match fault {
-        Fault::NoLine => {}
-        Fault::Nothing => {
-            let made = calls::make(call, numbers, &line[..len], bytes, records);
-            spelling::print_answer(made, bytes, records);
-        }
-        _ => spelling::print_answer(forms::fault(fault), bytes, records),
+    if let Fault::Nothing = fault {
+        return calls::make(call, numbers, &line[..len], bytes, records);
     }
+    forms::fault(fault)
 }

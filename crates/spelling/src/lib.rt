@@ -12,7 +12,7 @@ pub struct Answer {
     pub numbers: [usize; 8],
 }
 
-// Writes an answer and an LF. It returns: of what is written no contract can speak.
+// Writes an answer. It returns: of what is written no contract can speak.
 pub fn print_answer(answer: Answer, bytes: &[u8], records: &[[usize; 3]])
     ensures { λ r. ⌜ r ≡ tt ⌝ }
 {
@@ -21,8 +21,7 @@ pub fn print_answer(answer: Answer, bytes: &[u8], records: &[[usize; 3]])
     let form = answer.form;
     let numbers = answer.numbers;
     let used = put_form(out, form, numbers, bytes, records);
-    let n = put_byte(out, used, b'\n');
-    write(out, n);
+    write(out, used);
 }
 
 // Each function below takes the buffer and how much of it is used, and answers how much is used
