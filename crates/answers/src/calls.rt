@@ -1,7 +1,6 @@
 // One function for each call that needs one: makes it. The call's own promise says what it answers,
 // `forms` what that comes to.
 ghost use Prim.Native.Nat.{_≤_};
-use crate::forms;
 use asking::Call;
 use lexer::Cursor;
 use spelling::Answer;

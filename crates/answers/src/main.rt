@@ -3,7 +3,6 @@
 // is spelled `spelling`'s; here the calls are made. The lent memory is made once, and a line uses no
 // more of it than its own length asks for.
 mod calls;
-mod forms;
 
 ghost use Prim.Native.Nat.{_≤_};
 ghost use lib.ListN.{length};

@@ -3,14 +3,78 @@
 ghost use mathlib.Core.Path.{_≡_};
 use libc::STDOUT_FILENO;
 
-// In a form a `#` stands for the next number, a `$` for as many bytes in hex as that number says,
-// and a `%` for as many records. A `_` stands for nothing. Any other byte is written as it is.
-pub type Form = [u8; 24];
+// How an answer is spelled. The numbers of tests/README.md's tables, in their order, fill it.
+pub enum Form {
+    Tokens,
+    Decoded,
+    Refused,
+    Two,
+    Three,
+    Four,
+    Hex,
+    Stepped,
+    Ended,
+    NoStep,
+    Described,
+    // a line that is no call, and why
+    TooLong,
+    UnknownCall,
+    WordCount,
+    NotNumber,
+    NotHex,
+    NotFlag,
+    TooMuch,
+    // the input's end, which is no line
+    Nothing,
+}
 
 pub struct Answer {
     pub form: Form,
     pub numbers: [usize; 8],
 }
+
+// In the text of a form a `#` stands for the next number, a `$` for as many bytes in hex as that
+// number says, and a `%` for as many records. A `_` stands for nothing. Any other byte is written as
+// it is.
+type Text = [u8; 24];
+
+const TOKENS: Text = *b"%\n______________________";
+
+const DECODED: Text = *b"$ | %\n__________________";
+
+const REFUSED: Text = *b"refused # #\n____________";
+
+const TWO: Text = *b"# #\n____________________";
+
+const THREE: Text = *b"# # #\n__________________";
+
+const FOUR: Text = *b"# # # #\n________________";
+
+const HEX: Text = *b"$\n______________________";
+
+const STEPPED: Text = *b"0 0 | # # # | # #\n______";
+
+const ENDED: Text = *b"0 0 | end | -\n__________";
+
+const NO_STEP: Text = *b"# # | - | -\n____________";
+
+const DESCRIBED: Text = *b"# # # $ #\n______________";
+
+const TOO_LONG: Text = *b"? too long\n_____________";
+
+const UNKNOWN_CALL: Text = *b"? unknown call\n_________";
+
+const WORD_COUNT: Text = *b"? wrong number of words\n";
+
+const NOT_NUMBER: Text = *b"? not a number\n_________";
+
+const NOT_HEX: Text = *b"? not hex\n______________";
+
+const NOT_FLAG: Text = *b"? not 0 or 1\n___________";
+
+const TOO_MUCH: Text = *b"? more than can be lent\n";
+
+const NOTHING: Text = *b"________________________";
 
 // Writes an answer. It returns: of what is written no contract can speak.
 pub fn print_answer(answer: Answer, bytes: &[u8], records: &[[usize; 3]])
@@ -20,15 +84,40 @@ pub fn print_answer(answer: Answer, bytes: &[u8], records: &[[usize; 3]])
     let out: &mut [u8] = &mut space;
     let form = answer.form;
     let numbers = answer.numbers;
-    let used = put_form(out, form, numbers, bytes, records);
+    let used = put_text(out, text_of(form), numbers, bytes, records);
     write(out, used);
+}
+
+// The text of a form.
+fn text_of(form: Form) -> Text {
+    match form {
+        Form::Tokens => TOKENS,
+        Form::Decoded => DECODED,
+        Form::Refused => REFUSED,
+        Form::Two => TWO,
+        Form::Three => THREE,
+        Form::Four => FOUR,
+        Form::Hex => HEX,
+        Form::Stepped => STEPPED,
+        Form::Ended => ENDED,
+        Form::NoStep => NO_STEP,
+        Form::Described => DESCRIBED,
+        Form::TooLong => TOO_LONG,
+        Form::UnknownCall => UNKNOWN_CALL,
+        Form::WordCount => WORD_COUNT,
+        Form::NotNumber => NOT_NUMBER,
+        Form::NotHex => NOT_HEX,
+        Form::NotFlag => NOT_FLAG,
+        Form::TooMuch => TOO_MUCH,
+        Form::Nothing => NOTHING,
+    }
 }
 
 // Each function below takes the buffer and how much of it is used, and answers how much is used
 // afterwards.
-fn put_form(
+fn put_text(
     out: &mut [u8],
-    form: Form,
+    text: Text,
     numbers: [usize; 8],
     bytes: &[u8],
     records: &[[usize; 3]],
@@ -37,7 +126,7 @@ fn put_form(
     let mut k = 0;
     let mut i = 0;
     while i < 24 {
-        let b = form[i];
+        let b = text[i];
         used = put_field(out, used, b, number_at(numbers, k), bytes, records);
         k = next_number(k, b);
         i += 1;
@@ -52,7 +141,7 @@ fn number_at(numbers: [usize; 8], k: usize) -> usize {
     0
 }
 
-// Which number comes next, behind this byte of the form.
+// Which number comes next, behind this byte of the text.
 fn next_number(k: usize, b: u8) -> usize {
     if k < 8 && takes_number(b) {
         return k + 1;

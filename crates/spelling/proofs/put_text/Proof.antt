@@ -1,17 +1,17 @@
--- `put_form` is safe and ends: it passes a byte of the form each turn, and the buffer keeps its length.
+-- `put_text` is safe and ends: it passes a byte of the text each turn, and the buffer keeps its length.
 -- Assumes nothing.
 use Prim.Native.Nat.{_-_, _≤_}
 use mathlib.Core.Path.{_≡_}
 use lib.ListN.{length}
 use borrow.Author.Needs.{needs}
-use Rattle.spelling.proofs.put_form.Statement.{statement}
-use Rattle.spelling.proofs.put_form.Tie as tie
+use Rattle.spelling.proofs.put_text.Statement.{statement}
+use Rattle.spelling.proofs.put_text.Tie as tie
 
 abbrev Inv-loop : tie.InvT-loop
-Inv-loop out₀ numbers bytes records form used₀ k₀ i₀ out used k i = (i ≤ 24) × (length out ≡ length out₀)
+Inv-loop out₀ numbers bytes records text used₀ k₀ i₀ out used k i = (i ≤ 24) × (length out ≡ length out₀)
 
 abbrev μ-loop : tie.MeasureT-loop
-μ-loop out₀ numbers bytes records form used₀ k₀ i₀ out used k i = 24 - i
+μ-loop out₀ numbers bytes records text used₀ k₀ i₀ out used k i = 24 - i
 
 loop-holds : tie.Need-loop-holds Inv-loop μ-loop
 loop-holds c = search needs
@@ -43,8 +43,8 @@ same-length c = search needs
 returns : tie.Need-returns Inv-loop μ-loop
 returns c = search needs
 
-pub put-form-spec : {M : Type 1} → statement M
-put-form-spec =
+pub put-text-spec : {M : Type 1} → statement M
+put-text-spec =
     tie.close
     (tie.spec
     Inv-loop
