@@ -1,5 +1,5 @@
-// One function for each call that needs one: makes it. The call's own promise says what it answers,
-// `forms` what that comes to.
+// One function for each call: makes it, and hands what it answers to `forms`. The call's own promise
+// says what that is, and `forms` promises what it comes to.
 ghost use Prim.Native.Nat.{_≤_};
 use asking::Call;
 use lexer::Cursor;
@@ -25,14 +25,14 @@ pub(crate) fn make(
     }
 }
 
-// The calls that give nothing but numbers.
+// The calls that are lent nothing to write to.
 fn make_plain(call: Call, numbers: [usize; 3], doc: &[u8]) -> Answer {
     match call {
-        Call::Utf8 => forms::checked(text::check_utf8(doc)),
-        Call::Start => forms::started(Cursor::start(doc)),
+        Call::Utf8 => utf8(doc),
+        Call::Start => start(doc),
         Call::Step => step(numbers, doc),
-        Call::Span => forms::span_checked(place::check_span(doc, span_of(numbers))),
-        _ => forms::positioned(place::position_of(doc, numbers[0])),
+        Call::Span => span(numbers, doc),
+        _ => pos(numbers, doc),
     }
 }
 
@@ -64,12 +64,24 @@ fn deccap(numbers: [usize; 3], doc: &[u8], bytes: &mut [u8], records: &mut [[usi
     forms::decoded_count(decoded)
 }
 
+fn utf8(doc: &[u8]) -> Answer {
+    forms::checked(text::check_utf8(doc))
+}
+
+fn start(doc: &[u8]) -> Answer {
+    forms::started(Cursor::start(doc))
+}
+
 fn step(numbers: [usize; 3], doc: &[u8]) -> Answer {
     let cursor = Cursor {
         place: numbers[0],
         ended: numbers[1] == 1,
     };
     forms::stepped(cursor.step(doc))
+}
+
+fn span(numbers: [usize; 3], doc: &[u8]) -> Answer {
+    forms::span_checked(place::check_span(doc, span_of(numbers)))
 }
 
 fn span_of(numbers: [usize; 3]) -> Span {
@@ -79,6 +91,10 @@ fn span_of(numbers: [usize; 3]) -> Span {
 fn text_of_span(numbers: [usize; 3], doc: &[u8], bytes: &mut [u8]) -> Answer {
     let part = place::text_of(doc, span_of(numbers));
     forms::hex(copy(part, bytes))
+}
+
+fn pos(numbers: [usize; 3], doc: &[u8]) -> Answer {
+    forms::positioned(place::position_of(doc, numbers[0]))
 }
 
 // The description, all 25 bytes of it, and the encoding.
