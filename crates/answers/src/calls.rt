@@ -1,101 +1,48 @@
-// One function for each call: makes it, and prints what it answers or returns it as numbers. The
-// call's own promise says what that is; here it is only spelled.
+// One function for each call: makes it, and hands what it answers to `forms`. The call's own promise
+// says what that is, and `forms` promises what it comes to.
 ghost use Prim.Native.Nat.{_≤_};
-use crate::print;
-use crate::request;
-use crate::request::Call;
-use crate::request::Fault;
-use crate::row;
-use crate::row::Row;
-use decoder::Decoded;
+use asking::Call;
 use lexer::Cursor;
-use lexer::Lexed;
-use lexer::Start;
-use lexer::Step;
-use place::Position;
-use place::SpanCheck;
-use text::Refusal;
-use text::Utf8Check;
-use token::Answer;
+use spelling::Answer;
 use token::Span;
-use token::Token;
 use token::TokenKind;
 
-// The answer to a line, without the line.
-pub(crate) fn answer(
-    line: &mut [u8],
-    bytes: &mut [u8],
-    records: &mut [[usize; 3]],
-    out: &mut [u8],
-    used: usize,
-) -> usize {
-    let asked = request::read(line);
-    let fault = asked.fault;
-    let call = asked.call;
-    let numbers = asked.numbers;
-    let len = asked.len;
-    if let Fault::Nothing = fault {
-        return make(call, numbers, &line[..len], bytes, records, out, used);
-    }
-    print::fault(out, used, fault)
-}
-
-fn make(
+pub(crate) fn make(
     call: Call,
     numbers: [usize; 3],
     doc: &[u8],
     bytes: &mut [u8],
     records: &mut [[usize; 3]],
-    out: &mut [u8],
-    used: usize,
-) -> usize {
+) -> Answer {
     match call {
-        Call::Lex => lex(doc, records, out, used),
-        Call::LexCap => print::row(out, used, lexcap(numbers[0], doc, records)),
-        Call::Dec => dec(numbers[0], doc, bytes, records, out, used),
-        Call::DecCap => print::row(out, used, deccap(numbers, doc, bytes, records)),
-        _ => make_plain(call, numbers[0], numbers[1], doc, out, used),
+        Call::Lex => lex(doc, records),
+        Call::LexCap => lexcap(numbers, doc, records),
+        Call::Dec => dec(numbers, doc, bytes, records),
+        Call::DecCap => deccap(numbers, doc, bytes, records),
+        Call::Text => text_of_span(numbers, doc, bytes),
+        Call::Desc => desc(numbers, bytes),
+        _ => make_plain(call, numbers, doc),
     }
 }
 
 // The calls that are lent nothing to write to.
-fn make_plain(call: Call, a: usize, b: usize, doc: &[u8], out: &mut [u8], used: usize) -> usize {
-    match call {
-        Call::Step => step(a, b, doc, out, used),
-        Call::Text => text_of_span(a, b, doc, out, used),
-        Call::Desc => desc(a, out, used),
-        _ => print::row(out, used, numbers_of(call, a, b, doc)),
-    }
-}
-
-// The calls that answer numbers alone.
-fn numbers_of(call: Call, a: usize, b: usize, doc: &[u8]) -> Row {
+fn make_plain(call: Call, numbers: [usize; 3], doc: &[u8]) -> Answer {
     match call {
         Call::Utf8 => utf8(doc),
         Call::Start => start(doc),
-        Call::Span => span(a, b, doc),
-        _ => pos(a, doc),
+        Call::Step => step(numbers, doc),
+        Call::Span => span(numbers, doc),
+        _ => pos(numbers, doc),
     }
 }
 
-fn lex(doc: &[u8], records: &mut [[usize; 3]], out: &mut [u8], used: usize) -> usize {
-    match lexer::lex(doc, records) {
-        Lexed::Tokens(count) => print::records(out, used, records, count),
-        Lexed::Refused(why) => refused(why, out, used),
-    }
+fn lex(doc: &[u8], records: &mut [[usize; 3]]) -> Answer {
+    forms::tokens(lexer::lex(doc, records))
 }
 
-fn refused(why: Refusal, out: &mut [u8], used: usize) -> usize {
-    let n = print::all(out, used, b"refused ");
-    print::row(out, n, row::refused(why, 2))
-}
-
-fn lexcap(cap: usize, doc: &[u8], records: &mut [[usize; 3]]) -> Row {
-    let lent = least(cap, records.len());
-    match lexer::lex(doc, &mut records[..lent]) {
-        Lexed::Tokens(count) => row::two(0, count),
-        Lexed::Refused(why) => row::refused(why, 2),
-    }
+fn lexcap(numbers: [usize; 3], doc: &[u8], records: &mut [[usize; 3]]) -> Answer {
+    let lent = least(numbers[0], records.len());
+    forms::token_count(lexer::lex(doc, &mut records[..lent]))
 }
 
 // What is asked for, as far as it is there.
@@ -105,112 +52,72 @@ fn least(asked: usize, there: usize) -> usize
     if asked < there { asked } else { there }
 }
 
-fn dec(
-    kind: usize,
-    doc: &[u8],
-    bytes: &mut [u8],
-    records: &mut [[usize; 3]],
-    out: &mut [u8],
-    used: usize,
-) -> usize {
-    match decoder::decode(doc, kind, bytes, records) {
-        Decoded::Written {
-            bytes: count,
-            errors,
-        } => {
-            let n = print::hex(out, used, bytes, count);
-            let m = print::bar(out, n);
-            print::records(out, m, records, errors)
-        }
-        Decoded::Refused(why) => refused(why, out, used),
-    }
+fn dec(numbers: [usize; 3], doc: &[u8], bytes: &mut [u8], records: &mut [[usize; 3]]) -> Answer {
+    forms::decoded(decoder::decode(doc, numbers[0], bytes, records))
 }
 
 // The numbers are the kind, the bytes of output and the records lent.
-fn deccap(numbers: [usize; 3], doc: &[u8], bytes: &mut [u8], records: &mut [[usize; 3]]) -> Row {
+fn deccap(numbers: [usize; 3], doc: &[u8], bytes: &mut [u8], records: &mut [[usize; 3]]) -> Answer {
     let output = least(numbers[1], bytes.len());
     let lent = least(numbers[2], records.len());
-    match decoder::decode(doc, numbers[0], &mut bytes[..output], &mut records[..lent]) {
-        Decoded::Written {
-            bytes: count,
-            errors,
-        } => row::three(0, count, errors),
-        Decoded::Refused(why) => row::refused(why, 3),
-    }
+    let decoded = decoder::decode(doc, numbers[0], &mut bytes[..output], &mut records[..lent]);
+    forms::decoded_count(decoded)
 }
 
-fn utf8(doc: &[u8]) -> Row {
-    match text::check_utf8(doc) {
-        Utf8Check::Valid => row::two(0, 0),
-        Utf8Check::Refused(why) => row::refused(why, 2),
-    }
+fn utf8(doc: &[u8]) -> Answer {
+    forms::checked(text::check_utf8(doc))
 }
 
-fn start(doc: &[u8]) -> Row {
-    match Cursor::start(doc) {
-        Start::At(cursor) => row::answered(cursor.place, cursor.ended as usize),
-        Start::Refused(why) => row::refused(why, 4),
-    }
+fn start(doc: &[u8]) -> Answer {
+    forms::started(Cursor::start(doc))
 }
 
-fn step(place: usize, ended: usize, doc: &[u8], out: &mut [u8], used: usize) -> usize {
+fn step(numbers: [usize; 3], doc: &[u8]) -> Answer {
     let cursor = Cursor {
-        place,
-        ended: ended == 1,
+        place: numbers[0],
+        ended: numbers[1] == 1,
     };
-    match cursor.step(doc) {
-        Step::Token(token, next) => stepped(token, next, out, used),
-        Step::End => print::all(out, used, b"0 0 | end | -"),
-        Step::Refused(why) => no_step(why, out, used),
-    }
+    forms::stepped(cursor.step(doc))
 }
 
-fn no_step(why: Refusal, out: &mut [u8], used: usize) -> usize {
-    let n = print::row(out, used, row::refused(why, 2));
-    print::all(out, n, b" | - | -")
+fn span(numbers: [usize; 3], doc: &[u8]) -> Answer {
+    forms::span_checked(place::check_span(doc, span_of(numbers)))
 }
 
-// A token and the next cursor.
-fn stepped(token: Token, next: Cursor, out: &mut [u8], used: usize) -> usize {
-    let mut n = print::all(out, used, b"0 0 | ");
-    n = print::record(out, n, token.as_record());
-    n = print::bar(out, n);
-    print::row(out, n, row::two(next.place, next.ended as usize))
+fn span_of(numbers: [usize; 3]) -> Span {
+    Span::new(numbers[0], numbers[1])
 }
 
-fn span(start: usize, end: usize, doc: &[u8]) -> Row {
-    match place::check_span(doc, Span::new(start, end)) {
-        SpanCheck::Whole => row::two(0, 0),
-        SpanCheck::Refused(why) => row::refused(why, 2),
-    }
+fn text_of_span(numbers: [usize; 3], doc: &[u8], bytes: &mut [u8]) -> Answer {
+    let part = place::text_of(doc, span_of(numbers));
+    forms::hex(copy(part, bytes))
 }
 
-fn text_of_span(start: usize, end: usize, doc: &[u8], out: &mut [u8], used: usize) -> usize {
-    let part = place::text_of(doc, Span::new(start, end));
-    print::hex(out, used, part, part.len())
-}
-
-fn pos(offset: usize, doc: &[u8]) -> Row {
-    match place::position_of(doc, offset) {
-        Position::At { line, column } => row::answered(line, column),
-        Position::Refused(why) => row::refused(why, 4),
-    }
+fn pos(numbers: [usize; 3], doc: &[u8]) -> Answer {
+    forms::positioned(place::position_of(doc, numbers[0]))
 }
 
 // The description, all 25 bytes of it, and the encoding.
-fn desc(kind: usize, out: &mut [u8], used: usize) -> usize {
+fn desc(numbers: [usize; 3], bytes: &mut [u8]) -> Answer {
+    let kind = numbers[0];
     let description = TokenKind::description(kind);
-    let encoding = TokenKind::encoding(kind);
+    let text = description.bytes;
+    let count = copy(&text, bytes);
     let answer = description.answer;
-    let bytes = description.bytes;
-    let n = print::row(out, used, described(answer, description.len));
-    let m = print::hex_word(out, n, &bytes);
-    print::number(out, m, encoding.number)
+    forms::described(
+        answer,
+        description.len,
+        count,
+        TokenKind::encoding(kind).number,
+    )
 }
 
-fn described(answer: Answer, len: usize) -> Row {
-    match answer {
-        Answer::Given => row::three(0, 0, len),
-        Answer::Refused(why) => row::refused(why, 3),
+// To the front of the memory, as far as it reaches: how many.
+fn copy(part: &[u8], bytes: &mut [u8]) -> usize {
+    let mut i = 0;
+    while i < part.len() && i < bytes.len() {
+        bytes[i] = part[i];
+        i += 1;
     }
+    i
 }

@@ -1,21 +1,63 @@
 // Answers calls: reads standard input line by line, and writes each line, ` => ` and its answer.
-// tests/README.md says which lines there are. The lent memory is made once, here, and a line uses no
+// tests/README.md says which lines there are. What a line asks for is `asking`'s work, how an answer
+// is spelled `spelling`'s; here the calls are made. The lent memory is made once, and a line uses no
 // more of it than its own length asks for.
 mod calls;
-mod lines;
-mod print;
-mod request;
-mod row;
-mod words;
 
-use crate::request::OUTPUT;
-use crate::request::RECORDS;
+ghost use Prim.Native.Nat.{_≤_};
+ghost use lib.ListN.{length};
+use asking::Fault;
+use asking::OUTPUT;
+use asking::RECORDS;
+use asking::Reading;
+use asking::Request;
+use spelling::Answer;
 
 fn main() {
+    let mut input = [0u8; 65536];
     // a document of 65,536 bytes in hex, and the words before it
     let mut line = [0u8; 131200];
     let mut bytes = [0u8; OUTPUT];
     let mut records = [[0usize; 3]; RECORDS];
-    let mut out = [0u8; 65536];
-    lines::answer_all(&mut line, &mut bytes, &mut records, &mut out);
+    answer_all(&mut input, &mut line, &mut bytes, &mut records);
+}
+
+// A proved loop has to end, and nothing says that the input does: so it counts down from a number
+// that no run uses up.
+fn answer_all(input: &mut [u8], line: &mut [u8], bytes: &mut [u8], records: &mut [[usize; 3]]) {
+    let mut reading = Reading {
+        at: 0,
+        end: 0,
+        len: 0,
+        long: false,
+        open: false,
+        more: true,
+    };
+    let mut turns = u64::MAX;
+    while turns > 0 && reading.more {
+        let request = asking::next_request(reading, input, line);
+        reading = request.reading;
+        answer(request, line, bytes, records);
+        turns -= 1;
+    }
+}
+
+fn answer(request: Request, line: &[u8], bytes: &mut [u8], records: &mut [[usize; 3]])
+    requires { ⌜ request .len ≤ length (now line) ⌝ }
+{
+    let made = answer_to(request, line, bytes, records);
+    spelling::print_answer(made, bytes, records);
+}
+
+fn answer_to(request: Request, line: &[u8], bytes: &mut [u8], records: &mut [[usize; 3]]) -> Answer
+    requires { ⌜ request .len ≤ length (now line) ⌝ }
+{
+    let fault = request.fault;
+    let call = request.call;
+    let numbers = request.numbers;
+    let len = request.len;
+    if let Fault::Nothing = fault {
+        return calls::make(call, numbers, &line[..len], bytes, records);
+    }
+    forms::fault(fault)
 }

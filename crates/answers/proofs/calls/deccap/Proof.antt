@@ -37,17 +37,8 @@ slice-aggregate-decode-2 c = simp length-take (omega arith)
 decode-requires : tie.Need-decode-requires
 decode-requires c κs = search needs
 
-enum-known-count : tie.Need-enum-known-count
-enum-known-count c = search needs
-
-three-requires : tie.Need-three-requires
-three-requires c κs = search needs
-
-enum-known-why : tie.Need-enum-known-why
-enum-known-why c = search needs
-
-refused-requires : tie.Need-refused-requires
-refused-requires c κs = search needs
+decoded-count-requires : tie.Need-decoded-count-requires
+decoded-count-requires c κs = search needs
 
 same-length : tie.Need-same-length
 same-length c = search needs
@@ -57,15 +48,6 @@ same-length-2 c = search needs
 
 returns : tie.Need-returns
 returns c = search needs
-
-same-length-3 : tie.Need-same-length-3
-same-length-3 c = search needs
-
-same-length-4 : tie.Need-same-length-4
-same-length-4 c = search needs
-
-returns-2 : tie.Need-returns-2
-returns-2 c = search needs
 
 pub deccap-spec : {M : Type 1} → statement M
 deccap-spec =
@@ -81,13 +63,7 @@ deccap-spec =
     slice-relend-prefix-decode-2
     slice-aggregate-decode-2
     decode-requires
-    enum-known-count
-    three-requires
-    enum-known-why
-    refused-requires
+    decoded-count-requires
     same-length
     same-length-2
-    returns
-    same-length-3
-    same-length-4
-    returns-2)
+    returns)

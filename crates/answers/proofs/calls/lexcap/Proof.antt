@@ -7,6 +7,9 @@ use borrow.Author.Needs.{needs}
 use Rattle.answers.proofs.calls.lexcap.Statement.{statement}
 use Rattle.answers.proofs.calls.lexcap.Tie as tie
 
+array-read-least : tie.Need-array-read-least
+array-read-least c = search needs
+
 least-requires : tie.Need-least-requires
 least-requires c κs = search needs
 
@@ -19,17 +22,8 @@ slice-aggregate-lex c = simp length-take (omega arith)
 lex-requires : tie.Need-lex-requires
 lex-requires c κs = search needs
 
-enum-known-count : tie.Need-enum-known-count
-enum-known-count c = search needs
-
-two-requires : tie.Need-two-requires
-two-requires c κs = search needs
-
-enum-known-why : tie.Need-enum-known-why
-enum-known-why c = search needs
-
-refused-requires : tie.Need-refused-requires
-refused-requires c κs = search needs
+token-count-requires : tie.Need-token-count-requires
+token-count-requires c κs = search needs
 
 same-length : tie.Need-same-length
 same-length c = search needs
@@ -37,25 +31,15 @@ same-length c = search needs
 returns : tie.Need-returns
 returns c = search needs
 
-same-length-2 : tie.Need-same-length-2
-same-length-2 c = search needs
-
-returns-2 : tie.Need-returns-2
-returns-2 c = search needs
-
 pub lexcap-spec : {M : Type 1} → statement M
 lexcap-spec =
     tie.close
     (tie.spec
+    array-read-least
     least-requires
     slice-relend-prefix-lex
     slice-aggregate-lex
     lex-requires
-    enum-known-count
-    two-requires
-    enum-known-why
-    refused-requires
+    token-count-requires
     same-length
-    returns
-    same-length-2
-    returns-2)
+    returns)

@@ -1,0 +1,45 @@
+-- `answer_to` is safe: the document is within the line's memory.
+-- Assumes nothing.
+use Prim.Native.Nat.{_-_}
+use native.Mathlib.Omega.{arith}
+use lib.ListN.{length-take}
+use borrow.Author.Needs.{needs}
+use Rattle.answers.proofs.answer_to.Statement.{statement}
+use Rattle.answers.proofs.answer_to.Tie as tie
+
+enum-told : tie.Need-enum-told
+enum-told c = search needs
+
+slice-aggregate-make : tie.Need-slice-aggregate-make
+slice-aggregate-make c = simp length-take (omega arith)
+
+make-requires : tie.Need-make-requires
+make-requires c κs = search needs
+
+same-length : tie.Need-same-length
+same-length c = search needs
+
+same-length-2 : tie.Need-same-length-2
+same-length-2 c = search needs
+
+returns : tie.Need-returns
+returns c = search needs
+
+fault-requires : tie.Need-fault-requires
+fault-requires c κs = search needs
+
+returns-2 : tie.Need-returns-2
+returns-2 c = search needs
+
+pub answer-to-spec : {M : Type 1} → statement M
+answer-to-spec =
+    tie.close
+    (tie.spec
+    enum-told
+    slice-aggregate-make
+    make-requires
+    same-length
+    same-length-2
+    returns
+    fault-requires
+    returns-2)

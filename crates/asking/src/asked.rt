@@ -1,0 +1,222 @@
+// What a line asks for: the call that its first word names, the numbers behind it, and the bytes
+// that its last word spells; or why it is no call.
+ghost use Prim.Native.Nat.{_≤_};
+use crate::words;
+use crate::words::Number;
+use crate::words::Word;
+
+// The longest document that is taken.
+const DOCUMENT: usize = 65536;
+
+// One more than the most that such a document can need: half as many bytes again, and its length
+// and two errors.
+pub const OUTPUT: usize = 98305;
+
+pub const RECORDS: usize = 65539;
+
+// For a number that may be any.
+const ANY: usize = usize::MAX;
+
+pub enum Call {
+    Lex,
+    LexCap,
+    Dec,
+    DecCap,
+    Utf8,
+    Start,
+    Step,
+    Span,
+    Text,
+    Pos,
+    Desc,
+    Unknown,
+}
+
+// Whether the line is a call, and if not, why.
+pub enum Fault {
+    Nothing,
+    // the input's end
+    NoLine,
+    TooLong,
+    UnknownCall,
+    WordCount,
+    NotNumber,
+    NotHex,
+    // a step's second number is a flag
+    NotFlag,
+    // a call may lend what the program has, and no more
+    TooMuch,
+}
+
+// What was read. The last word spells the document.
+pub struct Asked {
+    pub fault: Fault,
+    pub call: Call,
+    pub numbers: [usize; 3],
+    pub document: Word,
+}
+
+// The numbers of a line, and the last word that was read for one.
+struct Numbers {
+    good: bool,
+    values: [usize; 3],
+    last: Word,
+}
+
+pub(crate) fn read(memory: &[u8], len: usize) -> Asked {
+    let line = words::front(memory, len);
+    let name = words::word_at(line, 0);
+    let call = call_of(words::name_key(words::text_of(line, name)));
+    let numbers = read_numbers(line, name, numbers_of(call));
+    let document = words::word_after(line, numbers.last);
+    let fault = fault_of(line, call, numbers, document);
+    let values = numbers.values;
+    Asked {
+        fault,
+        call,
+        numbers: values,
+        document,
+    }
+}
+
+// The numbers of the words behind the name.
+fn read_numbers(line: &[u8], name: Word, count: usize) -> Numbers
+    requires { ⌜ count ≤ 3 ⌝ }
+{
+    let mut values = [0usize; 3];
+    let mut last = name;
+    let mut good = true;
+    let mut i = 0;
+    while i < count {
+        last = words::word_after(line, last);
+        match words::read_number(words::text_of(line, last)) {
+            Number::Value(value) => {
+                values[i] = value;
+            }
+            Number::Bad => {
+                good = false;
+            }
+        }
+        i += 1;
+    }
+    Numbers { good, values, last }
+}
+
+// The name's bytes, as `words::name_key` has them.
+fn call_of(key: usize) -> Call {
+    match key {
+        0x6C_65_78 => Call::Lex,
+        0x6C_65_78_63_61_70 => Call::LexCap,
+        0x64_65_63 => Call::Dec,
+        0x64_65_63_63_61_70 => Call::DecCap,
+        0x75_74_66_38 => Call::Utf8,
+        0x73_74_61_72_74 => Call::Start,
+        0x73_74_65_70 => Call::Step,
+        0x73_70_61_6E => Call::Span,
+        0x74_65_78_74 => Call::Text,
+        0x70_6F_73 => Call::Pos,
+        0x64_65_73_63 => Call::Desc,
+        _ => Call::Unknown,
+    }
+}
+
+// How many numbers stand behind the name.
+fn numbers_of(call: Call) -> usize
+    ensures { λ r. ⌜ r ≤ 3 ⌝ }
+{
+    match call {
+        Call::LexCap | Call::Dec | Call::Pos | Call::Desc => 1,
+        Call::Step | Call::Span | Call::Text => 2,
+        Call::DecCap => 3,
+        _ => 0,
+    }
+}
+
+// The most that each number may be.
+fn limits_of(call: Call) -> [usize; 3] {
+    match call {
+        Call::LexCap => [RECORDS, ANY, ANY],
+        Call::DecCap => [ANY, OUTPUT, RECORDS],
+        Call::Step => [ANY, 1, ANY],
+        _ => [ANY, ANY, ANY],
+    }
+}
+
+// A description is asked for by a number alone.
+fn has_bytes(call: Call) -> bool {
+    if let Call::Desc = call {
+        return false;
+    }
+    true
+}
+
+// Why the line is no call: the first that holds of its words, its bytes and its numbers.
+fn fault_of(line: &[u8], call: Call, numbers: Numbers, document: Word) -> Fault {
+    let values = numbers.values;
+    let in_words = word_fault(call, words::count(line), numbers.good);
+    let in_bytes = byte_fault(call, words::text_of(line, document));
+    first_of(in_words, first_of(in_bytes, number_fault(call, values)))
+}
+
+pub(crate) fn first_of(fault: Fault, other: Fault) -> Fault {
+    if let Fault::Nothing = fault {
+        return other;
+    }
+    fault
+}
+
+fn word_fault(call: Call, count: usize, good: bool) -> Fault {
+    if let Call::Unknown = call {
+        return Fault::UnknownCall;
+    }
+    if count != words_of(call) {
+        return Fault::WordCount;
+    }
+    if good {
+        return Fault::Nothing;
+    }
+    Fault::NotNumber
+}
+
+// The name, the numbers and the bytes.
+fn words_of(call: Call) -> usize {
+    if has_bytes(call) {
+        return numbers_of(call) + 2;
+    }
+    numbers_of(call) + 1
+}
+
+fn byte_fault(call: Call, text: &[u8]) -> Fault {
+    if !has_bytes(call) {
+        return Fault::Nothing;
+    }
+    if DOCUMENT < text.len() / 2 {
+        return Fault::TooLong;
+    }
+    if words::is_hex(text) {
+        return Fault::Nothing;
+    }
+    Fault::NotHex
+}
+
+// Is a number more than the call can take?
+fn number_fault(call: Call, numbers: [usize; 3]) -> Fault {
+    if within(numbers, limits_of(call)) {
+        return Fault::Nothing;
+    }
+    if let Call::Step = call {
+        return Fault::NotFlag;
+    }
+    Fault::TooMuch
+}
+
+fn within(numbers: [usize; 3], limits: [usize; 3]) -> bool {
+    let mut i = 0;
+    while i < 3 {
+        if limits[i] < numbers[i] {
+            return false;
+        }
+        i += 1;
+    }
+    true
+}

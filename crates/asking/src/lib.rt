@@ -1,0 +1,45 @@
+// What standard input asks for, line by line: the next line is read, written to standard output with
+// what stands between it and its answer, and taken apart. tests/README.md says which lines there are.
+mod asked;
+mod lines;
+mod words;
+
+pub use asked::Call;
+pub use asked::Fault;
+pub use asked::OUTPUT;
+pub use asked::RECORDS;
+pub use lines::Reading;
+ghost use Prim.Native.Nat.{_≤_};
+ghost use lib.ListN.{length};
+
+// What a line asks for, and where the reading then stands. The document is the front of the line's
+// memory, `len` bytes of it.
+pub struct Request {
+    pub reading: Reading,
+    pub fault: Fault,
+    pub call: Call,
+    pub numbers: [usize; 3],
+    pub len: usize,
+}
+
+// The request of the next line. What was read decides it, of which no contract can speak: so it
+// promises only that the document lies in the line's memory.
+pub fn next_request(start: Reading, input: &mut [u8], line: &mut [u8]) -> Request
+    ensures { λ r. ⌜ r .len ≤ length (now (line .exit)) ⌝ }
+{
+    let reading = lines::next_line(start, input, line);
+    let asked = asked::read(line, reading.len);
+    let in_line = asked.fault;
+    let fault = asked::first_of(lines::fault_of(reading), in_line);
+    let call = asked.call;
+    let numbers = asked.numbers;
+    let document = asked.document;
+    let len = words::read_bytes(line, document);
+    Request {
+        reading,
+        fault,
+        call,
+        numbers,
+        len,
+    }
+}

@@ -1,0 +1,139 @@
+// Standard input as lines. A line that is too long to be kept is written as it comes, so that it
+// too is answered whole.
+ghost use Prim.Native.Nat.{_+_, _≤_};
+ghost use lib.ListN.{length};
+use crate::asked::Fault;
+use crate::words;
+use crate::words::Word;
+use libc::STDIN_FILENO;
+use libc::STDOUT_FILENO;
+
+// What of the input's memory is not yet taken, from `at` up to `end`; how much of the line is kept,
+// and whether it is too long for that; whether the line goes on; whether there may be more input.
+pub struct Reading {
+    pub at: usize,
+    pub end: usize,
+    pub len: usize,
+    pub long: bool,
+    pub open: bool,
+    pub more: bool,
+}
+
+// Reads up to an LF or the input's end, and writes the line. A proved loop has to end, and nothing
+// says that the input does: so it counts down from a number that no run uses up.
+pub(crate) fn next_line(start: Reading, input: &mut [u8], line: &mut [u8]) -> Reading {
+    let mut reading = begin(start);
+    let mut turns = u64::MAX;
+    while turns > 0 && reading.open {
+        reading = read_on(reading, input, line);
+        turns -= 1;
+    }
+    echo(reading, line);
+    reading
+}
+
+// Before a line's first byte.
+fn begin(reading: Reading) -> Reading {
+    let mut begun = reading;
+    begun.len = 0;
+    begun.long = false;
+    begun.open = true;
+    begun
+}
+
+fn read_on(reading: Reading, input: &mut [u8], line: &mut [u8]) -> Reading {
+    if reading.at < reading.end {
+        return take(reading, input, line);
+    }
+    refill(reading, input)
+}
+
+fn refill(reading: Reading, input: &mut [u8]) -> Reading {
+    let got = libc::read(STDIN_FILENO, input);
+    let mut filled = reading;
+    filled.at = 0;
+    filled.end = io::count(got, input);
+    filled.open = 0 < filled.end;
+    filled.more = filled.open;
+    filled
+}
+
+// Takes what stands before the next LF, and the LF.
+fn take(reading: Reading, input: &[u8], line: &mut [u8]) -> Reading {
+    let unread = words::front(input, reading.end);
+    let start = reading.at;
+    let end = words::until(unread, start, b'\n');
+    let mut taken = pass(reading, words::text_of(unread, Word { start, end }), line);
+    taken.at = end;
+    if end < unread.len() {
+        taken.at = end + 1;
+        taken.open = false;
+    }
+    taken
+}
+
+// More of the line. What follows a part that was too much is too much too.
+fn pass(reading: Reading, part: &[u8], line: &mut [u8]) -> Reading {
+    if reading.long {
+        return spill(reading, part, line);
+    }
+    keep(reading, part, line)
+}
+
+// Keeps a part, where there is room for it.
+fn keep(reading: Reading, part: &[u8], line: &mut [u8]) -> Reading {
+    let len = reading.len;
+    if line.len() < len {
+        return spill(reading, part, line);
+    }
+    if line.len() - len < part.len() {
+        return spill(reading, part, line);
+    }
+    copy(part, line, len);
+    let mut kept = reading;
+    kept.len = len + part.len();
+    kept
+}
+
+// A part for which there is no room: the first brings all that was kept before it.
+fn spill(reading: Reading, part: &[u8], line: &[u8]) -> Reading {
+    let mut spilt = reading;
+    if !spilt.long {
+        io::write_all(STDOUT_FILENO, words::front(line, spilt.len));
+    }
+    io::write_all(STDOUT_FILENO, part);
+    spilt.long = true;
+    spilt
+}
+
+fn copy(part: &[u8], line: &mut [u8], to: usize)
+    requires { ⌜ to + length (now part) ≤ length (now line) ⌝ }
+{
+    let mut i = 0;
+    while i < part.len() {
+        line[to + i] = part[i];
+        i += 1;
+    }
+}
+
+// The line, as far as it is not yet written, and what stands between it and its answer.
+fn echo(reading: Reading, line: &[u8]) {
+    if let Fault::NoLine = fault_of(reading) {
+        return;
+    }
+    if !reading.long {
+        io::write_all(STDOUT_FILENO, words::front(line, reading.len));
+    }
+    io::write_all(STDOUT_FILENO, b" => ");
+}
+
+// The input's end begins no line.
+pub(crate) fn fault_of(reading: Reading) -> Fault {
+    if reading.long {
+        return Fault::TooLong;
+    }
+    if reading.more || 0 < reading.len {
+        return Fault::Nothing;
+    }
+    Fault::NoLine
+}

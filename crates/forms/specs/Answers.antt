@@ -1,0 +1,124 @@
+-- What the result of each call, and a line's fault, come to as an answer: a form and the numbers that fill it.
+-- Assumes nothing.
+use Prim.Native.Nat.{ℕ}
+use mathlib.Core.Bool.{Bool, true, false}
+use mathlib.Core.List.{List, [], _∷_, _++_}
+use Rattle.text.specs.declared.refusal.Refusal.{Refusal}
+use Rattle.text.specs.Refusals.{refusalNumber, refusalValue}
+use Rattle.text.specs.declared.utf8.Utf8Check.{Utf8Check}
+use Rattle.text.specs.declared.utf8.Utf8Check.the-variants.{Valid, Refused as Unchecked}
+use Rattle.token.specs.declared.Token.{Token}
+use Rattle.token.specs.declared.Answer.{Answer as Described}
+use Rattle.token.specs.declared.Answer.the-variants.{Given, Refused as Undescribed}
+use Rattle.token.specs.Records.{recordOf}
+use Rattle.lexer.specs.declared.Cursor.{Cursor}
+use Rattle.lexer.specs.declared.Lexed.{Lexed}
+use Rattle.lexer.specs.declared.Lexed.the-variants.{Tokens, Refused as Unlexed}
+use Rattle.lexer.specs.declared.Start.{Start}
+use Rattle.lexer.specs.declared.Start.the-variants.{At, Refused as Unstarted}
+use Rattle.lexer.specs.declared.Step.{Step}
+use Rattle.lexer.specs.declared.Step.the-variants.{Token as Next, End, Refused as Unstepped}
+use Rattle.place.specs.declared.SpanCheck.{SpanCheck}
+use Rattle.place.specs.declared.SpanCheck.the-variants.{Whole, Refused as Misplaced}
+use Rattle.place.specs.declared.Position.{Position}
+use Rattle.place.specs.declared.Position.the-variants.{At as Found, Refused as Unfound}
+use Rattle.strings.specs.declared.Decoded.{Decoded}
+use Rattle.strings.specs.declared.Decoded.the-variants.{Written, Refused as Undecoded}
+use Rattle.asking.specs.declared.asked.Fault.{Fault}
+use Rattle.asking.specs.declared.asked.Fault.the-variants as fault
+use Rattle.spelling.specs.declared.Answer.{Answer}
+use Rattle.spelling.specs.declared.Form.{Form}
+use Rattle.spelling.specs.declared.Form.the-variants as form
+
+-- two numbers, and zeros behind them
+abbrev pub filledBy : Form → ℕ → ℕ → Answer
+filledBy f a b = record { form = f; numbers = a ∷ b ∷ 0 ∷ 0 ∷ 0 ∷ 0 ∷ 0 ∷ 0 ∷ [] }
+
+-- two numbers behind 0 and 0
+abbrev pub answeredBy : Form → ℕ → ℕ → Answer
+answeredBy f a b = record { form = f; numbers = 0 ∷ 0 ∷ a ∷ b ∷ 0 ∷ 0 ∷ 0 ∷ 0 ∷ [] }
+
+-- a refusal's number and the number returned, and zeros for the call's other results
+abbrev pub refusedAs : Form → Refusal → Answer
+refusedAs f r = filledBy f (refusalNumber r) (refusalValue r)
+
+abbrev pub flagOf : Bool → ℕ
+flagOf true = 1
+flagOf false = 0
+
+-- lex: the records; lexcap: 0 and their count
+abbrev pub tokensAs : Lexed → Answer
+tokensAs (Tokens n) = filledBy form.Tokens n 0
+tokensAs (Unlexed r) = refusedAs form.Refused r
+
+abbrev pub tokenCountAs : Lexed → Answer
+tokenCountAs (Tokens n) = filledBy form.Two 0 n
+tokenCountAs (Unlexed r) = refusedAs form.Two r
+
+-- dec: the bytes and the errors; deccap: 0 and both counts
+abbrev pub decodedAs : Decoded → Answer
+decodedAs (Written b e) = filledBy form.Decoded b e
+decodedAs (Undecoded r) = refusedAs form.Refused r
+
+abbrev pub countedAs : ℕ → ℕ → Answer
+countedAs b e = record { form = form.Three; numbers = 0 ∷ b ∷ e ∷ 0 ∷ 0 ∷ 0 ∷ 0 ∷ 0 ∷ [] }
+
+abbrev pub decodedCountAs : Decoded → Answer
+decodedCountAs (Written b e) = countedAs b e
+decodedCountAs (Undecoded r) = refusedAs form.Three r
+
+-- utf8 and span: 0 and 0
+abbrev pub checkedAs : Utf8Check → Answer
+checkedAs Valid = filledBy form.Two 0 0
+checkedAs (Unchecked r) = refusedAs form.Two r
+
+abbrev pub spanCheckedAs : SpanCheck → Answer
+spanCheckedAs Whole = filledBy form.Two 0 0
+spanCheckedAs (Misplaced r) = refusedAs form.Two r
+
+-- start: the cursor; pos: line and column
+abbrev pub startedAs : Start → Answer
+startedAs (At c) = answeredBy form.Four (c .place) (flagOf (c .ended))
+startedAs (Unstarted r) = refusedAs form.Four r
+
+abbrev pub positionedAs : Position → Answer
+positionedAs (Found line column) = answeredBy form.Four line column
+positionedAs (Unfound r) = refusedAs form.Four r
+
+-- step: the token and the next cursor
+abbrev pub nextAs : Token → Cursor → Answer
+nextAs t c =
+    record { form = form.Stepped; numbers = recordOf t ++ (c .place ∷ flagOf (c .ended) ∷ 0 ∷ 0 ∷ 0 ∷ []) }
+
+abbrev pub steppedAs : Step → Answer
+steppedAs (Next t c) = nextAs t c
+steppedAs End = filledBy form.Ended 0 0
+steppedAs (Unstepped r) = refusedAs form.NoStep r
+
+-- text: the bytes
+abbrev pub hexAs : ℕ → Answer
+hexAs n = filledBy form.Hex n 0
+
+-- desc: the answer, the length, the bytes and the encoding
+abbrev pub describedAs : Described → ℕ → ℕ → ℕ → Answer
+describedAs Given len n e = record { form = form.Described; numbers = 0 ∷ 0 ∷ len ∷ n ∷ e ∷ 0 ∷ 0 ∷ 0 ∷ [] }
+describedAs (Undescribed r) len n e =
+    record {
+      form = form.Described;
+      numbers = refusalNumber r ∷ refusalValue r ∷ len ∷ n ∷ e ∷ 0 ∷ 0 ∷ 0 ∷ [];
+    }
+
+-- each fault has a form of its own; no fault and the input's end have nothing to say
+abbrev pub faultForm : Fault → Form
+faultForm fault.TooLong = form.TooLong
+faultForm fault.UnknownCall = form.UnknownCall
+faultForm fault.WordCount = form.WordCount
+faultForm fault.NotNumber = form.NotNumber
+faultForm fault.NotHex = form.NotHex
+faultForm fault.NotFlag = form.NotFlag
+faultForm fault.TooMuch = form.TooMuch
+faultForm fault.Nothing = form.Nothing
+faultForm fault.NoLine = form.Nothing
+
+abbrev pub faultAs : Fault → Answer
+faultAs f = filledBy (faultForm f) 0 0

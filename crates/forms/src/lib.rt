@@ -1,0 +1,206 @@
+// What the result of each call, and a line's fault, come to as an answer: a form and the numbers that
+// fill it. Definitions: specs/Answers.antt.
+ghost use mathlib.Core.Path.{_≡_};
+ghost use Rattle.forms.specs.Answers.{filledBy, answeredBy, refusedAs, tokensAs, tokenCountAs, decodedAs, decodedCountAs, countedAs, checkedAs, spanCheckedAs, startedAs, positionedAs, steppedAs, nextAs, hexAs, describedAs, faultAs, faultForm, flagOf};
+use asking::Fault;
+use lexer::Cursor;
+use lexer::Lexed;
+use lexer::Start;
+use lexer::Step;
+use place::Position;
+use place::SpanCheck;
+use spelling::Answer;
+use spelling::Form;
+use strings::Decoded;
+use text::Refusal;
+use text::Utf8Check;
+use token::Answer as Described;
+use token::Token;
+
+// A call that answered: numbers, and zeros behind them.
+fn filled(form: Form, a: usize, b: usize) -> Answer
+    ensures { λ r. ⌜ r ≡ filledBy form a b ⌝ }
+{
+    Answer {
+        form,
+        numbers: [a, b, 0, 0, 0, 0, 0, 0],
+    }
+}
+
+// The same behind 0 and 0.
+fn answered(form: Form, a: usize, b: usize) -> Answer
+    ensures { λ r. ⌜ r ≡ answeredBy form a b ⌝ }
+{
+    Answer {
+        form,
+        numbers: [0, 0, a, b, 0, 0, 0, 0],
+    }
+}
+
+// A refused call: the refusal's number, the number returned, and zeros for its other results.
+fn refused(form: Form, why: Refusal) -> Answer
+    ensures { λ r. ⌜ r ≡ refusedAs form why ⌝ }
+{
+    filled(form, why.number(), why.value())
+}
+
+pub fn tokens(lexed: Lexed) -> Answer
+    ensures { λ r. ⌜ r ≡ tokensAs lexed ⌝ }
+{
+    match lexed {
+        Lexed::Tokens(count) => filled(Form::Tokens, count, 0),
+        Lexed::Refused(why) => refused(Form::Refused, why),
+    }
+}
+
+// 0 and the count.
+pub fn token_count(lexed: Lexed) -> Answer
+    ensures { λ r. ⌜ r ≡ tokenCountAs lexed ⌝ }
+{
+    match lexed {
+        Lexed::Tokens(count) => filled(Form::Two, 0, count),
+        Lexed::Refused(why) => refused(Form::Two, why),
+    }
+}
+
+pub fn decoded(result: Decoded) -> Answer
+    ensures { λ r. ⌜ r ≡ decodedAs result ⌝ }
+{
+    match result {
+        Decoded::Written { bytes, errors } => filled(Form::Decoded, bytes, errors),
+        Decoded::Refused(why) => refused(Form::Refused, why),
+    }
+}
+
+// 0 and both counts.
+pub fn decoded_count(result: Decoded) -> Answer
+    ensures { λ r. ⌜ r ≡ decodedCountAs result ⌝ }
+{
+    match result {
+        Decoded::Written { bytes, errors } => counted(bytes, errors),
+        Decoded::Refused(why) => refused(Form::Three, why),
+    }
+}
+
+fn counted(bytes: usize, errors: usize) -> Answer
+    ensures { λ r. ⌜ r ≡ countedAs bytes errors ⌝ }
+{
+    Answer {
+        form: Form::Three,
+        numbers: [0, bytes, errors, 0, 0, 0, 0, 0],
+    }
+}
+
+pub fn checked(check: Utf8Check) -> Answer
+    ensures { λ r. ⌜ r ≡ checkedAs check ⌝ }
+{
+    match check {
+        Utf8Check::Valid => filled(Form::Two, 0, 0),
+        Utf8Check::Refused(why) => refused(Form::Two, why),
+    }
+}
+
+pub fn span_checked(check: SpanCheck) -> Answer
+    ensures { λ r. ⌜ r ≡ spanCheckedAs check ⌝ }
+{
+    match check {
+        SpanCheck::Whole => filled(Form::Two, 0, 0),
+        SpanCheck::Refused(why) => refused(Form::Two, why),
+    }
+}
+
+pub fn started(start: Start) -> Answer
+    ensures { λ r. ⌜ r ≡ startedAs start ⌝ }
+{
+    match start {
+        Start::At(cursor) => answered(Form::Four, cursor.place, flag(cursor.ended)),
+        Start::Refused(why) => refused(Form::Four, why),
+    }
+}
+
+pub fn positioned(position: Position) -> Answer
+    ensures { λ r. ⌜ r ≡ positionedAs position ⌝ }
+{
+    match position {
+        Position::At { line, column } => answered(Form::Four, line, column),
+        Position::Refused(why) => refused(Form::Four, why),
+    }
+}
+
+pub fn stepped(step: Step) -> Answer
+    ensures { λ r. ⌜ r ≡ steppedAs step ⌝ }
+{
+    match step {
+        Step::Token(token, next) => token_and_next(token, next),
+        Step::End => filled(Form::Ended, 0, 0),
+        Step::Refused(why) => refused(Form::NoStep, why),
+    }
+}
+
+fn token_and_next(token: Token, next: Cursor) -> Answer
+    ensures { λ r. ⌜ r ≡ nextAs token next ⌝ }
+{
+    let record = token.as_record();
+    Answer {
+        form: Form::Stepped,
+        numbers: [
+            record[0],
+            record[1],
+            record[2],
+            next.place,
+            flag(next.ended),
+            0,
+            0,
+            0,
+        ],
+    }
+}
+
+pub fn hex(count: usize) -> Answer
+    ensures { λ r. ⌜ r ≡ hexAs count ⌝ }
+{
+    filled(Form::Hex, count, 0)
+}
+
+pub fn described(answer: Described, len: usize, count: usize, encoding: usize) -> Answer
+    ensures { λ r. ⌜ r ≡ describedAs answer len count encoding ⌝ }
+{
+    let mut numbers = [0, 0, len, count, encoding, 0, 0, 0];
+    if let Described::Refused(why) = answer {
+        numbers[0] = why.number();
+        numbers[1] = why.value();
+    }
+    Answer {
+        form: Form::Described,
+        numbers,
+    }
+}
+
+pub fn fault(why: Fault) -> Answer
+    ensures { λ r. ⌜ r ≡ faultAs why ⌝ }
+{
+    filled(fault_form(why), 0, 0)
+}
+
+fn fault_form(why: Fault) -> Form
+    ensures { λ r. ⌜ r ≡ faultForm why ⌝ }
+{
+    match why {
+        Fault::TooLong => Form::TooLong,
+        Fault::UnknownCall => Form::UnknownCall,
+        Fault::WordCount => Form::WordCount,
+        Fault::NotNumber => Form::NotNumber,
+        Fault::NotHex => Form::NotHex,
+        Fault::NotFlag => Form::NotFlag,
+        Fault::TooMuch => Form::TooMuch,
+        Fault::Nothing => Form::Nothing,
+        Fault::NoLine => Form::Nothing,
+    }
+}
+
+// 1 for yes.
+fn flag(b: bool) -> usize
+    ensures { λ r. ⌜ r ≡ flagOf b ⌝ }
+{
+    if b { 1 } else { 0 }
+}

@@ -1,0 +1,265 @@
+// Answers as text. An answer is a form and the numbers that fill it; it is collected in a buffer,
+// and what is collected is written to standard output whenever the buffer is full.
+ghost use mathlib.Core.Path.{_≡_};
+use libc::STDOUT_FILENO;
+
+// How an answer is spelled. The numbers of tests/README.md's tables, in their order, fill it.
+pub enum Form {
+    Tokens,
+    Decoded,
+    Refused,
+    Two,
+    Three,
+    Four,
+    Hex,
+    Stepped,
+    Ended,
+    NoStep,
+    Described,
+    // a line that is no call, and why
+    TooLong,
+    UnknownCall,
+    WordCount,
+    NotNumber,
+    NotHex,
+    NotFlag,
+    TooMuch,
+    // the input's end, which is no line
+    Nothing,
+}
+
+pub struct Answer {
+    pub form: Form,
+    pub numbers: [usize; 8],
+}
+
+// In the text of a form a `#` stands for the next number, a `$` for as many bytes in hex as that
+// number says, and a `%` for as many records. A `_` stands for nothing. Any other byte is written as
+// it is.
+type Text = [u8; 24];
+
+const TOKENS: Text = *b"%\n______________________";
+
+const DECODED: Text = *b"$ | %\n__________________";
+
+const REFUSED: Text = *b"refused # #\n____________";
+
+const TWO: Text = *b"# #\n____________________";
+
+const THREE: Text = *b"# # #\n__________________";
+
+const FOUR: Text = *b"# # # #\n________________";
+
+const HEX: Text = *b"$\n______________________";
+
+const STEPPED: Text = *b"0 0 | # # # | # #\n______";
+
+const ENDED: Text = *b"0 0 | end | -\n__________";
+
+const NO_STEP: Text = *b"# # | - | -\n____________";
+
+const DESCRIBED: Text = *b"# # # $ #\n______________";
+
+const TOO_LONG: Text = *b"? too long\n_____________";
+
+const UNKNOWN_CALL: Text = *b"? unknown call\n_________";
+
+const WORD_COUNT: Text = *b"? wrong number of words\n";
+
+const NOT_NUMBER: Text = *b"? not a number\n_________";
+
+const NOT_HEX: Text = *b"? not hex\n______________";
+
+const NOT_FLAG: Text = *b"? not 0 or 1\n___________";
+
+const TOO_MUCH: Text = *b"? more than can be lent\n";
+
+const NOTHING: Text = *b"________________________";
+
+// Writes an answer. It returns: of what is written no contract can speak.
+pub fn print_answer(answer: Answer, bytes: &[u8], records: &[[usize; 3]])
+    ensures { λ r. ⌜ r ≡ tt ⌝ }
+{
+    let mut space = [0u8; 16384];
+    let out: &mut [u8] = &mut space;
+    let form = answer.form;
+    let numbers = answer.numbers;
+    let used = put_text(out, text_of(form), numbers, bytes, records);
+    write(out, used);
+}
+
+// The text of a form.
+fn text_of(form: Form) -> Text {
+    match form {
+        Form::Tokens => TOKENS,
+        Form::Decoded => DECODED,
+        Form::Refused => REFUSED,
+        Form::Two => TWO,
+        Form::Three => THREE,
+        Form::Four => FOUR,
+        Form::Hex => HEX,
+        Form::Stepped => STEPPED,
+        Form::Ended => ENDED,
+        Form::NoStep => NO_STEP,
+        Form::Described => DESCRIBED,
+        Form::TooLong => TOO_LONG,
+        Form::UnknownCall => UNKNOWN_CALL,
+        Form::WordCount => WORD_COUNT,
+        Form::NotNumber => NOT_NUMBER,
+        Form::NotHex => NOT_HEX,
+        Form::NotFlag => NOT_FLAG,
+        Form::TooMuch => TOO_MUCH,
+        Form::Nothing => NOTHING,
+    }
+}
+
+// Each function below takes the buffer and how much of it is used, and answers how much is used
+// afterwards.
+fn put_text(
+    out: &mut [u8],
+    text: Text,
+    numbers: [usize; 8],
+    bytes: &[u8],
+    records: &[[usize; 3]],
+) -> usize {
+    let mut used = 0;
+    let mut k = 0;
+    let mut i = 0;
+    while i < 24 {
+        let b = text[i];
+        used = put_field(out, used, b, number_at(numbers, k), bytes, records);
+        k = next_number(k, b);
+        i += 1;
+    }
+    used
+}
+
+fn number_at(numbers: [usize; 8], k: usize) -> usize {
+    if k < 8 {
+        return numbers[k];
+    }
+    0
+}
+
+// Which number comes next, behind this byte of the text.
+fn next_number(k: usize, b: u8) -> usize {
+    if k < 8 && takes_number(b) {
+        return k + 1;
+    }
+    k
+}
+
+fn takes_number(b: u8) -> bool {
+    match b {
+        b'#' | b'$' | b'%' => true,
+        _ => false,
+    }
+}
+
+fn put_field(
+    out: &mut [u8],
+    used: usize,
+    b: u8,
+    number: usize,
+    bytes: &[u8],
+    records: &[[usize; 3]],
+) -> usize {
+    match b {
+        b'_' => used,
+        b'#' => put_number(out, used, number),
+        b'$' => put_hex(out, used, bytes, number),
+        b'%' => put_records(out, used, records, number),
+        _ => put_byte(out, used, b),
+    }
+}
+
+// The first `count` bytes in lower-case hex, or `-` for none.
+fn put_hex(out: &mut [u8], used: usize, bytes: &[u8], count: usize) -> usize {
+    if count == 0 {
+        return put_byte(out, used, b'-');
+    }
+    let mut n = used;
+    let mut i = 0;
+    while i < bytes.len() && i < count {
+        n = put_hex_byte(out, n, bytes[i]);
+        i += 1;
+    }
+    n
+}
+
+fn put_hex_byte(out: &mut [u8], used: usize, b: u8) -> usize {
+    let mut digits = [0u8; 16];
+    let k = io::hex(b as u64, 2, &mut digits);
+    put_all(out, used, &digits[..k])
+}
+
+// The first `count` records, joined by `; `, or `-` for none.
+fn put_records(out: &mut [u8], used: usize, records: &[[usize; 3]], count: usize) -> usize {
+    if count == 0 {
+        return put_byte(out, used, b'-');
+    }
+    let mut n = used;
+    let mut i = 0;
+    while i < records.len() && i < count {
+        n = put_joint(out, n, i);
+        n = put_record(out, n, records[i]);
+        i += 1;
+    }
+    n
+}
+
+// What stands before the record of this index.
+fn put_joint(out: &mut [u8], used: usize, i: usize) -> usize {
+    if i == 0 {
+        return used;
+    }
+    put_all(out, used, b"; ")
+}
+
+fn put_record(out: &mut [u8], used: usize, record: [usize; 3]) -> usize {
+    let n = put_number(out, used, record[0]);
+    let m = put_next(out, n, record[1]);
+    put_next(out, m, record[2])
+}
+
+// A number behind another.
+fn put_next(out: &mut [u8], used: usize, number: usize) -> usize {
+    let n = put_byte(out, used, b' ');
+    put_number(out, n, number)
+}
+
+fn put_number(out: &mut [u8], used: usize, number: usize) -> usize {
+    let mut digits = [0u8; 20];
+    let k = io::decimal(number as u64, &mut digits);
+    put_all(out, used, &digits[..k])
+}
+
+fn put_all(out: &mut [u8], used: usize, text: &[u8]) -> usize {
+    let mut n = used;
+    let mut i = 0;
+    while i < text.len() {
+        n = put_byte(out, n, text[i]);
+        i += 1;
+    }
+    n
+}
+
+// A full buffer is written, and used anew.
+fn put_byte(out: &mut [u8], used: usize, b: u8) -> usize {
+    if used < out.len() {
+        out[used] = b;
+        return used + 1;
+    }
+    write(out, used);
+    if 0 < out.len() {
+        out[0] = b;
+        return 1;
+    }
+    0
+}
+
+fn write(out: &[u8], used: usize) {
+    if used <= out.len() {
+        io::write_all(STDOUT_FILENO, &out[..used]);
+    }
+}
