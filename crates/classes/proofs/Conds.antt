@@ -1,10 +1,11 @@
--- A `cond` taken apart by its test.
+-- Tests: a choice taken apart by its test, two tests at once, and a flag that a test sets.
 -- Assumes nothing.
 use Prim.Native.Nat.{ℕ, _≤_, _<_}
 use mathlib.Core.Path.{_≡_, refl, sym, _∙_}
-use mathlib.Core.Bool.{Bool, true, false, cond, false≢true}
-use lib.Dec.{ltb}
-use borrow.Author.Tests.{ltb-true, ltb-false}
+use mathlib.Core.Logic.{_⊎_, inl, inr}
+use mathlib.Core.Bool.{Bool, true, false, cond, _&&_, false≢true}
+use lib.Dec.{ltb, eqb}
+use borrow.Author.Tests.{ltb-true, ltb-false, eqb-true, eqb-false}
 
 -- what holds of both choices, each under its test, holds of the choice
 pub cond-case : {A : Type 0} (P : A → Type 0) (t : Bool) {x y : A} → (t ≡ true → P x) → (t ≡ false → P y) → P (cond t x y)
@@ -15,6 +16,23 @@ cond-case P false f g = g refl
 pub by-lt : {A : Type 0} (P : A → Type 0) (a k : ℕ) {x y : A} → (a < k → P x) → (k ≤ a → P y) → P (cond (ltb a k) x y)
 by-lt P a k f g = cond-case P (ltb a k) (λ e. f (ltb-true a k e)) (λ e. g (ltb-false a k e))
 
+-- and where it is that they are equal
+pub by-eq : {A : Type 0} (P : A → Type 0) (a k : ℕ) {x y : A} → (a ≡ k → P x) → ((a ≡ k → ⊥) → P y) → P (cond (eqb a k) x y)
+by-eq P a k f g = cond-case P (eqb a k) (λ e. f (eqb-true a k e)) (λ e. g (eqb-false a k e))
+
 -- a test is not both
 pub not-both : {t : Bool} {P : Type 0} → t ≡ true → t ≡ false → P
 not-both e f = absurd (false≢true (sym f ∙ e))
+
+pub both-left : (x y : Bool) → (x && y) ≡ true → x ≡ true
+both-left true y e = refl
+both-left false y e = e
+
+pub both-right : (x y : Bool) → (x && y) ≡ true → y ≡ true
+both-right true y e = e
+both-right false y e = not-both e refl
+
+-- where `if test { flag = true; }` leaves the flag off, it was off, and the test failed
+pub flag-off : {A B : Type 0} (f old : Bool) → (A × (f ≡ true)) ⊎ (B × (f ≡ old)) → f ≡ false → (old ≡ false) × B
+flag-off f old (inl w) h = not-both (w .1) h
+flag-off f old (inr w) h = (sym (w .1) ∙ h, w .0)

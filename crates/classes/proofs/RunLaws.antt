@@ -1,12 +1,13 @@
 -- The laws of a run of bytes at a place, for the loops that walk it byte by byte or block by block.
 -- Assumes nothing.
 use Prim.Native.Nat.{ℕ, suc, _+_, _≤_, _<_}
-use mathlib.Core.Path.{_≡_, ap, _∙_, subst}
+use mathlib.Core.Path.{_≡_, refl, ap, _∙_, subst}
 use mathlib.Core.Bool.{Bool, true, false}
 use mathlib.Core.List.{List, [], _∷_}
+use native.Mathlib.Decide.{decLt}
 use native.Mathlib.Numerals.{add-one}
 use native.Mathlib.Omega.{arith}
-use lib.ListN.{length, getD, drop, drop-of-length-le}
+use lib.ListN.{length, getD, drop, drop-of-length-le, List·getD-eq-default}
 use lib.Seq.{drop-cons}
 use Rattle.classes.specs.Runs.{run}
 use Rattle.classes.proofs.Conds.{cond-case}
@@ -52,3 +53,28 @@ module _ (p : ℕ → Bool) (s : List ℕ) (i : ℕ) where
 
   pub block-end : (j n : ℕ) → j ≡ n → Block p s i j → Block p s i n
   block-end j n e b = subst (λ (k : ℕ). Block p s i k) e b
+
+-- a run that is empty, and one that is not, by the first byte
+pub run-none : (p : ℕ → Bool) (s : List ℕ) → 0 < length s → (n : ℕ) → n ≡ run p s → n ≤ 0 → p (getD s 0 0) ≡ false
+run-none p s h n e z = go (p (getD s 0 0)) refl
+  where
+    go : (t : Bool) → p (getD s 0 0) ≡ t → p (getD s 0 0) ≡ false
+    go true f = absurd (omega (arith, run-step p s 0 h f))
+    go false f = f
+
+pub run-first : (p : ℕ → Bool) (s : List ℕ) → 0 < length s → (n : ℕ) → n ≡ run p s → 0 < n → p (getD s 0 0) ≡ true
+run-first p s h n e z = go (p (getD s 0 0)) refl
+  where
+    go : (t : Bool) → p (getD s 0 0) ≡ t → p (getD s 0 0) ≡ true
+    go true f = f
+    go false f = absurd (omega (arith, run-stop p s 0 h f))
+
+-- a run ends where the byte is not in the class, or where there is none
+pub run-halts : (p : ℕ → Bool) (s : List ℕ) (i : ℕ) → p (getD s i 0) ≡ false → run p (drop i s) ≡ 0
+run-halts p s i e =
+    elim (decLt i (length s)) [ yes l ↦ run-stop p s i l e | no l ↦ run-end p s i (omega arith) ]
+
+-- a byte that is not 0 stands within the list
+pub there : (s : List ℕ) (i : ℕ) → 0 < getD s i 0 → i < length s
+there s i h =
+    elim (decLt i (length s)) [ yes l ↦ l | no l ↦ absurd (omega (arith, List·getD-eq-default s 0 {n = i} (omega arith))) ]

@@ -4,7 +4,7 @@ ghost use mathlib.Core.Bool.{true};
 ghost use Prim.Native.Nat.{_+_, _≤_};
 ghost use lib.ListN.{length};
 ghost use Rattle.strings.specs.Encodings.{markError};
-ghost use Rattle.strings.specs.Marks.{lineEnds, threes, mlStart, mlClosed, trimmed, mlEnd, mlEnds, keyEnds, endsOf};
+ghost use Rattle.strings.specs.Marks.{opens, lineStart, closes, lineEnd, lineEnds, threes, mlStart, mlClosed, trimmed, mlEnd, mlEnds, keyEnds, endsOf};
 use pieces::strip_start_newline;
 use strings::Encoding;
 use strings::Ends;
@@ -22,56 +22,56 @@ pub(crate) fn mark_error(e: Encoding) -> usize
     }
 }
 
+// A mark q at the front?
+fn has_one(q: u8, t: &[u8]) -> bool
+    ensures { λ r. ⌜ r ≡ opens q (now (t .entry)) ⌝ }
+{
+    if t.len() == 0 {
+        return false;
+    }
+    t[0] == q
+}
+
+fn line_start(opened: bool) -> usize
+    ensures { λ r. ⌜ r ≡ lineStart opened ⌝ }
+{
+    if opened { 1 } else { 0 }
+}
+
+// A mark q at the end, behind the body's start?
+fn line_closed(q: u8, start: usize, t: &[u8]) -> bool
+    ensures { λ r. ⌜ r ≡ closes start q (now (t .entry)) ⌝ }
+{
+    let n = t.len();
+    if n <= start {
+        return false;
+    }
+    t[n - 1] == q
+}
+
+fn line_end(closed: bool, t: &[u8]) -> usize
+    requires { ⌜ (closed ≡ true → 1 ≤ length (now t)) ⌝ }
+    ensures { λ r. ⌜ r ≡ lineEnd closed (now (t .entry)) ⌝ }
+{
+    if closed {
+        return t.len() - 1;
+    }
+    t.len()
+}
+
 // One mark q at each end.
 fn line_ends(q: u8, t: &[u8]) -> Ends
     ensures { λ r. ⌜ r ≡ lineEnds q (now (t .entry)) ⌝ }
 {
-    let n = t.len();
-    if n == 0 {
-        return Ends {
-            opened: false,
-            closed: false,
-            start: 0,
-            end: 0,
-        };
-    }
-    if t[0] != q {
-        if t[n - 1] == q {
-            return Ends {
-                opened: false,
-                closed: true,
-                start: 0,
-                end: n - 1,
-            };
-        }
-        return Ends {
-            opened: false,
-            closed: false,
-            start: 0,
-            end: n,
-        };
-    }
-    if n == 1 {
-        return Ends {
-            opened: true,
-            closed: false,
-            start: 1,
-            end: 1,
-        };
-    }
-    if t[n - 1] == q {
-        return Ends {
-            opened: true,
-            closed: true,
-            start: 1,
-            end: n - 1,
-        };
-    }
+    let opened = has_one(q, t);
+    let start = line_start(opened);
+    let closed = line_closed(q, start, t);
+    let end = line_end(closed, t);
     Ends {
-        opened: true,
-        closed: false,
-        start: 1,
-        end: n,
+        opened: opened,
+        closed: closed,
+        start: start,
+        end: end,
     }
 }
 

@@ -9,7 +9,7 @@ use native.Mathlib.Omega.{arith}
 use lib.ListN.{length, length-append}
 use Rattle.classes.specs.Classes.{basicUnescaped}
 use Rattle.classes.specs.Runs.{run}
-use Rattle.classes.proofs.Conds.{cond-case}
+use Rattle.classes.proofs.Conds.{cond-case, by-eq}
 use Rattle.text.specs.Utf8.{Scalar, encodeScalar, encodes, All}
 use Rattle.text.proofs.EncodeLaws.{encode-1}
 use Rattle.text.proofs.CutLaws.{all-parts}
@@ -19,7 +19,6 @@ use Rattle.strings.specs.Pieces.{notesAt, Pieces, collect, copyPiece}
 use Rattle.strings.specs.Escapes.{escapePiece}
 use Rattle.strings.specs.Bodies.{basicPiece, pieceOf}
 use Rattle.strings.specs.Decoding.{bytesOf, errorsOf}
-use Rattle.strings.proofs.Choices.{by-eq}
 use Rattle.strings.proofs.AsciiLaws.{basic-high}
 use Rattle.grammar.specs.Grammar.{EscapeSeqChar, escaped, basic-unescaped, escaped-char, BasicChars, stop, more, BasicString, basic-string}
 use Rattle.grammar.specs.Scalars.{Names, CharsName, BasicNames}

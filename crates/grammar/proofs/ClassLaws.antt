@@ -10,7 +10,7 @@ use borrow.Author.Tests.{eqb-true, leb-true, le-leb, lt-ltb, le-ltb}
 use Rattle.classes.specs.Classes.{among, wschar, literalChar, mllChar, basicUnescaped, mlbUnescaped, hexdig}
 use Rattle.text.specs.Utf8.{Scalar}
 use Rattle.strings.specs.Escapes.{hexValue}
-use Rattle.strings.proofs.Choices.{both-left, both-right}
+use Rattle.classes.proofs.Conds.{both-left, both-right}
 use Rattle.strings.proofs.AsciiLaws.{basic-high}
 use Rattle.grammar.specs.Grammar.{Wschar, NonAscii, x80-D7FF, xE000-10FFFF, BasicUnescaped, MlbUnescaped, HexDig, LiteralChar, MllChar}
 

@@ -8,14 +8,13 @@ use native.Mathlib.Omega.{arith}
 use lib.ListN.{length, take, drop, take-append-drop}
 use Rattle.classes.specs.Classes.{hexdig}
 use Rattle.classes.specs.Runs.{run}
-use Rattle.classes.proofs.Conds.{by-lt, cond-case}
+use Rattle.classes.proofs.Conds.{by-lt, cond-case, by-eq}
 use Rattle.text.specs.Utf8.{Scalar, All}
 use Rattle.text.specs.Utf8Read.{isScalar}
 use Rattle.text.proofs.EncodeLaws.{scalar-true, true-scalar}
 use Rattle.strings.specs.declared.Piece.{Piece}
 use Rattle.strings.specs.Pieces.{charPiece}
 use Rattle.strings.specs.Escapes.{simpleEscape, hexLength, hexFrom, hexValue, hexPiece, escapePiece}
-use Rattle.strings.proofs.Choices.{by-eq}
 use Rattle.strings.proofs.EscapeLaws.{hex-char, escape-hex, escape-simple}
 use Rattle.grammar.specs.Grammar.{HexDig, HexDigits, stop, more, EscapeSeqChar, x22, x5C, x62, x66, x6E, x72, x74, x75, x55}
 use Rattle.grammar.specs.Scalars.{Names}

@@ -20,7 +20,7 @@ use Rattle.strings.specs.Pieces.{gives, notesAt, collect}
 use Rattle.strings.specs.Bodies.{pieceOf}
 use Rattle.strings.specs.Marks.{closes, lineEnds, endsOf, bodyOf}
 use Rattle.strings.specs.Decoding.{bytesOf, missing, errorsOf}
-use Rattle.strings.proofs.Choices.{both-left, both-right}
+use Rattle.classes.proofs.Conds.{both-left, both-right}
 use Rattle.strings.proofs.MarkLaws.{line-both}
 use Rattle.strings.proofs.DecodeLaws.{bytes-is, errors-is}
 use Rattle.grammar.proofs.ListLaws.{last-split}

@@ -12,7 +12,7 @@ use lib.Dec.{eqb}
 use borrow.Author.Tests.{eqb-true, ne-eqb}
 use Rattle.classes.specs.Classes.{wschar, mlbUnescaped}
 use Rattle.classes.specs.Runs.{run}
-use Rattle.classes.proofs.Conds.{cond-case}
+use Rattle.classes.proofs.Conds.{cond-case, by-eq}
 use Rattle.text.specs.Utf8.{encodeScalar}
 use Rattle.text.proofs.EncodeLaws.{parts}
 use Rattle.strings.specs.declared.Piece.{Piece}
@@ -21,7 +21,6 @@ use Rattle.strings.specs.Encodings.{mlbPlain}
 use Rattle.strings.specs.Pieces.{Pieces, copyPiece, dropPiece}
 use Rattle.strings.specs.Escapes.{escapePiece}
 use Rattle.strings.specs.Bodies.{skips, lineEnd, escapedNl, escapedMore, mlbContent, mlBasicPiece, pieceOf}
-use Rattle.strings.proofs.Choices.{by-eq}
 use Rattle.strings.proofs.AsciiLaws.{mlb-high}
 use Rattle.grammar.specs.Grammar.{x20, x09, Newline, x0A, x0D-0A, EscapeSeqChar, Ws, MlbUnescaped, WscharNewline, newline}
 use Rattle.grammar.specs.Scalars.{Names}

@@ -11,7 +11,7 @@ use lib.Dec.{eqb}
 use borrow.Author.Tests.{eqb-true}
 use Rattle.classes.specs.Classes.{mllChar}
 use Rattle.classes.specs.Runs.{run}
-use Rattle.classes.proofs.Conds.{cond-case}
+use Rattle.classes.proofs.Conds.{cond-case, by-eq}
 use Rattle.text.specs.Utf8.{Scalar, encodeScalar, encodes, All}
 use Rattle.text.proofs.EncodeLaws.{encode-1}
 use Rattle.text.proofs.ReadLaws.{encodes-append}
@@ -21,7 +21,6 @@ use Rattle.strings.specs.Encodings.{mllPlain}
 use Rattle.strings.specs.Pieces.{notesAt, Pieces, collect, copyPiece}
 use Rattle.strings.specs.Bodies.{mlLiteralPiece, pieceOf}
 use Rattle.strings.specs.Decoding.{bytesOf, errorsOf}
-use Rattle.strings.proofs.Choices.{by-eq}
 use Rattle.grammar.specs.Grammar.{Newline, x0A, x0D-0A, MllChar, MllContent, mll-char, newline, MllContents, MllContents1, some-content, MllQuotes, one, two, MllGroups, OptMllQuotes, absent, present, MlLiteralBody, ml-literal-body, MlLiteralString, ml-literal-string}
 use Rattle.grammar.specs.Prose.{MlLiteralObeys}
 use Rattle.grammar.specs.Strings.{Apart}

@@ -10,10 +10,9 @@ use native.Mathlib.Nat.{add-zero}
 use lib.ListN.{length, drop, drop-of-length-le}
 use lib.Seq.{drop-drop}
 use borrow.Author.Tests.{le-ltb, ne-eqb}
-use Rattle.classes.proofs.Conds.{cond-case, by-lt}
+use Rattle.classes.proofs.Conds.{cond-case, by-lt, by-eq}
 use Rattle.text.specs.Utf8.{Utf8}
 use Rattle.text.specs.Refusals.{limit}
-use Rattle.strings.proofs.Choices.{by-eq}
 use Rattle.token.specs.declared.TokenKind.{TokenKind}
 use Rattle.token.specs.declared.Token.{Token}
 use Rattle.token.specs.Records.{tokenOf}

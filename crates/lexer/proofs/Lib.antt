@@ -1,4 +1,3 @@
-pub mod FlagLaws
 pub mod TailLaws
 pub mod MarkLaws
 pub mod KindLaws

@@ -11,15 +11,15 @@ use lib.Dec.{eqb}
 use lib.ListN.{length, getD, drop, drop-of-length-le, length-drop}
 use lib.Seq.{drop-drop}
 use Rattle.classes.specs.Classes.{wschar}
-use Rattle.classes.proofs.Conds.{cond-case}
-use Rattle.classes.proofs.RunLaws.{run-le}
+use Rattle.classes.proofs.Conds.{cond-case, both-right}
+use Rattle.classes.proofs.RunLaws.{run-le, there}
 use Rattle.token.specs.declared.TokenKind.{TokenKind}
 use Rattle.token.specs.declared.Token.{Token}
 use Rattle.lexer.specs.Bytes.{hides, closes, inComment, inAtom}
 use Rattle.lexer.specs.Extents.{lineTail, triple, upToTwo, mlTail, newlineTail}
 use Rattle.lexer.specs.Table.{kindOf, extent, tokenLen}
 use Rattle.lexer.specs.Tokens.{tokenAt, eofAt, walk, tokensFrom, hasBom, startOf, tokensOf}
-use Rattle.lexer.proofs.MarkLaws.{and-right, nonzero-at, triple-fits}
+use Rattle.lexer.proofs.MarkLaws.{triple-fits}
 use Rattle.lexer.proofs.KindLaws.{by-kind}
 
 -- ---- each extent stays within the bytes
@@ -39,8 +39,8 @@ unfolding upToTwo
 two-fits q s h =
     cond-case (Fits s) (eqb (getD s 0 0) q)
     (λ t. cond-case (Fits s) (eqb (getD s 1 0) q)
-    (λ u. let e : getD s 1 0 ≡ q = eqb-true _ _ u in nonzero-at s 1 (omega arith))
-    (λ u. let e : getD s 0 0 ≡ q = eqb-true _ _ t in nonzero-at s 0 (omega arith)))
+    (λ u. let e : getD s 1 0 ≡ q = eqb-true _ _ u in there s 1 (omega arith))
+    (λ u. let e : getD s 0 0 ≡ q = eqb-true _ _ t in there s 0 (omega arith)))
     (λ t. omega arith)
 
 ml-fits : (q : ℕ) (h : Bool) (s : List ℕ) → 0 < q → mlTail q h s ≤ length s
@@ -48,7 +48,7 @@ unfolding mlTail
 ml-fits q h [] l = omega arith
 ml-fits q h (b ∷ s) l =
     cond-case (Fits (b ∷ s)) (not h && triple q (b ∷ s))
-    (λ t. omega (arith, triple-fits q (b ∷ s) l (and-right (not h) _ t), two-fits q (drop 3 (b ∷ s)) l, length-drop 3 (b ∷ s)))
+    (λ t. omega (arith, triple-fits q (b ∷ s) l (both-right (not h) _ t), two-fits q (drop 3 (b ∷ s)) l, length-drop 3 (b ∷ s)))
     (λ t. suc-le-suc (ml-fits q (hides q h b) s l))
 
 ml-whole-fits : (q b : ℕ) (s : List ℕ) → 0 < q → b ≡ q → triple b s ≡ true → suc (suc (suc (mlTail q false (drop 3 s)))) ≤ length s
@@ -58,7 +58,7 @@ newline-fits : (b : ℕ) (s : List ℕ) → suc (newlineTail (b ∷ s)) ≤ leng
 unfolding newlineTail
 newline-fits b s =
     cond-case (λ (n : ℕ). suc n ≤ length (b ∷ s)) (eqb b 13 && eqb (getD s 0 0) 10)
-    (λ t. let e : getD s 0 0 ≡ 10 = eqb-true _ _ (and-right (eqb b 13) _ t) in omega (arith, nonzero-at s 0 (omega arith)))
+    (λ t. let e : getD s 0 0 ≡ 10 = eqb-true _ _ (both-right (eqb b 13) _ t) in omega (arith, there s 0 (omega arith)))
     (λ t. omega arith)
 
 pub token-fits : (s : List ℕ) → tokenLen s ≤ length s
@@ -128,8 +128,8 @@ unfolding startOf
 start-fits doc =
     cond-case (Fits doc) (hasBom doc)
     (λ t.
-    let e : getD doc 2 0 ≡ 0xBF = eqb-true _ _ (and-right (eqb (getD doc 1 0) 0xBB) _ (and-right (eqb (getD doc 0 0) 0xEF) _ t)) in
-    nonzero-at doc 2 (omega arith))
+    let e : getD doc 2 0 ≡ 0xBF = eqb-true _ _ (both-right (eqb (getD doc 1 0) 0xBB) _ (both-right (eqb (getD doc 0 0) 0xEF) _ t)) in
+    there doc 2 (omega arith))
     (λ t. omega arith)
 
 walk-count : (at k : ℕ) (s : List ℕ) → length (walk at k s) ≤ suc (length s)

@@ -16,7 +16,7 @@ use Rattle.token.specs.declared.TokenKind.{TokenKind}
 use Rattle.lexer.specs.Bytes.{eol, hides, closes, inComment, inAtom}
 use Rattle.lexer.specs.Extents.{lineTail, triple, upToTwo, mlTail, newlineTail}
 use Rattle.lexer.specs.Table.{kindOf, extent, tokenLen}
-use Rattle.lexer.proofs.MarkLaws.{and-left, and-right}
+use Rattle.classes.proofs.Conds.{both-left, both-right}
 use Rattle.lexer.proofs.KindLaws.{by-kind}
 use Rattle.lexing.specs.Cuts.{Clean, at-end, before, after, further}
 
@@ -83,7 +83,7 @@ line-clean : (q : ℕ) (h : Bool) (s : List ℕ) → q < 0x80 → Clean s (lineT
 unfolding lineTail
 line-clean q h [] l = at-end
 line-clean q h (b ∷ s) l =
-    cond-case (Clean (b ∷ s)) (closes q h b) (λ t. after (one-ascii q l b (and-right (not h) _ t)))
+    cond-case (Clean (b ∷ s)) (closes q h b) (λ t. after (one-ascii q l b (both-right (not h) _ t)))
     λ _. cond-case (Clean (b ∷ s)) (eqb b 10) (λ t. before (one-ascii 10 (omega arith) b t)) (λ _. further (line-clean q (hides q h b) s l))
 
 no-mark : (q : ℕ) → 0 < q → eqb 0 q ≡ true → ⊥
@@ -106,11 +106,11 @@ two-after q a (x ∷ y ∷ s) l m h =
 
 closing-clean : (q : ℕ) (s : List ℕ) → 0 < q → q < 0x80 → triple q s ≡ true → Clean s (suc (suc (suc (upToTwo q (drop 3 s)))))
 unfolding triple
-closing-clean q [] l m t = absurd (no-mark q l (and-left (eqb 0 q) _ t))
-closing-clean q (x ∷ []) l m t = absurd (no-mark q l (and-left (eqb 0 q) _ (and-right (eqb x q) _ t)))
-closing-clean q (x ∷ y ∷ []) l m t = absurd (no-mark q l (and-right (eqb y q) _ (and-right (eqb x q) _ t)))
+closing-clean q [] l m t = absurd (no-mark q l (both-left (eqb 0 q) _ t))
+closing-clean q (x ∷ []) l m t = absurd (no-mark q l (both-left (eqb 0 q) _ (both-right (eqb x q) _ t)))
+closing-clean q (x ∷ y ∷ []) l m t = absurd (no-mark q l (both-right (eqb y q) _ (both-right (eqb x q) _ t)))
 closing-clean q (x ∷ y ∷ z ∷ s) l m t =
-    further (further (two-after q z s l m (one-ascii q m z (and-right (eqb y q) _ (and-right (eqb x q) _ t)))))
+    further (further (two-after q z s l m (one-ascii q m z (both-right (eqb y q) _ (both-right (eqb x q) _ t)))))
 
 ml-clean : (q : ℕ) (h : Bool) (s : List ℕ) → 0 < q → q < 0x80 → Clean s (mlTail q h s)
 unfolding mlTail
@@ -119,25 +119,25 @@ ml-clean q h (b ∷ s) l m =
     cond-case (Clean (b ∷ s)) (not h && triple q (b ∷ s))
     (λ t.
     let e : 3 + upToTwo q (drop 3 (b ∷ s)) ≡ suc (suc (suc (upToTwo q (drop 3 (b ∷ s))))) = omega arith in
-    rw e (closing-clean q (b ∷ s) l m (and-right (not h) _ t)))
+    rw e (closing-clean q (b ∷ s) l m (both-right (not h) _ t)))
     (λ t. further (ml-clean q (hides q h b) s l m))
 
 -- with its opening of three marks
 ml-whole-clean : (q b : ℕ) (s : List ℕ) → 0 < q → q < 0x80 → b ≡ q → triple b (b ∷ s) ≡ true
     → Clean (b ∷ s) (suc (suc (suc (mlTail q false (drop 3 (b ∷ s))))))
 unfolding triple
-ml-whole-clean q b [] l m e t = absurd (no-mark b (omega arith) (and-left (eqb 0 b) _ (and-right (eqb b b) _ t)))
-ml-whole-clean q b (y ∷ []) l m e t = absurd (no-mark b (omega arith) (and-right (eqb y b) _ (and-right (eqb b b) _ t)))
+ml-whole-clean q b [] l m e t = absurd (no-mark b (omega arith) (both-left (eqb 0 b) _ (both-right (eqb b b) _ t)))
+ml-whole-clean q b (y ∷ []) l m e t = absurd (no-mark b (omega arith) (both-right (eqb y b) _ (both-right (eqb b b) _ t)))
 ml-whole-clean q b (y ∷ z ∷ s) l m e t = further (further (further (ml-clean q false s l m)))
 
 newline-clean : (b : ℕ) (s : List ℕ) → b < 0x80 → Clean (b ∷ s) (suc (newlineTail (b ∷ s)))
 unfolding newlineTail
 newline-clean b [] h =
     cond-case (λ (n : ℕ). Clean (b ∷ []) (suc n)) (eqb b 13 && eqb 0 10)
-    (λ t. absurd (no-mark 10 (omega arith) (and-right (eqb b 13) _ t))) (λ _. after h)
+    (λ t. absurd (no-mark 10 (omega arith) (both-right (eqb b 13) _ t))) (λ _. after h)
 newline-clean b (x ∷ s) h =
     cond-case (λ (n : ℕ). Clean (b ∷ x ∷ s) (suc n)) (eqb b 13 && eqb x 10)
-    (λ t. further (after (one-ascii 10 (omega arith) x (and-right (eqb b 13) _ t)))) (λ _. after h)
+    (λ t. further (after (one-ascii 10 (omega arith) x (both-right (eqb b 13) _ t)))) (λ _. after h)
 
 pub token-clean : (s : List ℕ) → Clean s (tokenLen s)
 unfolding tokenLen kindOf extent

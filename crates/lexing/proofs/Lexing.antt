@@ -25,7 +25,7 @@ use Rattle.lexer.specs.Tokens.{tokenAt, eofAt, walk, tokensFrom, hasBom, startO
 use Rattle.lexer.specs.Steps.{cursorOf, startAnswer, startCursor, stepOf}
 use Rattle.lexer.specs.declared.Step.{Step}
 use Rattle.lexer.specs.declared.Step.the-variants.{Token as Given, End}
-use Rattle.lexer.proofs.MarkLaws.{and-left, and-right}
+use Rattle.classes.proofs.Conds.{both-left, both-right}
 use Rattle.lexer.proofs.TokenLaws.{token-fits, token-long, token-fits-at, tokens-cons, tokens-step, tokens-end, start-fits}
 use Rattle.lexing.specs.Lexing.{stepsFrom, Gives, StepsWhole, Follow, NoGap, NotEmpty, textOf, Uncut, Local}
 use Rattle.lexing.specs.Cuts.{Clean, at-end, before, after, further}
@@ -170,9 +170,9 @@ unfolding startOf
 start-cut s u =
     cond-case (λ (n : ℕ). Utf8 (drop n s)) (hasBom s)
     (λ t.
-    let rest = and-right (eqb (getD s 0 0) 0xEF) _ t in
-    bom-drop s (eqb-true _ _ (and-left (eqb (getD s 0 0) 0xEF) _ t)) (eqb-true _ _ (and-left (eqb (getD s 1 0) 0xBB) _ rest))
-    (eqb-true _ _ (and-right (eqb (getD s 1 0) 0xBB) _ rest)) u)
+    let rest = both-right (eqb (getD s 0 0) 0xEF) _ t in
+    bom-drop s (eqb-true _ _ (both-left (eqb (getD s 0 0) 0xEF) _ t)) (eqb-true _ _ (both-left (eqb (getD s 1 0) 0xBB) _ rest))
+    (eqb-true _ _ (both-right (eqb (getD s 1 0) 0xBB) _ rest)) u)
     (λ t. u)
 
 -- ---- each token of a document

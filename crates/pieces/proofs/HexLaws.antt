@@ -13,12 +13,11 @@ use borrow.Author.Tests.{ltb-true}
 use Rattle.classes.specs.Classes.{hexdig}
 use Rattle.classes.specs.Runs.{run}
 use Rattle.classes.proofs.ByteTable.{class-is}
-use Rattle.classes.proofs.RunLaws.{run-step}
+use Rattle.classes.proofs.RunLaws.{run-step, there, run-halts}
 use Rattle.strings.specs.Escapes.{hexValue, hexFrom}
-use Rattle.strings.proofs.Choices.{there}
 use Rattle.strings.proofs.EscapeLaws.{hex-more}
 use Rattle.strings.proofs.AsciiLaws.{hexdig-low}
-use Rattle.pieces.proofs.ScanLaws.{run-halts, hexdig-above}
+use Rattle.pieces.proofs.ScanLaws.{hexdig-above}
 
 value-test : (b : ℕ) → b < 0x80 → true ≡ (not (hexdig b) || ltb (hexValue b) 16)
 unfolding hexdig hexValue

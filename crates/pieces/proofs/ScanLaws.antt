@@ -85,33 +85,6 @@ clear-plain MlLiteralString v b w h i x f s d l k = sym (mll-clear b h d (over-l
 clear-plain MlBasicString v b w h i x f s d l k = sym (mlb-clear b h d f (over-lines b w i x l k))
 clear-plain UnquotedKey v b w h i x f s d l k = absurd v
 
--- where `if test { flag = true; }` leaves the flag off, it was off, and the test failed
-pub flag-off : {A B : Type 0} (f old : Bool) → (A × (f ≡ true)) ⊎ (B × (f ≡ old)) → f ≡ false → (old ≡ false) × B
-flag-off f old (inl w) h = absurd (false≢true (sym h ∙ w .1))
-flag-off f old (inr w) h = (sym (w .1) ∙ h, w .0)
-
--- ---- runs at a place, for a class that 0 is not in: the end needs no test of its own
-
--- a run that is empty, and one that is not, by the first byte
-pub run-none : (p : ℕ → Bool) (s : List ℕ) → 0 < length s → (n : ℕ) → n ≡ run p s → n ≤ 0 → p (getD s 0 0) ≡ false
-run-none p s h n e z = go (p (getD s 0 0)) refl
-  where
-    go : (t : Bool) → p (getD s 0 0) ≡ t → p (getD s 0 0) ≡ false
-    go true f = absurd (omega (arith, run-step p s 0 h f))
-    go false f = f
-
-pub run-first : (p : ℕ → Bool) (s : List ℕ) → 0 < length s → (n : ℕ) → n ≡ run p s → 0 < n → p (getD s 0 0) ≡ true
-run-first p s h n e z = go (p (getD s 0 0)) refl
-  where
-    go : (t : Bool) → p (getD s 0 0) ≡ t → p (getD s 0 0) ≡ true
-    go true f = f
-    go false f = absurd (omega (arith, run-stop p s 0 h f))
-
--- a run ends where the byte is not in the class, or where there is none
-pub run-halts : (p : ℕ → Bool) (s : List ℕ) (i : ℕ) → p (getD s i 0) ≡ false → run p (drop i s) ≡ 0
-run-halts p s i e =
-    elim (decLt i (length s)) [ yes l ↦ run-stop p s i l e | no l ↦ run-end p s i (omega arith) ]
-
 -- a hex digit is at least 0
 pub hexdig-above : (b : ℕ) → hexdig b ≡ true → 0x30 ≤ b
 unfolding hexdig

@@ -1,7 +1,8 @@
 -- What the scans of this crate's code say. Not to be believed: no promise of a public function cites it.
 -- Assumes nothing.
 use Prim.Native.Nat.{ℕ}
-use mathlib.Core.Bool.{Bool}
+use mathlib.Core.Path.{_≡_}
+use mathlib.Core.Bool.{Bool, false}
 use Rattle.classes.specs.Classes.{wschar}
 use Rattle.strings.specs.declared.Encoding.{Encoding}
 use Rattle.strings.specs.declared.Encoding.the-variants.{LiteralString, BasicString, MlLiteralString, MlBasicString, UnquotedKey}
@@ -35,3 +36,11 @@ stopsOf BasicString = stops 0x22 0x5C 0x20 0
 stopsOf MlLiteralString = stops 0x7F 0x7F 0x09 21
 stopsOf MlBasicString = stops 0x5C 0x5C 0x09 21
 stopsOf UnquotedKey = stops 0x7F 0x7F 0x20 0
+
+-- the flags of a block
+pub record NoneSet (first second delete low mid : Bool) : Type 0 where
+  pub first-off : first ≡ false
+  pub second-off : second ≡ false
+  pub delete-off : delete ≡ false
+  pub low-off : low ≡ false
+  pub mid-off : mid ≡ false

@@ -7,7 +7,7 @@ ghost use lib.ListN.{length, drop, getD};
 ghost use Rattle.classes.specs.Runs.{run};
 ghost use Rattle.classes.proofs.RunLaws.{Block};
 ghost use Rattle.strings.specs.Encodings.{mllPlain, mlbPlain, basicInvalid, mlbInvalid, plain};
-ghost use Rattle.pieces.specs.Scan.{setOf, Wide, stopsOf};
+ghost use Rattle.pieces.specs.Scan.{setOf, Wide, stopsOf, NoneSet};
 use classes::is_basic_unescaped;
 use classes::is_literal_char;
 use classes::is_mlb_unescaped;
@@ -206,6 +206,13 @@ fn plain_block(e: Encoding, s: &[u8], i: usize, n: usize) -> bool
         }
         j += 1;
     }
+    none_set(first, second, delete, low, mid)
+}
+
+// Is no flag set?
+fn none_set(first: bool, second: bool, delete: bool, low: bool, mid: bool) -> bool
+    ensures { λ r. ⌜ (r ≡ true → NoneSet first second delete low mid) ⌝ }
+{
     if first {
         return false;
     }

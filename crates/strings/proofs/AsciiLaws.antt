@@ -13,14 +13,13 @@ use lib.Seq.{take-add}
 use borrow.Author.Tests.{eqb-true, leb-true, le-leb}
 use Rattle.classes.specs.Classes.{among, wschar, basicUnescaped, mlbUnescaped, hexdig}
 use Rattle.classes.specs.Runs.{run}
-use Rattle.classes.proofs.Conds.{not-both}
+use Rattle.classes.proofs.Conds.{not-both, both-right}
 use Rattle.text.specs.Utf8.{Scalar, encodeScalar, Utf8}
 use Rattle.text.proofs.EncodeLaws.{encode-1}
 use Rattle.text.proofs.ReadLaws.{valid-append, utf8-iff}
 use Rattle.text.proofs.CutLaws.{utf8-append, cut-at}
 use Rattle.strings.specs.Encodings.{mlbPlain, basicInvalid, mlbInvalid}
 use Rattle.strings.specs.Bodies.{skips}
-use Rattle.strings.proofs.Choices.{both-right}
 
 -- ---- classes
 

@@ -9,15 +9,14 @@ use lib.ListN.{length, drop, getD, length-drop}
 use borrow.Author.Tests.{ne-eqb}
 use Rattle.classes.specs.Classes.{wschar, literalChar, basicUnescaped, unquotedChar}
 use Rattle.classes.specs.Runs.{run}
-use Rattle.classes.proofs.Conds.{cond-case}
-use Rattle.classes.proofs.RunLaws.{run-le, run-step}
+use Rattle.classes.proofs.Conds.{cond-case, by-eq}
+use Rattle.classes.proofs.RunLaws.{run-le, run-step, there}
 use Rattle.strings.specs.declared.Piece.{Piece}
 use Rattle.strings.specs.declared.Encoding.{Encoding}
 use Rattle.strings.specs.declared.Encoding.the-variants.{LiteralString, BasicString, MlLiteralString, MlBasicString, UnquotedKey}
 use Rattle.strings.specs.Encodings.{mllPlain, mlbPlain, basicInvalid, mlbInvalid}
 use Rattle.strings.specs.Pieces.{copyPiece}
 use Rattle.strings.specs.Bodies.{literalPiece, crError, mlLiteralPiece, basicPiece, skips, lineEnd, escapedNl, escapedMore, mlbContent, mlBasicPiece, keyPiece, pieceOf}
-use Rattle.strings.proofs.Choices.{by-eq, there}
 use Rattle.strings.proofs.Fine.{FineAt, Fine, fine-copy, fine-drop}
 use Rattle.strings.proofs.EscapeLaws.{escape-fine}
 

@@ -12,15 +12,14 @@ use native.Mathlib.Numerals.{add-one}
 use borrow.Author.Tests.{lt-ltb, le-ltb}
 use Rattle.classes.specs.Classes.{hexdig}
 use Rattle.classes.specs.Runs.{run}
-use Rattle.classes.proofs.Conds.{cond-case, by-lt}
-use Rattle.classes.proofs.RunLaws.{run-le}
+use Rattle.classes.proofs.Conds.{cond-case, by-lt, by-eq}
+use Rattle.classes.proofs.RunLaws.{run-le, there}
 use Rattle.text.specs.Utf8.{encodeScalar}
 use Rattle.text.specs.Utf8Read.{isScalar}
 use Rattle.text.proofs.EncodeLaws.{encode-1, encode-length, true-scalar}
 use Rattle.strings.specs.declared.Piece.{Piece}
 use Rattle.strings.specs.Pieces.{charPiece}
 use Rattle.strings.specs.Escapes.{simpleEscape, hexLength, hexValue, hexFrom, hexPiece, escapePiece}
-use Rattle.strings.proofs.Choices.{by-eq, there}
 use Rattle.strings.proofs.Fine.{FineAt, fine-char}
 
 -- ---- letters

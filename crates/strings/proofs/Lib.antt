@@ -1,4 +1,3 @@
-pub mod Choices
 pub mod PieceLaws
 pub mod StoreLaws
 pub mod Fine

@@ -9,44 +9,41 @@ use native.Mathlib.Omega.{arith}
 use lib.Dec.{eqb, leb, ltb, eqb·suc-zero}
 use lib.ListN.{length, take, drop, getD, length-drop}
 use lib.Seq.{take-suc, length-take-le}
-use borrow.Author.Tests.{eq-eqb, ne-eqb, lt-ltb, ltb-true, leb-true, le-leb, lt-leb, eqb-true}
-use Rattle.classes.proofs.Conds.{cond-case}
+use borrow.Author.Tests.{eq-eqb, ne-eqb, lt-ltb, le-ltb, ltb-true, leb-true, le-leb, lt-leb, eqb-true}
+use Rattle.classes.proofs.Conds.{cond-case, by-eq, both-left, both-right}
 use Rattle.strings.specs.declared.Encoding.{Encoding}
 use Rattle.strings.specs.declared.Encoding.the-variants.{LiteralString, BasicString, MlLiteralString, MlBasicString, UnquotedKey}
 use Rattle.strings.specs.declared.Ends.{Ends}
-use Rattle.strings.specs.Marks.{opens, closes, lineEnds, threes, newlineLen, mlStart, mlClosed, trimmed, mlEnd, mlEnds, keyEnds, endsOf}
-use Rattle.strings.proofs.Choices.{by-eq, both-left, both-right, there}
+use Rattle.strings.specs.Marks.{opens, lineStart, closes, lineEnd, lineEnds, threes, newlineLen, mlStart, mlClosed, trimmed, mlEnd, mlEnds, keyEnds, endsOf}
+use Rattle.classes.proofs.RunLaws.{there}
 
 -- ---- one mark at each end
 
 module _ (q : ℕ) (t : List ℕ) where
-  pub line-none : length t ≡ 0 → record { opened = false; closed = false; start = 0; end = 0 } ≡ lineEnds q t
-  unfolding lineEnds
-  line-none e = simp e
+  pub opens-none : length t ≡ 0 → false ≡ opens q t
+  opens-none e = simp e
 
-  pub line-shut : (length t ≡ 0 → ⊥) → (getD t 0 0 ≡ q → ⊥) → getD t (length t - 1) 0 ≡ q
-      → record { opened = false; closed = true; start = 0; end = length t - 1 } ≡ lineEnds q t
-  unfolding lineEnds
-  line-shut n o e = simp (lt-ltb 0 (length t) (omega arith), ne-eqb _ q o, eq-eqb _ q e)
+  pub opens-by : (length t ≡ 0 → ⊥) → eqb (getD t 0 0) q ≡ opens q t
+  opens-by n = simp (lt-ltb 0 (length t) (omega arith))
 
-  pub line-bare : (length t ≡ 0 → ⊥) → (getD t 0 0 ≡ q → ⊥) → (getD t (length t - 1) 0 ≡ q → ⊥)
-      → record { opened = false; closed = false; start = 0; end = length t } ≡ lineEnds q t
-  unfolding lineEnds
-  line-bare n o e = simp (lt-ltb 0 (length t) (omega arith), ne-eqb _ q o, ne-eqb _ q e)
+  pub closes-none : (start : ℕ) → length t ≤ start → false ≡ closes start q t
+  closes-none start h = simp (le-ltb start (length t) h)
 
-  pub line-one : length t ≡ 1 → getD t 0 0 ≡ q → record { opened = true; closed = false; start = 1; end = 1 } ≡ lineEnds q t
+  pub closes-by : (start : ℕ) → start < length t → eqb (getD t (length t - 1) 0) q ≡ closes start q t
+  closes-by start h = simp (lt-ltb start (length t) h)
+
+  pub closes-some : (start : ℕ) → closes start q t ≡ true → 1 ≤ length t
+  closes-some start e = omega (arith, ltb-true start (length t) (both-left _ _ e))
+
+  pub line-is : (o : Bool) (n : ℕ) (c : Bool) (e : ℕ) → o ≡ opens q t → n ≡ lineStart o → c ≡ closes n q t → e ≡ lineEnd c t
+      → record { opened = o; closed = c; start = n; end = e } ≡ lineEnds q t
   unfolding lineEnds
-  line-one n o = simp (eq-eqb _ q o, n)
+  line-is o n c e p r s u = rw (u, s, r, p)
 
   pub line-both : 1 < length t → getD t 0 0 ≡ q → getD t (length t - 1) 0 ≡ q
       → record { opened = true; closed = true; start = 1; end = length t - 1 } ≡ lineEnds q t
   unfolding lineEnds
   line-both n o e = simp (lt-ltb 0 (length t) (omega arith), lt-ltb 1 (length t) n, eq-eqb _ q o, eq-eqb _ q e)
-
-  pub line-open : 1 < length t → getD t 0 0 ≡ q → (getD t (length t - 1) 0 ≡ q → ⊥)
-      → record { opened = true; closed = false; start = 1; end = length t } ≡ lineEnds q t
-  unfolding lineEnds
-  line-open n o e = simp (lt-ltb 0 (length t) (omega arith), lt-ltb 1 (length t) n, eq-eqb _ q o, ne-eqb _ q e)
 
 -- ---- three marks at each end
 

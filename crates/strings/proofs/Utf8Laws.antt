@@ -14,7 +14,7 @@ use lib.Seq.{take-length, getD-drop, drop-drop}
 use borrow.Author.Tests.{eqb-true, ltb-true}
 use Rattle.classes.specs.Classes.{wschar, hexdig, literalChar, basicUnescaped, unquotedChar}
 use Rattle.classes.specs.Runs.{run}
-use Rattle.classes.proofs.Conds.{cond-case, by-lt}
+use Rattle.classes.proofs.Conds.{cond-case, by-lt, by-eq, both-left, both-right}
 use Rattle.text.specs.Utf8.{Scalar, Utf8}
 use Rattle.text.specs.Utf8Read.{isScalar}
 use Rattle.text.proofs.EncodeLaws.{true-scalar}
@@ -30,7 +30,7 @@ use Rattle.strings.specs.Escapes.{simpleEscape, hexLength, hexFrom, hexP
 use Rattle.strings.specs.Bodies.{literalPiece, mlLiteralPiece, basicPiece, skips, lineEnd, escapedNl, escapedMore, mlbContent, mlBasicPiece, keyPiece, pieceOf}
 use Rattle.strings.specs.Marks.{opens, closes, lineEnds, threes, newlineLen, mlStart, mlClosed, trimmed, mlEnd, mlEnds, keyEnds, endsOf, bodyOf}
 use Rattle.strings.specs.Decoding.{bytesOf}
-use Rattle.strings.proofs.Choices.{by-eq, both-left, both-right, there}
+use Rattle.classes.proofs.RunLaws.{there}
 use Rattle.strings.proofs.PieceLaws.{gives-copy}
 use Rattle.strings.proofs.Fine.{Fine}
 use Rattle.strings.proofs.EscapeLaws.{hex-letter, simple-ascii}

@@ -15,14 +15,22 @@ use Rattle.strings.specs.declared.Ends.{Ends}
 abbrev pub opens : ℕ → List ℕ → Bool
 opens q t = ltb 0 (length t) && eqb (getD t 0 0) q
 
--- a closing mark behind the first n bytes, of which the opening is one
+-- the body starts behind the opening, where it is there
+abbrev pub lineStart : Bool → ℕ
+lineStart opened = cond opened 1 0
+
+-- a closing mark, not before the body's start
 abbrev pub closes : ℕ → ℕ → List ℕ → Bool
-closes n q t = ltb n (length t) && eqb (getD t (length t - 1) 0) q
+closes start q t = ltb start (length t) && eqb (getD t (length t - 1) 0) q
+
+-- and ends before the closing, where that is there
+abbrev pub lineEnd : Bool → List ℕ → ℕ
+lineEnd closed t = cond closed (length t - 1) (length t)
 
 unfoldable pub lineEnds : ℕ → List ℕ → Ends
 lineEnds q t =
-    let n : ℕ = cond (opens q t) 1 0 in
-    record { opened = opens q t; closed = closes n q t; start = n; end = cond (closes n q t) (length t - 1) (length t) }
+    let start : ℕ = lineStart (opens q t) in
+    record { opened = opens q t; closed = closes start q t; start = start; end = lineEnd (closes start q t) t }
 
 -- ---- three marks q at each end, and a newline behind the opening
 

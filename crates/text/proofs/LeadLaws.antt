@@ -14,7 +14,7 @@ use lib.Dec.{T, eqb, eqb→eq}
 use Rattle.text.specs.declared.utf8.Lead.{Lead}
 use Rattle.text.specs.Utf8.{Scalar, encodeScalar}
 use Rattle.text.specs.Utf8Read.{guess, charLen}
-use Rattle.text.specs.Lead.{row, leadOf}
+use Rattle.text.specs.Lead.{row, leadOf, BegunAt}
 use Rattle.classes.proofs.Conds.{by-lt}
 use Rattle.classes.proofs.ByteTable.{allFrom, at-each, and-left, and-right}
 use Rattle.text.proofs.EncodeLaws.{Size, one, two, low, high, four, size, encode-1, encode-2, encode-3, encode-4}
@@ -234,14 +234,14 @@ module _ (x : List ℕ) (n : ℕ) where
 -- ---- the same at a place of a list, over the numbers that the code reads
 
 module _ (s : List ℕ) (at : ℕ) (l : Lead) (e : l ≡ leadOf (getD s at 0)) where
-  abbrev pub SeenAt : ℕ → Type 0
+  abbrev SeenAt : ℕ → Type 0
   SeenAt n = Seen l (length s - at) (getD s (at + 1) 0) (getD s (at + 2) 0) (getD s (at + 3) 0) n
 
-  pub lead-le : l .0 ≤ 4
+  lead-le : l .0 ≤ 4
   lead-le = rw e (row-le (rows (getD s at 0)))
 
   -- a character
-  pub char-here : (n : ℕ) → 0 < n → SeenAt n → n ≡ charLen (drop at s)
+  char-here : (n : ℕ) → 0 < n → SeenAt n → n ≡ charLen (drop at s)
   char-here n p h =
       sym (seen-row (drop at s) n p (rows (getD (drop at s) 0 0)) (simp (getD-drop, length-drop, add-zero) (rw e at h)))
 
@@ -249,17 +249,39 @@ module _ (s : List ℕ) (at : ℕ) (l : Lead) (e : l ≡ leadOf (getD s at 0)) w
   seen-at n h = rw e (simp (getD-drop, length-drop, add-zero) at (char-seen (drop at s) n h))
 
   -- none
-  pub none-here : ((n : ℕ) → SeenAt (suc n) → ⊥) → 0 ≡ charLen (drop at s)
+  none-here : ((n : ℕ) → SeenAt (suc n) → ⊥) → 0 ≡ charLen (drop at s)
   none-here f = go (charLen (drop at s)) refl
     where
       go : (m : ℕ) → charLen (drop at s) ≡ m → 0 ≡ charLen (drop at s)
       go zero h = sym h
       go (suc n) h = absurd (f n (seen-at n h))
 
-  -- one byte, or none
-  pub short-here : at < length s → l .0 < 2 → l .0 ≡ charLen (drop at s)
-  short-here h k =
+  -- all that the first byte asks for, and less
+  pub all-begun : (r : ℕ) → BegunAt s at l r → l .0 ≤ r → l .0 ≡ charLen (drop at s)
+  all-begun r h k =
       elim (decLt 0 (l .0)) [
-        | yes p ↦ char-here (l .0) p (omega arith)
+        | yes p ↦ char-here (l .0) p (record {
+          len = refl;
+          fits = omega (arith, h .some);
+          second = λ n. h .second (omega arith) .1;
+          third = λ n. h .third (omega arith) .1;
+          fourth = λ n. h .fourth (omega arith) .1;
+        })
         | no p ↦ omega (arith, none-here (λ n t. omega (arith, t .len)))
       ]
+
+  pub part-begun : (r : ℕ) → BegunAt s at l r → r < l .0 → 0 ≡ charLen (drop at s)
+  part-begun r h k = none-here (λ n t. less (omega (arith, t .len)) t)
+    where
+      less : {n : ℕ} → l .0 ≡ n → SeenAt n → ⊥
+      less e t =
+          let fits = t .fits in
+          let some = h .some in
+          let few = lead-le in
+          elim (decLt r 2) [
+            | yes p ↦ h .not-second (omega arith) (omega arith) (omega arith) (t .second (omega arith))
+            | no p ↦ elim (decLt r 3) [
+              | yes q ↦ h .not-third (omega arith) (omega arith) (omega arith) (t .third (omega arith))
+              | no q ↦ h .not-fourth (omega arith) (omega arith) (omega arith) (t .fourth (omega arith))
+            ]
+          ]

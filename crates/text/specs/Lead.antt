@@ -1,9 +1,12 @@
--- What a first byte says of its character. Not to be believed but proved: proofs/LeadLaws.antt shows that a character
--- begins where the bytes pass this table, and only there.
+-- What a first byte says of its character, and how many bytes are as it says. Not to be believed but proved:
+-- proofs/LeadLaws.antt shows that a character begins where the bytes pass this table, and only there.
 -- Assumes nothing.
-use Prim.Native.Nat.{ℕ}
+use Prim.Native.Nat.{ℕ, _+_, _-_, _≤_}
+use mathlib.Core.Path.{_≡_}
 use mathlib.Core.Bool.{cond}
+use mathlib.Core.List.{List}
 use lib.Dec.{ltb}
+use lib.ListN.{length, getD}
 use Rattle.text.specs.declared.utf8.Lead.{Lead}
 
 abbrev pub row : ℕ → ℕ → ℕ → Lead
@@ -23,3 +26,21 @@ leadOf a =
     (cond (ltb a 0xF4) (row 4 0x80 0xBF)
     (cond (ltb a 0xF5) (row 4 0x80 0x8F)
     (row 0 0 0))))))))))
+
+-- from the first number to the second, both counted in
+abbrev pub Among : ℕ → ℕ → ℕ → Type 0
+Among low high b = (low ≤ b) × (b ≤ high)
+
+-- r bytes, of `left` that are there, are as the first one asks; the next one is not, or is not asked for, or is not there.
+-- The second to the fourth byte are b, c and d.
+pub record Begun (l : Lead) (left b c d r : ℕ) : Type 0 where
+  pub some : (1 ≤ r) × (r ≤ left) × (r ≤ 4)
+  pub second : 2 ≤ r → (2 ≤ l .0) × Among (l .1) (l .2) b
+  pub third : 3 ≤ r → (3 ≤ l .0) × Among 0x80 0xBF c
+  pub fourth : 4 ≤ r → (4 ≤ l .0) × Among 0x80 0xBF d
+  pub not-second : r ≡ 1 → 2 ≤ l .0 → 2 ≤ left → Among (l .1) (l .2) b → ⊥
+  pub not-third : r ≡ 2 → 3 ≤ l .0 → 3 ≤ left → Among 0x80 0xBF c → ⊥
+  pub not-fourth : r ≡ 3 → 4 ≤ l .0 → 4 ≤ left → Among 0x80 0xBF d → ⊥
+
+abbrev pub BegunAt : List ℕ → ℕ → Lead → ℕ → Type 0
+BegunAt s at l r = Begun l (length s - at) (getD s (at + 1) 0) (getD s (at + 2) 0) (getD s (at + 3) 0) r

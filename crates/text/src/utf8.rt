@@ -1,13 +1,13 @@
 // UTF-8: the check, and the encoding of a scalar value.
 // Rules: specs/Utf8.antt, Answers.antt.
 ghost use mathlib.Core.Path.{_≡_};
-ghost use mathlib.Core.Bool.{true};
+ghost use mathlib.Core.Bool.{true, false};
 ghost use Prim.Native.Nat.{_+_, _%_, _<_, _≤_};
 ghost use lib.ListN.{length, drop};
 ghost use Rattle.classes.specs.Runs.{run};
 ghost use Rattle.text.specs.Utf8.{encodeScalar};
 ghost use Rattle.text.specs.Utf8Read.{isScalar, ascii, charLen, Passed};
-ghost use Rattle.text.specs.Lead.{leadOf};
+ghost use Rattle.text.specs.Lead.{leadOf, Among, BegunAt};
 ghost use Rattle.text.specs.Answers.{padded, encodedOf, checkOf};
 use crate::refusal::LIMIT;
 use crate::refusal::Refusal;
@@ -94,57 +94,67 @@ fn ascii_block(s: &[u8], i: usize, n: usize) -> bool
     bits < 0x80
 }
 
-// The length of the character at `at`, 0 where none begins there. Its bytes are tested strictly in
-// order, and each before the next is asked for.
+// The length of the character at `at`, 0 where none begins there.
 fn char_at(s: &[u8], at: usize) -> usize
     requires { ⌜ at < length (now s) ⌝ }
     ensures { λ r. ⌜ r ≡ charLen (drop at (now (s .entry))) ⌝ }
 {
     let lead = lead_of(s[at]);
     let n = lead.0;
-    let low = lead.1;
-    let high = lead.2;
+    if begun(s, at, lead) < n {
+        return 0;
+    }
+    n
+}
+
+// How many bytes from `at` on begin a character as its first byte asks. They are tested strictly in
+// order, and each before the next is asked for.
+fn begun(s: &[u8], at: usize, lead: Lead) -> usize
+    requires { ⌜ at < length (now s) ⌝ }
+    ensures { λ r. ⌜ BegunAt (now (s .entry)) at lead r ⌝ }
+{
     let left = s.len() - at;
+    let n = lead.0;
     if n < 2 {
-        return n;
+        return 1;
     }
     if left < 2 {
-        return 0;
+        return 1;
     }
-    let b = s[at + 1];
-    if b < low {
-        return 0;
-    }
-    if high < b {
-        return 0;
+    if !is_among(s[at + 1], lead.1, lead.2) {
+        return 1;
     }
     if n < 3 {
         return 2;
     }
     if left < 3 {
-        return 0;
+        return 2;
     }
-    let c = s[at + 2];
-    if c < 0x80 {
-        return 0;
-    }
-    if 0xBF < c {
-        return 0;
+    if !is_among(s[at + 2], 0x80, 0xBF) {
+        return 2;
     }
     if n < 4 {
         return 3;
     }
     if left < 4 {
-        return 0;
+        return 3;
     }
-    let d = s[at + 3];
-    if d < 0x80 {
-        return 0;
-    }
-    if 0xBF < d {
-        return 0;
+    if !is_among(s[at + 3], 0x80, 0xBF) {
+        return 3;
     }
     4
+}
+
+fn is_among(b: u8, low: u8, high: u8) -> bool
+    ensures { λ r. ⌜ (r ≡ true → Among low high b) × (r ≡ false → Among low high b → ⊥) ⌝ }
+{
+    if b < low {
+        return false;
+    }
+    if high < b {
+        return false;
+    }
+    true
 }
 
 // What a first byte says of its character: the length, 0 where none begins so, and the range of

@@ -1,16 +1,19 @@
 -- `is_clear` is right because a flag that is still off was never set: none of the j bytes passed is the flag's byte.
 -- Assumes nothing.
-use Prim.Native.Nat.{_-_, _≤_}
+use Prim.Native.Nat.{ℕ, _-_, _≤_}
 use mathlib.Core.Path.{_≡_, refl}
-use mathlib.Core.Bool.{false}
+use mathlib.Core.Bool.{true, false}
 use borrow.Author.Tests.{not-true, ne-eqb}
-use Rattle.classes.proofs.Conds.{not-both}
+use Rattle.classes.proofs.Conds.{not-both, flag-off}
 use Rattle.classes.proofs.RunLaws.{Block, block-start, block-step, block-end}
 use Rattle.lexer.specs.Scans.{noneOf}
-use Rattle.lexer.proofs.FlagLaws.{kept, none-of}
 use native.Mathlib.Omega.{arith}
 use Rattle.lexer.proofs.scan.is_clear.Statement.{statement}
 use Rattle.lexer.proofs.scan.is_clear.Tie as tie
+
+-- a byte that equals none of the three is none of them
+none-of : (a b c x : ℕ) → (x ≡ a → ⊥) → (x ≡ b → ⊥) → (x ≡ c → ⊥) → noneOf a b c x ≡ true
+none-of a b c x p q r = simp (ne-eqb _ _ p, ne-eqb _ _ q, ne-eqb _ _ r)
 
 abbrev Inv-loop : tie.InvT-loop
 Inv-loop doc i a b c has-a₀ has-b₀ has-c₀ j₀ has-a has-b has-c j = (j ≤ 16) × (has-a ≡ false → has-b ≡ false → has-c ≡ false → Block (noneOf a b c) doc i j)
@@ -39,9 +42,9 @@ loop-again c = let is = c .before .before .before .before .before .before .args 
     let at = c .before .before .before .before .before .loop in (
       omega arith,
       λ x y z.
-          let ka = kept _ _ (c .before .before .if1 .came) x in
-          let kb = kept _ _ (c .before .if2 .came) y in
-          let kc = kept _ _ (c .if3 .came) z in
+          let ka = flag-off _ _ (c .before .before .if1 .came) x in
+          let kb = flag-off _ _ (c .before .if2 .came) y in
+          let kc = flag-off _ _ (c .if3 .came) z in
           block-step (noneOf (is .a) (is .b) (is .c)) (is .doc .now) (is .i) (at .j) (omega arith)
           (none-of _ _ _ _ (ka .1 .left) (kb .1 .left) (kc .1 .left))
           (at .inv .1 (ka .0) (kb .0) (kc .0)),

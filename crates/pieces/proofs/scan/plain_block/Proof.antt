@@ -3,15 +3,15 @@
 -- Assumes nothing.
 use Prim.Native.Nat.{_+_, _-_, _≤_, _<_}
 use mathlib.Core.Path.{_≡_, sym}
-use mathlib.Core.Bool.{false≢true, false}
+use mathlib.Core.Bool.{false}
 use native.Mathlib.Omega.{arith}
 use borrow.Author.Needs.{needs}
-use borrow.Author.Tests.{not-true}
 use lib.ListN.{getD}
 use Rattle.classes.proofs.RunLaws.{Block, block-start, block-step, block-end}
 use Rattle.strings.specs.declared.Encoding.{Encoding}
 use Rattle.strings.specs.Encodings.{plain}
-use Rattle.pieces.proofs.ScanLaws.{clear-plain, flag-off}
+use Rattle.classes.proofs.Conds.{flag-off}
+use Rattle.pieces.proofs.ScanLaws.{clear-plain}
 use Rattle.pieces.specs.Scan.{Wide, stopsOf}
 use Rattle.pieces.proofs.scan.plain_block.Statement.{statement}
 use Rattle.pieces.proofs.scan.plain_block.Tie as tie
@@ -66,30 +66,16 @@ loop-again c =
           block-step (plain e) s i (at .j) (omega arith) clear (at .inv .1 e v q (off-f .0) (off-t .0) (off-d .0) (off-l .0) (off-m .0)),
     )
 
+none-set-requires : tie.Need-none-set-requires Inv-loop μ-loop
+none-set-requires c κs = search needs
+
 returns : tie.Need-returns Inv-loop μ-loop
-returns c = λ h. absurd (false≢true h)
-
-returns-2 : tie.Need-returns-2 Inv-loop μ-loop
-returns-2 c = λ h. absurd (false≢true h)
-
-returns-3 : tie.Need-returns-3 Inv-loop μ-loop
-returns-3 c = λ h. absurd (false≢true h)
-
-returns-4 : tie.Need-returns-4 Inv-loop μ-loop
-returns-4 c = λ h. absurd (false≢true h)
-
-returns-5 : tie.Need-returns-5 Inv-loop μ-loop
-returns-5 c =
-    let args = c .before .before .before .before .before .before .before .before .args in
-    let loop = c .before .before .before .before .before .loop in
-    let pre = c .before .before .before .before .before .before .before .before .pre in
-    let stops-of = c .before .before .before .before .before .before .stops-of in
-    let if6 = c .before .before .before .if6 in
-    λ h.
-    let a = args in
-    let at = loop in
+returns c = λ h.
+    let a = c .before .before .before .before .before .args in
+    let at = c .before .before .loop in
+    let off = c .none-set .ensures h in
     block-end (plain (a .e)) (a .s .now) (a .i) (at .j) (a .n) (omega arith)
-    (at .inv .1 (a .e) (pre .0) (sym (stops-of .ensures)) (if6 .left) (c .before .before .if7 .left) (c .before .if8 .left) (c .if9 .left) (not-true _ h))
+    (at .inv .1 (a .e) (c .before .before .before .before .before .pre .0) (sym (c .before .before .before .stops-of .ensures)) (off .first-off) (off .second-off) (off .delete-off) (off .low-off) (off .mid-off))
 
 pub plain-block-spec : {M : Type 1} → statement M
 plain-block-spec =
@@ -105,8 +91,5 @@ plain-block-spec =
     add-j
     loop-less
     loop-again
-    returns
-    returns-2
-    returns-3
-    returns-4
-    returns-5)
+    none-set-requires
+    returns)

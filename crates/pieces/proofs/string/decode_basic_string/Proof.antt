@@ -6,10 +6,9 @@ use borrow.Author.Needs.{needs}
 use borrow.Author.Tests.{eq-eqb, ne-eqb}
 use Rattle.classes.specs.Classes.{basicUnescaped}
 use Rattle.strings.proofs.Fine.{rest-is}
-use Rattle.classes.proofs.RunLaws.{run-le}
+use Rattle.classes.proofs.RunLaws.{run-le, run-none, run-first}
 use Rattle.strings.specs.Encodings.{basicInvalid}
 use Rattle.strings.specs.Bodies.{basicPiece}
-use Rattle.pieces.proofs.ScanLaws.{run-none, run-first}
 use Rattle.pieces.proofs.string.decode_basic_string.Statement.{statement}
 use Rattle.pieces.proofs.string.decode_basic_string.Tie as tie
 

@@ -4,7 +4,7 @@ use mathlib.Core.Path.{_∙_}
 use borrow.Author.Needs.{needs}
 use Rattle.classes.specs.Classes.{literalChar}
 use Rattle.strings.specs.Bodies.{literalPiece}
-use Rattle.pieces.proofs.ScanLaws.{run-none, run-first}
+use Rattle.classes.proofs.RunLaws.{run-none, run-first}
 use Rattle.pieces.proofs.string.decode_literal_string.Statement.{statement}
 use Rattle.pieces.proofs.string.decode_literal_string.Tie as tie
 

@@ -5,7 +5,7 @@ use borrow.Author.Needs.{needs}
 use borrow.Author.Tests.{eq-eqb, ne-eqb}
 use Rattle.strings.specs.Encodings.{mllPlain}
 use Rattle.strings.specs.Bodies.{mlLiteralPiece}
-use Rattle.pieces.proofs.ScanLaws.{run-none, run-first}
+use Rattle.classes.proofs.RunLaws.{run-none, run-first}
 use Rattle.pieces.proofs.string.decode_ml_literal_string.Statement.{statement}
 use Rattle.pieces.proofs.string.decode_ml_literal_string.Tie as tie
 

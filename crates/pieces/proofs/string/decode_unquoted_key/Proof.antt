@@ -6,7 +6,7 @@ use borrow.Author.Needs.{needs}
 use Rattle.classes.specs.Classes.{unquotedChar}
 use Rattle.classes.specs.Runs.{run}
 use Rattle.strings.specs.Bodies.{keyPiece}
-use Rattle.pieces.proofs.ScanLaws.{run-none, run-first}
+use Rattle.classes.proofs.RunLaws.{run-none, run-first}
 use Rattle.pieces.proofs.string.decode_unquoted_key.Statement.{statement}
 use Rattle.pieces.proofs.string.decode_unquoted_key.Tie as tie
 

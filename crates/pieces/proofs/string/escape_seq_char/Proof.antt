@@ -5,7 +5,7 @@ use native.Mathlib.Omega.{arith}
 use borrow.Author.Needs.{needs}
 use Rattle.strings.proofs.Fine.{rest-is}
 use Rattle.strings.proofs.EscapeLaws.{hex-letter, escape-hex, escape-simple, escape-none}
-use Rattle.strings.proofs.Choices.{there}
+use Rattle.classes.proofs.RunLaws.{there}
 use Rattle.pieces.proofs.string.escape_seq_char.Statement.{statement}
 use Rattle.pieces.proofs.string.escape_seq_char.Tie as tie
 

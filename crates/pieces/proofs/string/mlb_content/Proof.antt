@@ -5,10 +5,9 @@ use native.Mathlib.Omega.{arith}
 use borrow.Author.Needs.{needs}
 use borrow.Author.Tests.{eq-eqb, ne-eqb}
 use Rattle.strings.proofs.Fine.{rest-is}
-use Rattle.classes.proofs.RunLaws.{run-le}
+use Rattle.classes.proofs.RunLaws.{run-le, run-none, run-first}
 use Rattle.strings.specs.Encodings.{mlbPlain, mlbInvalid}
 use Rattle.strings.specs.Bodies.{mlbContent}
-use Rattle.pieces.proofs.ScanLaws.{run-none, run-first}
 use Rattle.pieces.proofs.string.mlb_content.Statement.{statement}
 use Rattle.pieces.proofs.string.mlb_content.Tie as tie
 
