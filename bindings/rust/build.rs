@@ -1,0 +1,12 @@
+//! Links libtoml.a, which `rt staticlib toml` writes, from the folder that GALOXUMI_LIB names.
+
+fn main() {
+    println!("cargo:rerun-if-env-changed=GALOXUMI_LIB");
+    let folder = std::env::var("GALOXUMI_LIB").unwrap_or_else(|_| {
+        let here = std::env::var("CARGO_MANIFEST_DIR").expect("cargo sets CARGO_MANIFEST_DIR");
+        format!("{here}/../../target/staticlib")
+    });
+    println!("cargo:rerun-if-changed={folder}/libtoml.a");
+    println!("cargo:rustc-link-search=native={folder}");
+    println!("cargo:rustc-link-lib=static=toml");
+}

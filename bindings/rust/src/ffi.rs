@@ -1,0 +1,146 @@
+//! The exported functions, as include/toml.h declares them, and a safe function over each.
+//!
+//! Each exported function takes a slice as a pointer and a length, reads and writes within it and
+//! nowhere else, keeps no pointer, and returns for all arguments: that is proved. So each wrapper
+//! below is safe for all arguments, too. That these declarations match the archive's is not checked
+//! by anything but the tests.
+
+#[repr(C)]
+pub(crate) struct Answer {
+    pub refusal: usize,
+    pub value: usize,
+}
+
+#[repr(C)]
+pub(crate) struct Cursor {
+    pub place: usize,
+    pub ended: usize,
+}
+
+#[repr(C)]
+pub(crate) struct Started {
+    pub answer: Answer,
+    pub cursor: Cursor,
+}
+
+#[repr(C)]
+pub(crate) struct Token {
+    pub kind: usize,
+    pub start: usize,
+    pub end: usize,
+}
+
+#[repr(C)]
+pub(crate) struct Stepped {
+    pub answer: Answer,
+    pub given: usize,
+    pub token: Token,
+    pub cursor: Cursor,
+}
+
+#[repr(C)]
+pub(crate) struct Part {
+    pub start: usize,
+    pub length: usize,
+}
+
+#[repr(C)]
+pub(crate) struct Positioned {
+    pub answer: Answer,
+    pub line: usize,
+    pub column: usize,
+}
+
+#[repr(C)]
+pub(crate) struct Decoded {
+    pub answer: Answer,
+    pub errors: usize,
+}
+
+#[repr(C)]
+pub(crate) struct Described {
+    pub answer: Answer,
+    pub length: usize,
+    pub bytes: [u8; 25],
+}
+
+#[repr(C)]
+pub(crate) struct Encoded {
+    pub answer: Answer,
+    pub encoding: usize,
+}
+
+mod archive {
+    use super::*;
+
+    extern "C" {
+        pub fn toml_check_utf8(doc: *const u8, len: usize) -> Answer;
+        pub fn toml_start(doc: *const u8, len: usize) -> Started;
+        pub fn toml_step(doc: *const u8, len: usize, place: usize, ended: usize) -> Stepped;
+        pub fn toml_lex(doc: *const u8, len: usize, records: *mut [usize; 3], records_len: usize) -> Answer;
+        pub fn toml_check_span(doc: *const u8, len: usize, start: usize, end: usize) -> Answer;
+        pub fn toml_text(doc: *const u8, len: usize, start: usize, end: usize) -> Part;
+        pub fn toml_position(doc: *const u8, len: usize, offset: usize) -> Positioned;
+        pub fn toml_decode(
+            text: *const u8,
+            len: usize,
+            kind: usize,
+            output: *mut u8,
+            output_len: usize,
+            errors: *mut [usize; 3],
+            errors_len: usize,
+        ) -> Decoded;
+        pub fn toml_description(kind: usize) -> Described;
+        pub fn toml_encoding(kind: usize) -> Encoded;
+    }
+}
+
+pub(crate) fn check_utf8(doc: &[u8]) -> Answer {
+    unsafe { archive::toml_check_utf8(doc.as_ptr(), doc.len()) }
+}
+
+pub(crate) fn start(doc: &[u8]) -> Started {
+    unsafe { archive::toml_start(doc.as_ptr(), doc.len()) }
+}
+
+pub(crate) fn step(doc: &[u8], place: usize, ended: bool) -> Stepped {
+    unsafe { archive::toml_step(doc.as_ptr(), doc.len(), place, ended.into()) }
+}
+
+pub(crate) fn lex(doc: &[u8], records: &mut [[usize; 3]]) -> Answer {
+    unsafe { archive::toml_lex(doc.as_ptr(), doc.len(), records.as_mut_ptr(), records.len()) }
+}
+
+pub(crate) fn check_span(doc: &[u8], start: usize, end: usize) -> Answer {
+    unsafe { archive::toml_check_span(doc.as_ptr(), doc.len(), start, end) }
+}
+
+pub(crate) fn text(doc: &[u8], start: usize, end: usize) -> Part {
+    unsafe { archive::toml_text(doc.as_ptr(), doc.len(), start, end) }
+}
+
+pub(crate) fn position(doc: &[u8], offset: usize) -> Positioned {
+    unsafe { archive::toml_position(doc.as_ptr(), doc.len(), offset) }
+}
+
+pub(crate) fn decode(text: &[u8], kind: usize, output: &mut [u8], errors: &mut [[usize; 3]]) -> Decoded {
+    unsafe {
+        archive::toml_decode(
+            text.as_ptr(),
+            text.len(),
+            kind,
+            output.as_mut_ptr(),
+            output.len(),
+            errors.as_mut_ptr(),
+            errors.len(),
+        )
+    }
+}
+
+pub(crate) fn description(kind: usize) -> Described {
+    unsafe { archive::toml_description(kind) }
+}
+
+pub(crate) fn encoding(kind: usize) -> Encoded {
+    unsafe { archive::toml_encoding(kind) }
+}

@@ -1,0 +1,225 @@
+//! TOML tokens and strings, read by a library whose every function is proved to meet its contract.
+//!
+//! Slices go in; typed tokens, decoded bytes and positioned errors come out, in the names that users
+//! of toml_parser know. A document that cannot be served is answered by a [`Refusal`], never by a
+//! panic. No call looks at more than the bytes that it is given, and none keeps anything.
+//!
+//! ```
+//! use galoxumi::{lex, TokenKind};
+//!
+//! let doc = b"flags = \"-O2\\t-g\"\n";
+//! let strings: Vec<Vec<u8>> = lex(doc)?
+//!     .iter()
+//!     .filter_map(|token| token.decode(doc))
+//!     .map(|decoded| decoded.map(|d| d.bytes))
+//!     .collect::<Result<_, _>>()?;
+//! assert_eq!(strings, [b"-O2\t-g".to_vec()]);
+//! assert_eq!(lex(b"")?[0].kind(), TokenKind::Eof);
+//! # Ok::<(), galoxumi::Refusal>(())
+//! ```
+#![deny(missing_docs)]
+
+mod error;
+mod ffi;
+mod token;
+
+pub use error::{Expected, ParseError};
+pub use token::{Encoding, Span, Token, TokenKind};
+
+/// The most bytes that a document or a text may have.
+pub const LIMIT: usize = 16_777_216;
+
+/// Why a call did not answer. A refused call has written nothing.
+#[derive(Copy, Clone, PartialEq, Eq, Debug)]
+pub enum Refusal {
+    /// 1: not UTF-8; `valid` is the length of the longest valid prefix.
+    NotUtf8 {
+        /// The length of the longest prefix that is UTF-8.
+        valid: usize,
+    },
+    /// 2: more than [`LIMIT`] bytes.
+    TooLong,
+    /// 3: fewer token records were lent than there are tokens.
+    FewTokens {
+        /// The tokens, `Eof` counted.
+        needed: usize,
+    },
+    /// 4: the lent output is shorter than the decoded bytes.
+    ShortOutput {
+        /// The bytes.
+        needed: usize,
+    },
+    /// 5: fewer error records were lent than there are errors.
+    FewErrors {
+        /// The errors.
+        needed: usize,
+    },
+    /// 6: a place outside the document or inside a character.
+    OutOfPlace {
+        /// The document's length.
+        length: usize,
+    },
+    /// 7: a number that is no kind.
+    NoKind {
+        /// That number.
+        number: usize,
+    },
+}
+
+impl Refusal {
+    /// The number returned with an answer, or the refusal.
+    fn read(answer: ffi::Answer) -> Result<usize, Self> {
+        let value = answer.value;
+        match answer.refusal {
+            0 => Ok(value),
+            1 => Err(Self::NotUtf8 { valid: value }),
+            2 => Err(Self::TooLong),
+            3 => Err(Self::FewTokens { needed: value }),
+            4 => Err(Self::ShortOutput { needed: value }),
+            5 => Err(Self::FewErrors { needed: value }),
+            6 => Err(Self::OutOfPlace { length: value }),
+            _ => Err(Self::NoKind { number: value }),
+        }
+    }
+}
+
+impl core::fmt::Display for Refusal {
+    fn fmt(&self, f: &mut core::fmt::Formatter<'_>) -> core::fmt::Result {
+        match self {
+            Self::NotUtf8 { valid } => write!(f, "refused 1: not UTF-8 from byte {valid} on"),
+            Self::TooLong => write!(f, "refused 2: more than {LIMIT} bytes"),
+            Self::FewTokens { needed } => write!(f, "refused 3: {needed} token records are needed"),
+            Self::ShortOutput { needed } => write!(f, "refused 4: {needed} bytes of output are needed"),
+            Self::FewErrors { needed } => write!(f, "refused 5: {needed} error records are needed"),
+            Self::OutOfPlace { length } => {
+                write!(f, "refused 6: a place outside the document's {length} bytes, or inside a character")
+            }
+            Self::NoKind { number } => write!(f, "refused 7: {number} is no kind"),
+        }
+    }
+}
+
+impl std::error::Error for Refusal {}
+
+/// Whether all of `doc` is UTF-8 and within the limit.
+pub fn check_utf8(doc: &[u8]) -> Result<(), Refusal> {
+    Refusal::read(ffi::check_utf8(doc)).map(|_| ())
+}
+
+/// All tokens of a document, `Eof` last.
+pub fn lex(doc: &[u8]) -> Result<Vec<Token>, Refusal> {
+    // No document has more tokens than bytes and one, and with so many records nothing is counted first.
+    let mut records = vec![[0usize; 3]; doc.len().min(LIMIT) + 1];
+    let count = lex_into(doc, &mut records)?;
+    records[..count].iter().map(|record| Token::from_record(*record)).collect()
+}
+
+/// The tokens of a document as records of kind number, start and end, in lent memory from its front.
+/// Answers how many; records behind them keep their contents.
+pub fn lex_into(doc: &[u8], records: &mut [[usize; 3]]) -> Result<usize, Refusal> {
+    Refusal::read(ffi::lex(doc, records))
+}
+
+/// The tokens of a document one after the other, each lexed when it is asked for.
+#[derive(Copy, Clone, Debug)]
+pub struct Lexer<'i> {
+    doc: &'i [u8],
+    place: usize,
+    ended: bool,
+}
+
+impl<'i> Lexer<'i> {
+    /// At the document's start, past a byte order mark. It does not test UTF-8.
+    pub fn new(doc: &'i [u8]) -> Result<Self, Refusal> {
+        let start = ffi::start(doc);
+        Refusal::read(start.answer)?;
+        Ok(Self { doc, place: start.cursor.place, ended: start.cursor.ended != 0 })
+    }
+
+    /// At any place of a document; a place beyond it is refused when a token is asked for.
+    pub fn at(doc: &'i [u8], place: usize, ended: bool) -> Self {
+        Self { doc, place, ended }
+    }
+
+    /// Where the next token begins.
+    pub fn place(&self) -> usize {
+        self.place
+    }
+}
+
+impl Iterator for Lexer<'_> {
+    type Item = Result<Token, Refusal>;
+
+    fn next(&mut self) -> Option<Self::Item> {
+        let step = ffi::step(self.doc, self.place, self.ended);
+        if let Err(refusal) = Refusal::read(step.answer) {
+            return Some(Err(refusal));
+        }
+        if step.given == 0 {
+            return None;
+        }
+        self.place = step.cursor.place;
+        self.ended = step.cursor.ended != 0;
+        Some(Token::from_record([step.token.kind, step.token.start, step.token.end]))
+    }
+}
+
+/// Whether a span lies within a document, with neither end inside a character.
+pub fn check_span(doc: &[u8], span: Span) -> Result<(), Refusal> {
+    Refusal::read(ffi::check_span(doc, span.start(), span.end())).map(|_| ())
+}
+
+/// The text of a span: that part of the document, or why it is none.
+pub fn text(doc: &[u8], span: Span) -> Result<&[u8], Refusal> {
+    check_span(doc, span)?;
+    let part = ffi::text(doc, span.start(), span.end());
+    Ok(&doc[part.start..part.start + part.length])
+}
+
+/// A place in words that a reader of a document uses; both count from 1.
+#[derive(Copy, Clone, PartialEq, Eq, Debug)]
+pub struct Position {
+    /// 1 plus the line feeds before the offset.
+    pub line: usize,
+    /// 1 plus the bytes since the last line feed, or since byte 0.
+    pub column: usize,
+}
+
+/// The line and column of an offset.
+pub fn position(doc: &[u8], offset: usize) -> Result<Position, Refusal> {
+    let position = ffi::position(doc, offset);
+    Refusal::read(position.answer)?;
+    Ok(Position { line: position.line, column: position.column })
+}
+
+/// What a text decodes to.
+#[derive(Clone, PartialEq, Eq, Debug)]
+pub struct Decoded {
+    /// The bytes. Where there are errors they are what was recovered, and not a value of TOML's.
+    pub bytes: Vec<u8>,
+    /// The errors: opening mark, closing mark, then the body from left to right.
+    pub errors: Vec<ParseError>,
+}
+
+impl Decoded {
+    /// The bytes, where there is no error; else the errors.
+    pub fn value(self) -> Result<Vec<u8>, Vec<ParseError>> {
+        if self.errors.is_empty() {
+            Ok(self.bytes)
+        } else {
+            Err(self.errors)
+        }
+    }
+}
+
+/// The bytes and the errors of a text of a kind.
+pub fn decode(text: &[u8], encoding: Encoding) -> Result<Decoded, Refusal> {
+    // So much room always suffices, and with it nothing is counted first.
+    let len = text.len().min(LIMIT);
+    let mut bytes = vec![0u8; len + len / 2];
+    let mut records = vec![[0usize; 3]; len + 2];
+    let decoded = ffi::decode(text, encoding.number(), &mut bytes, &mut records);
+    bytes.truncate(Refusal::read(decoded.answer)?);
+    let errors = records[..decoded.errors].iter().map(|record| ParseError::from_record(*record, text)).collect();
+    Ok(Decoded { bytes, errors })
+}

@@ -1,0 +1,127 @@
+//! The binding on texts of tests/scope.txt, and each error's words, which are toml_parser's. What the proved
+//! library answers has its own tests.
+
+use galoxumi::*;
+
+fn records(doc: &[u8]) -> Vec<(usize, usize, usize)> {
+    let tokens = lex(doc).expect("lexed");
+    tokens.iter().map(|t| (t.kind().number(), t.span().start(), t.span().end())).collect()
+}
+
+#[test]
+fn tokens_of_the_examples() {
+    assert_eq!(records(b""), [(4, 0, 0)]);
+    assert_eq!(records(b"\xEF\xBB\xBF"), [(4, 3, 3)]);
+    assert_eq!(records(b"'''a'''''"), [(1, 0, 9), (4, 9, 9)]);
+    assert_eq!(records(b"'a\r\n"), [(39, 0, 3), (10, 3, 4), (4, 4, 4)]);
+    assert_eq!(records(b"#x\ry"), [(35, 0, 2), (10, 2, 3), (3, 3, 4), (4, 4, 4)]);
+}
+
+#[test]
+fn steps_give_the_tokens_of_whole_lexing() {
+    for doc in [&b""[..], b"\xEF\xBB\xBFa = 'b'", b"x = \"\"\"\\\n y\"\"\"\n", b"[a.b]\r\n# c\r"] {
+        let steps: Result<Vec<Token>, Refusal> = Lexer::new(doc).expect("started").collect();
+        assert_eq!(steps, lex(doc));
+    }
+}
+
+#[test]
+fn a_cursor_made_by_hand_answers() {
+    let mut lexer = Lexer::at(b"a", 2, false);
+    assert_eq!(lexer.next(), Some(Err(Refusal::OutOfPlace { length: 1 })));
+    assert_eq!(Lexer::at(b"a", 1, true).next(), None);
+}
+
+#[test]
+fn refusals() {
+    assert_eq!(check_utf8(b"a\xFF"), Err(Refusal::NotUtf8 { valid: 1 }));
+    assert_eq!(lex(b"\xFF"), Err(Refusal::NotUtf8 { valid: 0 }));
+    assert_eq!(lex_into(b"a.b", &mut [[0; 3]; 2]), Err(Refusal::FewTokens { needed: 4 }));
+    assert_eq!(lex(&vec![b'.'; LIMIT + 1]), Err(Refusal::TooLong));
+    assert_eq!(text("é=1".as_bytes(), Span::new(1, 2)), Err(Refusal::OutOfPlace { length: 4 }));
+    assert_eq!(position(b"a", 2), Err(Refusal::OutOfPlace { length: 1 }));
+    assert_eq!(TokenKind::from_number(5), Err(Refusal::NoKind { number: 5 }));
+}
+
+#[test]
+fn strings_without_error() {
+    let decoded = decode(br#""\uD7FF""#, Encoding::BasicString).expect("decoded");
+    assert_eq!(decoded.value(), Ok("\u{D7FF}".as_bytes().to_vec()));
+    let decoded = decode(b"\"\"\"a\\ \n  b\"\"\"", Encoding::MlBasicString).expect("decoded");
+    assert_eq!(decoded.value(), Ok(b"ab".to_vec()));
+}
+
+#[test]
+fn errors_have_their_places() {
+    let decoded = decode(br#""\q""#, Encoding::BasicString).expect("decoded");
+    assert_eq!(decoded.bytes, br"\q");
+    let error = decoded.errors[0];
+    assert_eq!((error.number(), error.context(), error.unexpected()), (8, Span::new(0, 4), Span::new(2, 2)));
+    assert_eq!(error.to_string(), "missing escaped value at 2..2");
+    assert_eq!(decoded.value(), Err(vec![error]));
+}
+
+/// A text, how it is read, its first error's number, that error's words and what was expected.
+type Case<'a> = (&'a [u8], Encoding, usize, &'a str, &'a [Expected]);
+
+#[test]
+fn errors_have_their_words() {
+    use Encoding::*;
+    use Expected::{Description, Literal};
+    let key = [Description("letters"), Description("numbers"), Literal("-"), Literal("_")];
+    let escapes = ["b", "f", "n", "r", "\\", "\"", "u", "U"].map(Literal);
+    let hex = [Description("unicode hexadecimal value")];
+    let visible = [Description("non-double-quote visible characters"), Literal("\\")];
+    let cases: [Case; 15] = [
+        (b"'", LiteralString, 1, "invalid literal string", &[Literal("'")]),
+        (b"'\0'", LiteralString, 2, "invalid literal string", &[Description("non-single-quote visible characters")]),
+        (b"'''", MlLiteralString, 3, "invalid multi-line literal string", &[Literal("'")]),
+        (b"'''\r'''", MlLiteralString, 4, "carriage return must be followed by newline", &[Literal("\n")]),
+        (
+            b"'''\0'''",
+            MlLiteralString,
+            5,
+            "invalid multi-line literal string",
+            &[Description("non-single-quote characters")],
+        ),
+        (b"\"", BasicString, 6, "invalid basic string", &[Literal("\"")]),
+        (b"\"\0\"", BasicString, 7, "invalid basic string", &visible),
+        (br#""\q""#, BasicString, 8, "missing escaped value", &escapes),
+        (br#""\u""#, BasicString, 9, "too few unicode value digits", &hex),
+        (br#""\uD800""#, BasicString, 10, "invalid value", &hex),
+        (b"\"\"\"", MlBasicString, 11, "invalid multi-line basic string", &[Literal("\"")]),
+        (
+            b"\"\"\"\0\"\"\"",
+            MlBasicString,
+            12,
+            "invalid multi-line basic string",
+            &[Literal("\\"), Description("characters")],
+        ),
+        (b"\"\"\"\\ a\"\"\"", MlBasicString, 13, "invalid multi-line basic string", &[Literal("\n")]),
+        (b"", UnquotedKey, 14, "unquoted keys cannot be empty", &key),
+        (b".", UnquotedKey, 15, "invalid unquoted key", &key),
+    ];
+    for (text, encoding, number, description, expected) in cases {
+        let error = decode(text, encoding).expect("decoded").errors[0];
+        assert_eq!((error.number(), error.description(), error.expected()), (number, description, expected));
+    }
+}
+
+#[test]
+fn kinds_have_their_numbers_words_and_encodings() {
+    for kind in TokenKind::ALL {
+        assert_eq!(TokenKind::from_number(kind.number()), Ok(*kind));
+    }
+    assert_eq!(TokenKind::Eof.description(), "end-of-input");
+    assert_eq!(TokenKind::MlLiteralString.description(), "multi-line literal string");
+    assert_eq!(TokenKind::BasicString.encoding(), Some(Encoding::BasicString));
+    assert_eq!(TokenKind::Atom.encoding(), None);
+}
+
+#[test]
+fn places_and_texts() {
+    let doc = "é=1".as_bytes();
+    assert_eq!(position(doc, 2), Ok(Position { line: 1, column: 3 }));
+    assert_eq!(text(doc, Span::new(2, 4)), Ok(&b"=1"[..]));
+    assert_eq!(check_span(doc, Span::new(0, 4)), Ok(()));
+}

@@ -1,0 +1,69 @@
+-- Each promise of this crate admits one answer only. A theorem bears its function's name, and says so of the promise as
+-- the function's `ensures` has it.
+-- Assumes nothing.
+use Prim.Native.Nat.{ℕ}
+use mathlib.Core.Path.{_≡_}
+use mathlib.Core.List.{List}
+use lib.ListN.{length}
+use Rattle.classes.proofs.OneAnswer.{Only, only-equal}
+use Rattle.text.specs.Answers.{checkOf}
+use Rattle.token.specs.Descriptions.{descriptionOf}
+use Rattle.token.specs.Encodings.{encodingOf}
+use Rattle.token.specs.Records.{spanOf}
+use Rattle.lexer.specs.Steps.{startAnswer, stepOf, cursorOf}
+use Rattle.lexer.specs.Whole.{lexAnswer, lexMemory}
+use Rattle.place.specs.Spans.{spanAnswer}
+use Rattle.place.specs.Positions.{positionAnswer}
+use Rattle.strings.specs.Encodings.{encodingOf as decoderOf}
+use Rattle.strings.specs.Decoding.{decodeOf, bytesBy, errorsBy, after}
+use Rattle.toml.specs.Numbers.{flag, checkNumbers, startNumbers, stepNumbers, lexNumbers, spanNumbers, partOf}
+use Rattle.toml.specs.Numbers.{positionNumbers, decodeNumbers, describedNumbers, encodedNumbers}
+use Rattle.toml.specs.declared.Answered.{Answered}
+use Rattle.toml.specs.declared.Started.{Started}
+use Rattle.toml.specs.declared.Stepped.{Stepped}
+use Rattle.toml.specs.declared.Part.{Part}
+use Rattle.toml.specs.declared.Positioned.{Positioned}
+use Rattle.toml.specs.declared.DecodedText.{DecodedText}
+use Rattle.toml.specs.declared.Described.{Described}
+use Rattle.toml.specs.declared.EncodedKind.{EncodedKind}
+
+pub toml-check-utf8 : (doc : List ℕ) → Only (λ (r : Answered). r ≡ checkNumbers (checkOf doc))
+toml-check-utf8 doc = only-equal (checkNumbers (checkOf doc))
+
+pub toml-start : (doc : List ℕ) → Only (λ (r : Started). r ≡ startNumbers (startAnswer doc))
+toml-start doc = only-equal (startNumbers (startAnswer doc))
+
+pub toml-step : (doc : List ℕ) (place ended : ℕ) → Only (λ (r : Stepped). r ≡ stepNumbers (stepOf doc (cursorOf place (flag ended))))
+toml-step doc place ended = only-equal (stepNumbers (stepOf doc (cursorOf place (flag ended))))
+
+-- the answer, and the records afterwards
+pub toml-lex : (doc : List ℕ) (old : List (List ℕ))
+    → Only (λ (r : Answered). r ≡ lexNumbers (lexAnswer doc (length old))) × Only (λ (new : List (List ℕ)). new ≡ lexMemory doc old)
+toml-lex doc old = (only-equal (lexNumbers (lexAnswer doc (length old))), only-equal (lexMemory doc old))
+
+pub toml-check-span : (doc : List ℕ) (start end : ℕ) → Only (λ (r : Answered). r ≡ spanNumbers (spanAnswer doc (spanOf start end)))
+toml-check-span doc start end = only-equal (spanNumbers (spanAnswer doc (spanOf start end)))
+
+-- the first clause already admits one answer
+pub toml-text : (doc : List ℕ) (start end : ℕ) → Only (λ (r : Part). r ≡ partOf (spanAnswer doc (spanOf start end)) start end)
+toml-text doc start end = only-equal (partOf (spanAnswer doc (spanOf start end)) start end)
+
+pub toml-position : (doc : List ℕ) (offset : ℕ) → Only (λ (r : Positioned). r ≡ positionNumbers (positionAnswer doc offset))
+toml-position doc offset = only-equal (positionNumbers (positionAnswer doc offset))
+
+-- the answer, the output and the error records afterwards
+pub toml-decode : (text : List ℕ) (kind : ℕ) (output : List ℕ) (errors : List (List ℕ))
+    → Only (λ (r : DecodedText). r ≡ decodeNumbers (decodeOf text kind (length output) (length errors)))
+    × (Only (λ (new : List ℕ). new ≡ after (decodeOf text kind (length output) (length errors)) (bytesBy (decoderOf kind) text) output)
+    × Only (λ (new : List (List ℕ)). new ≡ after (decodeOf text kind (length output) (length errors)) (errorsBy (decoderOf kind) text) errors))
+toml-decode text kind output errors =
+    let d = decodeOf text kind (length output) (length errors) in (
+      only-equal (decodeNumbers d),
+      (only-equal (after d (bytesBy (decoderOf kind) text) output), only-equal (after d (errorsBy (decoderOf kind) text) errors)),
+    )
+
+pub toml-description : (kind : ℕ) → Only (λ (r : Described). r ≡ describedNumbers (descriptionOf kind))
+toml-description kind = only-equal (describedNumbers (descriptionOf kind))
+
+pub toml-encoding : (kind : ℕ) → Only (λ (r : EncodedKind). r ≡ encodedNumbers (encodingOf kind))
+toml-encoding kind = only-equal (encodedNumbers (encodingOf kind))

@@ -1,0 +1,17 @@
+-- `refused` is right because both numbers are the refusal's own.
+-- Assumes nothing.
+use borrow.Author.Needs.{needs}
+use Rattle.toml.proofs.refused.Statement.{statement}
+use Rattle.toml.proofs.refused.Tie as tie
+
+number-requires : tie.Need-number-requires
+number-requires c κs = search needs
+
+value-requires : tie.Need-value-requires
+value-requires c κs = search needs
+
+returns : tie.Need-returns
+returns c = rw (c .before .number .ensures, c .value .ensures)
+
+pub refused-spec : {M : Type 1} → statement M
+refused-spec = tie.close (tie.spec number-requires value-requires returns)

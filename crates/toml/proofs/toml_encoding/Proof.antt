@@ -1,0 +1,19 @@
+-- `toml_encoding` is right because it spells the encoding, field by field.
+-- Assumes nothing.
+use mathlib.Core.Path.{sym, ap, _∙_}
+use Rattle.toml.specs.Numbers.{encodedNumbers}
+use borrow.Author.Needs.{needs}
+use Rattle.toml.proofs.toml_encoding.Statement.{statement}
+use Rattle.toml.proofs.toml_encoding.Tie as tie
+
+encoding-requires : tie.Need-encoding-requires
+encoding-requires c κs = search needs
+
+told-requires : tie.Need-told-requires
+told-requires c κs = search needs
+
+returns : tie.Need-returns
+returns c = rw (c .told .ensures) (ap encodedNumbers (c .before .encoding .ensures .0))
+
+pub toml-encoding-spec : {M : Type 1} → statement M
+toml-encoding-spec = tie.close (tie.spec encoding-requires told-requires returns)

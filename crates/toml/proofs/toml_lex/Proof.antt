@@ -1,0 +1,48 @@
+-- `toml_lex` is right because lexing's answer is spelled case by case, and the records are as lexing leaves them.
+-- Assumes nothing.
+use mathlib.Core.Path.{sym, ap, _∙_}
+use Rattle.toml.specs.Numbers.{lexNumbers}
+use borrow.Author.Needs.{needs}
+use Rattle.toml.proofs.toml_lex.Statement.{statement}
+use Rattle.toml.proofs.toml_lex.Tie as tie
+
+lex-requires : tie.Need-lex-requires
+lex-requires c κs = search needs
+
+enum-known-n : tie.Need-enum-known-n
+enum-known-n c = search needs
+
+answer-of-requires : tie.Need-answer-of-requires
+answer-of-requires c κs = search needs
+
+enum-known-r : tie.Need-enum-known-r
+enum-known-r c = search needs
+
+refused-requires : tie.Need-refused-requires
+refused-requires c κs = search needs
+
+same-length : tie.Need-same-length
+same-length c = search needs
+
+returns : tie.Need-returns
+returns c = (rw (c .answer-of .ensures) (ap lexNumbers (sym (c .before .before .n .given .1) ∙ c .before .before .before .before .before .lex .ensures .0)), c .before .before .before .before .before .lex .ensures .1 .1 .1)
+
+same-length-2 : tie.Need-same-length-2
+same-length-2 c = search needs
+
+returns-2 : tie.Need-returns-2
+returns-2 c = (rw (c .refused .ensures) (ap lexNumbers (sym (c .before .before .r .given .1) ∙ c .before .before .before .before .before .lex .ensures .0)), c .before .before .before .before .before .lex .ensures .1 .1 .1)
+
+pub toml-lex-spec : {M : Type 1} → statement M
+toml-lex-spec =
+    tie.close
+    (tie.spec
+    lex-requires
+    enum-known-n
+    answer-of-requires
+    enum-known-r
+    refused-requires
+    same-length
+    returns
+    same-length-2
+    returns-2)

@@ -1,0 +1,40 @@
+-- `toml_position` is right because the position is spelled case by case.
+-- Assumes nothing.
+use mathlib.Core.Path.{sym, ap, _∙_}
+use Rattle.toml.specs.Numbers.{positionNumbers}
+use borrow.Author.Needs.{needs}
+use Rattle.toml.proofs.toml_position.Statement.{statement}
+use Rattle.toml.proofs.toml_position.Tie as tie
+
+position-of-requires : tie.Need-position-of-requires
+position-of-requires c κs = search needs
+
+enum-known-line : tie.Need-enum-known-line
+enum-known-line c = search needs
+
+answer-of-requires : tie.Need-answer-of-requires
+answer-of-requires c κs = search needs
+
+enum-known-r : tie.Need-enum-known-r
+enum-known-r c = search needs
+
+refused-requires : tie.Need-refused-requires
+refused-requires c κs = search needs
+
+returns : tie.Need-returns
+returns c = rw (c .answer-of .ensures) (ap positionNumbers (sym (c .before .before .line .given .1) ∙ c .before .before .before .before .position-of .ensures .0))
+
+returns-2 : tie.Need-returns-2
+returns-2 c = rw (c .refused .ensures) (ap positionNumbers (sym (c .before .before .r .given .1) ∙ c .before .before .before .before .position-of .ensures .0))
+
+pub toml-position-spec : {M : Type 1} → statement M
+toml-position-spec =
+    tie.close
+    (tie.spec
+    position-of-requires
+    enum-known-line
+    answer-of-requires
+    enum-known-r
+    refused-requires
+    returns
+    returns-2)

@@ -1,0 +1,42 @@
+-- `toml_text` is right because the check's answer decides the definition too.
+-- Assumes nothing.
+use mathlib.Core.Path.{sym, ap, _∙_}
+use Rattle.place.specs.declared.SpanCheck.{SpanCheck}
+use Rattle.toml.specs.Numbers.{partOf}
+use Rattle.toml.proofs.PartLaws.{parted}
+use borrow.Author.Needs.{needs}
+use Rattle.toml.proofs.toml_text.Statement.{statement}
+use Rattle.toml.proofs.toml_text.Tie as tie
+
+new-requires : tie.Need-new-requires
+new-requires c κs = search needs
+
+check-span-requires : tie.Need-check-span-requires
+check-span-requires c κs = search needs
+
+enum-told : tie.Need-enum-told
+enum-told c = search needs
+
+part-from-requires : tie.Need-part-from-requires
+part-from-requires c κs = search needs
+
+enum-told-2 : tie.Need-enum-told-2
+enum-told-2 c = search needs
+
+returns : tie.Need-returns
+returns c = let a = c .before .before .before .before .before .before .args in parted (a .doc .now) (a .start) (a .end) _ (rw (c .part-from .ensures) (ap (λ (s : SpanCheck). partOf s (a .start) (a .end)) (sym (c .before .enum-told .given .1) ∙ rw (c .before .before .before .before .new .ensures) at (c .before .before .before .check-span .ensures .0))))
+
+returns-2 : tie.Need-returns-2
+returns-2 c = let a = c .before .before .before .before .before .args in parted (a .doc .now) (a .start) (a .end) _ (ap (λ (s : SpanCheck). partOf s (a .start) (a .end)) (sym (c .enum-told2 .given .1) ∙ rw (c .before .before .before .new .ensures) at (c .before .before .check-span .ensures .0)))
+
+pub toml-text-spec : {M : Type 1} → statement M
+toml-text-spec =
+    tie.close
+    (tie.spec
+    new-requires
+    check-span-requires
+    enum-told
+    part-from-requires
+    enum-told-2
+    returns
+    returns-2)

@@ -1,0 +1,324 @@
+// What C and Rust link: every call as an exported function, its answer in numbers. Each makes the
+// call and spells its answer; include/toml.h says the same in words. Rule: specs/Numbers.antt.
+ghost use mathlib.Core.Path.{_≡_};
+ghost use lib.ListN.{length, take, drop};
+ghost use Rattle.text.specs.Answers.{checkOf};
+ghost use Rattle.text.specs.Refusals.{refusalNumber, refusalValue};
+ghost use Rattle.token.specs.Descriptions.{descriptionOf, answerNumber, answerValue};
+ghost use Rattle.token.specs.Encodings.{encodingOf};
+ghost use Rattle.token.specs.Records.{spanOf};
+ghost use Rattle.lexer.specs.Steps.{startAnswer, stepOf, cursorOf};
+ghost use Rattle.lexer.specs.Whole.{lexAnswer, lexMemory};
+ghost use Rattle.place.specs.Spans.{spanAnswer, spanText};
+ghost use Rattle.place.specs.Positions.{positionAnswer};
+ghost use Rattle.strings.specs.Encodings.{encodingOf as decoderOf};
+ghost use Rattle.strings.specs.Decoding.{decodeOf, bytesBy, errorsBy, after};
+ghost use Rattle.toml.specs.Numbers.{bitOf, flag, answered, cursorNumbers, noToken, partFrom};
+ghost use Rattle.toml.specs.Numbers.{checkNumbers, startNumbers, stepNumbers, lexNumbers, spanNumbers, partOf};
+ghost use Rattle.toml.specs.Numbers.{positionNumbers, decodeNumbers, describedNumbers, encodedNumbers};
+use lexer::Cursor;
+use lexer::Lexed;
+use lexer::Start;
+use lexer::Step;
+use place::Position;
+use place::SpanCheck;
+use strings::Decoded;
+use text::Refusal;
+use text::Utf8Check;
+use token::Answer;
+use token::Span;
+use token::TokenKind;
+
+// 0 where the call answered and else its refusal's number, and the number returned with it.
+#[repr(C)]
+pub struct Answered {
+    pub refusal: usize,
+    pub value: usize,
+}
+
+// A cursor; `ended` is 0 or 1.
+#[repr(C)]
+pub struct CursorNumbers {
+    pub place: usize,
+    pub ended: usize,
+}
+
+#[repr(C)]
+pub struct Started {
+    pub answer: Answered,
+    pub cursor: CursorNumbers,
+}
+
+#[repr(C)]
+pub struct TokenNumbers {
+    pub kind: usize,
+    pub start: usize,
+    pub end: usize,
+}
+
+// `given` is 1 with a token, and all behind it 0 without one.
+#[repr(C)]
+pub struct Stepped {
+    pub answer: Answered,
+    pub given: usize,
+    pub token: TokenNumbers,
+    pub cursor: CursorNumbers,
+}
+
+// A part of a document.
+#[repr(C)]
+pub struct Part {
+    pub start: usize,
+    pub length: usize,
+}
+
+#[repr(C)]
+pub struct Positioned {
+    pub answer: Answered,
+    pub line: usize,
+    pub column: usize,
+}
+
+// The answer's value is the bytes.
+#[repr(C)]
+pub struct DecodedText {
+    pub answer: Answered,
+    pub errors: usize,
+}
+
+#[repr(C)]
+pub struct Described {
+    pub answer: Answered,
+    pub length: usize,
+    pub bytes: [u8; 25],
+}
+
+#[repr(C)]
+pub struct EncodedKind {
+    pub answer: Answered,
+    pub encoding: usize,
+}
+
+#[no_mangle]
+pub extern "C" fn toml_check_utf8(doc: &[u8]) -> Answered
+    ensures { λ r. ⌜ r ≡ checkNumbers (checkOf (now (doc .entry))) ⌝ }
+{
+    match text::check_utf8(doc) {
+        Utf8Check::Valid => answer_of(0),
+        Utf8Check::Refused(r) => refused(r),
+    }
+}
+
+#[no_mangle]
+pub extern "C" fn toml_start(doc: &[u8]) -> Started
+    ensures { λ r. ⌜ r ≡ startNumbers (startAnswer (now (doc .entry))) ⌝ }
+{
+    match Cursor::start(doc) {
+        Start::At(cursor) => Started {
+            answer: answer_of(0),
+            cursor: cursor_numbers(cursor.place, cursor.ended),
+        },
+        Start::Refused(r) => Started {
+            answer: refused(r),
+            cursor: cursor_numbers(0, false),
+        },
+    }
+}
+
+// The cursor may be made by hand; one is ended if `ended` is not 0.
+#[no_mangle]
+pub extern "C" fn toml_step(doc: &[u8], place: usize, ended: usize) -> Stepped
+    ensures { λ r. ⌜ r ≡ stepNumbers (stepOf (now (doc .entry)) (cursorOf place (flag ended))) ⌝ }
+{
+    let cursor = Cursor {
+        place,
+        ended: ended != 0,
+    };
+    match cursor.step(doc) {
+        Step::Token(token, next) => {
+            let kind = token.kind;
+            Stepped {
+                answer: answer_of(0),
+                given: 1,
+                token: TokenNumbers {
+                    kind: kind.number(),
+                    start: token.span.start,
+                    end: token.span.end,
+                },
+                cursor: cursor_numbers(next.place, next.ended),
+            }
+        }
+        Step::End => no_token(answer_of(0)),
+        Step::Refused(r) => no_token(refused(r)),
+    }
+}
+
+#[no_mangle]
+pub extern "C" fn toml_lex(doc: &[u8], records: &mut [[usize; 3]]) -> Answered
+    ensures answer { λ r. ⌜ r ≡ lexNumbers (lexAnswer (now (doc .entry)) (length (now (records .entry)))) ⌝ }
+    ensures memory { λ _. ⌜ now (records .exit) ≡ lexMemory (now (doc .entry)) (now (records .entry)) ⌝ }
+{
+    match lexer::lex(doc, records) {
+        Lexed::Tokens(n) => answer_of(n),
+        Lexed::Refused(r) => refused(r),
+    }
+}
+
+#[no_mangle]
+pub extern "C" fn toml_check_span(doc: &[u8], start: usize, end: usize) -> Answered
+    ensures { λ r. ⌜ r ≡ spanNumbers (spanAnswer (now (doc .entry)) (spanOf start end)) ⌝ }
+{
+    match place::check_span(doc, Span::new(start, end)) {
+        SpanCheck::Whole => answer_of(0),
+        SpanCheck::Refused(r) => refused(r),
+    }
+}
+
+// The text of a span is told by its start and length: no reference is handed out.
+#[no_mangle]
+pub extern "C" fn toml_text(doc: &[u8], start: usize, end: usize) -> Part
+    ensures answer { λ r. ⌜ r ≡ partOf (spanAnswer (now (doc .entry)) (spanOf start end)) start end ⌝ }
+    ensures text { λ r. ⌜ take (r .length) (drop (r .start) (now (doc .entry))) ≡ spanText (now (doc .entry)) (spanOf start end) ⌝ }
+{
+    match place::check_span(doc, Span::new(start, end)) {
+        SpanCheck::Whole => part_from(start, end),
+        SpanCheck::Refused(_) => Part {
+            start: 0,
+            length: 0,
+        },
+    }
+}
+
+#[no_mangle]
+pub extern "C" fn toml_position(doc: &[u8], offset: usize) -> Positioned
+    ensures { λ r. ⌜ r ≡ positionNumbers (positionAnswer (now (doc .entry)) offset) ⌝ }
+{
+    match place::position_of(doc, offset) {
+        Position::At { line, column } => Positioned {
+            answer: answer_of(0),
+            line,
+            column,
+        },
+        Position::Refused(r) => Positioned {
+            answer: refused(r),
+            line: 0,
+            column: 0,
+        },
+    }
+}
+
+#[no_mangle]
+pub extern "C" fn toml_decode(
+    text: &[u8],
+    kind: usize,
+    output: &mut [u8],
+    errors: &mut [[usize; 3]],
+) -> DecodedText
+    ensures answer { λ r. ⌜ r ≡ decodeNumbers (decodeOf (now (text .entry)) kind (length (now (output .entry))) (length (now (errors .entry)))) ⌝ }
+    ensures bytes { λ _. ⌜ now (output .exit) ≡ after (decodeOf (now (text .entry)) kind (length (now (output .entry))) (length (now (errors .entry)))) (bytesBy (decoderOf kind) (now (text .entry))) (now (output .entry)) ⌝ }
+    ensures records { λ _. ⌜ now (errors .exit) ≡ after (decodeOf (now (text .entry)) kind (length (now (output .entry))) (length (now (errors .entry)))) (errorsBy (decoderOf kind) (now (text .entry))) (now (errors .entry)) ⌝ }
+{
+    match decoder::decode(text, kind, output, errors) {
+        Decoded::Written { bytes, errors } => DecodedText {
+            answer: answer_of(bytes),
+            errors,
+        },
+        Decoded::Refused(r) => DecodedText {
+            answer: refused(r),
+            errors: 0,
+        },
+    }
+}
+
+#[no_mangle]
+pub extern "C" fn toml_description(kind: usize) -> Described
+    ensures { λ r. ⌜ r ≡ describedNumbers (descriptionOf kind) ⌝ }
+{
+    let d = TokenKind::description(kind);
+    let answer = d.answer;
+    let bytes = d.bytes;
+    Described {
+        answer: told(answer),
+        length: d.len,
+        bytes,
+    }
+}
+
+#[no_mangle]
+pub extern "C" fn toml_encoding(kind: usize) -> EncodedKind
+    ensures { λ r. ⌜ r ≡ encodedNumbers (encodingOf kind) ⌝ }
+{
+    let e = TokenKind::encoding(kind);
+    let answer = e.answer;
+    EncodedKind {
+        answer: told(answer),
+        encoding: e.number,
+    }
+}
+
+fn answer_of(value: usize) -> Answered
+    ensures { λ r. ⌜ r ≡ answered 0 value ⌝ }
+{
+    Answered { refusal: 0, value }
+}
+
+fn refused(r: Refusal) -> Answered
+    ensures { λ a. ⌜ a ≡ answered (refusalNumber r) (refusalValue r) ⌝ }
+{
+    Answered {
+        refusal: r.number(),
+        value: r.value(),
+    }
+}
+
+fn told(a: Answer) -> Answered
+    ensures { λ r. ⌜ r ≡ answered (answerNumber a) (answerValue a) ⌝ }
+{
+    match a {
+        Answer::Given => answer_of(0),
+        Answer::Refused(r) => refused(r),
+    }
+}
+
+fn cursor_numbers(place: usize, ended: bool) -> CursorNumbers
+    ensures { λ r. ⌜ r ≡ cursorNumbers (cursorOf place ended) ⌝ }
+{
+    CursorNumbers {
+        place,
+        ended: bit(ended),
+    }
+}
+
+fn no_token(answer: Answered) -> Stepped
+    ensures { λ r. ⌜ r ≡ noToken (answer .refusal) (answer .value) ⌝ }
+{
+    Stepped {
+        answer,
+        given: 0,
+        token: TokenNumbers {
+            kind: 0,
+            start: 0,
+            end: 0,
+        },
+        cursor: cursor_numbers(0, false),
+    }
+}
+
+// From a start to an end that is not before it; none where it is.
+fn part_from(start: usize, end: usize) -> Part
+    ensures { λ r. ⌜ r ≡ partFrom start end ⌝ }
+{
+    if end < start {
+        return Part { start, length: 0 };
+    }
+    Part {
+        start,
+        length: end - start,
+    }
+}
+
+fn bit(b: bool) -> usize
+    ensures { λ r. ⌜ r ≡ bitOf b ⌝ }
+{
+    if b { 1 } else { 0 }
+}

@@ -1,0 +1,166 @@
+/* TOML tokens and strings: the functions of libtoml.a (`rt staticlib toml`).
+ *
+ * Every function returns, for all arguments, and reads and writes only what it is lent: that is proved.
+ * The caller's part: a pointer stands for as many elements as the length behind it says, it is not null
+ * even where that length is 0, and lent memory does not overlap what is read or lent besides.
+ *
+ * An answer has `refusal`, 0 where the call answered and else the refusal's number, and `value`:
+ *
+ *   refusal  given exactly when                                      value
+ *   0        answered                                                tokens, bytes, or 0: see the call
+ *   1        the bytes are not UTF-8                                 length of the longest valid prefix
+ *   2        more than TOML_LIMIT bytes                              TOML_LIMIT
+ *   3        fewer token records than tokens, Eof counted            tokens needed
+ *   4        the output is shorter than the decoded bytes            bytes needed
+ *   5        fewer error records than errors                         records needed
+ *   6        a place beyond the document; for a span also a start    the document's length
+ *            after the end, or an end at a byte 80 to BF
+ *   7        a number that is no kind of the call's                  that number
+ *
+ * A refused call has written nothing, and its other results are 0. Where several refusals fit, the
+ * order beside the call says which is given.
+ */
+#ifndef GALOXUMI_TOML_H
+#define GALOXUMI_TOML_H
+
+#include <stddef.h>
+#include <stdint.h>
+
+#ifdef __cplusplus
+extern "C" {
+#endif
+
+#define TOML_LIMIT ((size_t)16777216)
+
+/* Kinds of token. Those of strings, and TOML_ATOM for an unquoted key, are the kinds of a decode. */
+enum {
+    TOML_DOT = 46,
+    TOML_EQUALS = 61,
+    TOML_COMMA = 44,
+    TOML_LEFT_SQUARE_BRACKET = 91,
+    TOML_RIGHT_SQUARE_BRACKET = 93,
+    TOML_LEFT_CURLY_BRACKET = 123,
+    TOML_RIGHT_CURLY_BRACKET = 125,
+    TOML_WHITESPACE = 32,
+    TOML_COMMENT = 35,
+    TOML_NEWLINE = 10,
+    TOML_LITERAL_STRING = 39,
+    TOML_BASIC_STRING = 34,
+    TOML_ML_LITERAL_STRING = 1,
+    TOML_ML_BASIC_STRING = 2,
+    TOML_ATOM = 3,
+    TOML_EOF = 4
+};
+
+/* Which refusal, 0 for none, and the number returned with it. */
+typedef struct {
+    size_t refusal;
+    size_t value;
+} toml_answer;
+
+/* Where the next token begins, and whether Eof was given: 0 or 1. */
+typedef struct {
+    size_t place;
+    size_t ended;
+} toml_cursor;
+
+typedef struct {
+    size_t kind;
+    size_t start;
+    size_t end; /* the place behind it */
+} toml_token;
+
+/* Whether all of doc is UTF-8. Refusals 2, 1; value 0 where it is. */
+toml_answer toml_check_utf8(const uint8_t *doc, size_t doc_len);
+
+/* The starting cursor: past a byte order mark, not ended. Refusal 2, with place 0 and not ended. */
+typedef struct {
+    toml_answer answer;
+    toml_cursor cursor;
+} toml_started;
+
+toml_started toml_start(const uint8_t *doc, size_t doc_len);
+
+/* One token at a cursor, which may be made by hand; ended is 0, or anything else for an ended one.
+ * given is 1 for a token, with the next cursor; 0 at the end, where an ended cursor stands at the document's
+ * end, and all behind it is 0 then. A byte order mark is not skipped, and UTF-8 is not tested. Refusals 2, 6. */
+typedef struct {
+    toml_answer answer;
+    size_t given;
+    toml_token token;
+    toml_cursor cursor;
+} toml_stepped;
+
+toml_stepped toml_step(const uint8_t *doc, size_t doc_len, size_t place, size_t ended);
+
+/* All tokens, Eof last, each as kind, start, end, into the lent records from the front; records behind
+ * them keep their contents. value is the tokens. Refusals 2, 1, 3. With more records than the document
+ * has bytes nothing is counted first. */
+toml_answer toml_lex(const uint8_t *doc, size_t doc_len, size_t (*records)[3], size_t records_len);
+
+/* Whether start..end lies in the document and neither end is inside a character. Refusals 2, 6. */
+toml_answer toml_check_span(const uint8_t *doc, size_t doc_len, size_t start, size_t end);
+
+/* The text of a span, as its start and length in doc; 0 and 0 where toml_check_span refuses it. */
+typedef struct {
+    size_t start;
+    size_t length;
+} toml_part;
+
+toml_part toml_text(const uint8_t *doc, size_t doc_len, size_t start, size_t end);
+
+/* Line (1 plus the LFs before the offset) and column (1 plus the bytes since the last LF, or since byte
+ * 0). Refusals 2, 6. */
+typedef struct {
+    toml_answer answer;
+    size_t line;
+    size_t column;
+} toml_positioned;
+
+toml_positioned toml_position(const uint8_t *doc, size_t doc_len, size_t offset);
+
+/* The bytes of a text of a kind (39, 34, 1, 2, or 3 for a key) into output from its front, and its errors,
+ * each as number, start, end, into the lent records from the front; the rest keeps its contents. value is
+ * the bytes, errors the errors. Refusals 2, 1, 7, 4, 5. With an output of three halves of the text's length
+ * and two records more than it has bytes nothing is counted first. Errors:
+ *
+ *   1, 3, 6, 11  a quote mark is missing: literal, multi-line literal, basic, multi-line basic
+ *   2, 5         a byte is not allowed: literal, multi-line literal
+ *   4            a CR without LF in a multi-line string
+ *   7, 12        bytes are not allowed: basic, multi-line basic
+ *   8            the escaped value is missing
+ *   9            too few hex digits
+ *   10           not a Unicode scalar value
+ *   13           a line-ending backslash without its newline
+ *   14, 15       a key is empty; a byte is not allowed in a key */
+typedef struct {
+    toml_answer answer;
+    size_t errors;
+} toml_decoded;
+
+toml_decoded toml_decode(const uint8_t *text, size_t text_len, size_t kind, uint8_t *output, size_t output_len,
+                         size_t (*errors)[3], size_t errors_len);
+
+/* The words for a kind: their length, and the words with zeros behind; all zero where refused. Refusal 7. */
+typedef struct {
+    toml_answer answer;
+    size_t length;
+    uint8_t bytes[25];
+} toml_described;
+
+toml_described toml_description(size_t kind);
+
+/* The kind that a decode takes for a token of this kind: the same for the four string kinds, else 0.
+ * Refusal 7. */
+typedef struct {
+    toml_answer answer;
+    size_t encoding;
+} toml_encoded;
+
+toml_encoded toml_encoding(size_t kind);
+
+#ifdef __cplusplus
+}
+#endif
+
+#endif

@@ -1,0 +1,336 @@
+/* The exported library, as a C program links it: the texts of tests/scope.txt with their answers, every
+ * refusal of every call with its number and its place in the order, lent sizes of none, one short and exact,
+ * and documents of 16,777,216 bytes and of one more. Prints a line for each failure, and a count. */
+#include "expect.h"
+
+#include <stdlib.h>
+
+/* ---- lexing */
+
+/* Lexed with records to spare: the tokens, and the record behind them kept. With as many as there are
+ * tokens: the same. With one fewer, and with none: refusal 3, and nothing written. */
+static int lexes(const uint8_t *doc, size_t len, const size_t (*tokens)[3], size_t count)
+{
+    size_t records[16][3], old[16][3];
+    memset(old, 0xA5, sizeof old);
+    for (size_t room = count; room <= count + 1; room++) {
+        memcpy(records, old, sizeof old);
+        if (!answers(toml_lex(doc, len, records, room), 0, count) || memcmp(records, tokens, count * sizeof *records) != 0
+            || memcmp(records[count], old[count], sizeof *old) != 0) {
+            return 0;
+        }
+    }
+    memcpy(records, old, sizeof old);
+    return answers(toml_lex(doc, len, records, count - 1), 3, count) && answers(toml_lex(doc, len, records, 0), 3, count)
+           && memcmp(records, old, sizeof old) == 0;
+}
+
+#define LEXES(text, ...)                                                             \
+    do {                                                                             \
+        static const size_t tokens[][3] = {__VA_ARGS__};                             \
+        EXPECT(lexes(BYTES(text), tokens, sizeof tokens / sizeof *tokens) && #text); \
+    } while (0)
+
+static void lexing(void)
+{
+    FROM("tests/scope.txt, lex");
+    LEXES("", R(4, 0, 0));
+    LEXES("\xEF\xBB\xBF", R(4, 3, 3));
+    LEXES("'''a'''''", R(1, 0, 9), R(4, 9, 9));
+    LEXES("'''a''''''", R(1, 0, 9), R(39, 9, 10), R(4, 10, 10));
+    LEXES("'a\r\n", R(39, 0, 3), R(10, 3, 4), R(4, 4, 4));
+    LEXES("#x\ry", R(35, 0, 2), R(10, 2, 3), R(3, 3, 4), R(4, 4, 4));
+    LEXES("a\"b c", R(3, 0, 3), R(32, 3, 4), R(3, 4, 5), R(4, 5, 5));
+    LEXES("a = \"b\"\n", R(3, 0, 1), R(32, 1, 2), R(61, 2, 3), R(32, 3, 4), R(34, 4, 7), R(10, 7, 8), R(4, 8, 8));
+    FROM("docs/RULES.md, the refusals: 1 before 3, with the longest valid prefix");
+    size_t one[1][3] = {R(7, 8, 9)};
+    EXPECT(answers(toml_lex(BYTES("a\xFF"), one, 0), 1, 1));
+    EXPECT(is_record(one[0], 7, 8, 9));
+    EXPECT(answers(toml_check_utf8(BYTES("")), 0, 0));
+    EXPECT(answers(toml_check_utf8(BYTES("\xC3\xA9=1")), 0, 0));
+    EXPECT(answers(toml_check_utf8(BYTES("a\xED\xA0\x80")), 1, 1));
+}
+
+static int steps(toml_stepped s, toml_token token, toml_cursor next)
+{
+    return answers(s.answer, 0, 0) && s.given == 1 && memcmp(&s.token, &token, sizeof token) == 0
+           && memcmp(&s.cursor, &next, sizeof next) == 0;
+}
+
+static int steps_nowhere(toml_stepped s, size_t refusal, size_t value)
+{
+    static const toml_stepped nothing;
+    toml_stepped expected = nothing;
+    expected.answer = (toml_answer){refusal, value};
+    return memcmp(&s, &expected, sizeof s) == 0;
+}
+
+static void stepping(void)
+{
+    FROM("tests/scope.txt, start and step");
+    toml_started start = toml_start(BYTES("\xEF\xBB\xBF"));
+    EXPECT(answers(start.answer, 0, 0) && start.cursor.place == 3 && start.cursor.ended == 0);
+    start = toml_start(BYTES(""));
+    EXPECT(answers(start.answer, 0, 0) && start.cursor.place == 0 && start.cursor.ended == 0);
+    EXPECT(steps(toml_step(BYTES("\xEF\xBB\xBF"), 0, 0), (toml_token)R(3, 0, 3), (toml_cursor){3, 0}));
+    EXPECT(steps(toml_step(BYTES(""), 0, 0), (toml_token)R(4, 0, 0), (toml_cursor){0, 1}));
+    EXPECT(steps_nowhere(toml_step(BYTES(""), 0, 1), 0, 0));
+    FROM("crates/lexer/specs/Steps.antt: before the end the flag is carried along");
+    EXPECT(steps(toml_step(BYTES("a"), 0, 1), (toml_token)R(3, 0, 1), (toml_cursor){1, 1}));
+    FROM("crates/toml/specs/Numbers.antt: anything but 0 says that the cursor is ended");
+    EXPECT(steps_nowhere(toml_step(BYTES("a"), 1, SIZE_MAX), 0, 0));
+    FROM("docs/RULES.md, the refusals: 6 with the document's length");
+    EXPECT(steps_nowhere(toml_step(BYTES("a"), 2, 0), 6, 1));
+    EXPECT(steps_nowhere(toml_step(BYTES("a"), SIZE_MAX, 1), 6, 1));
+}
+
+/* ---- decoding */
+
+/* Decoded with room to spare, and with just enough: the bytes and the errors, and what is behind them kept.
+ * With a byte or a record too few, and with none: refusal 4 or 5, and nothing written. */
+static int decodes(size_t kind, const uint8_t *text, size_t len, const uint8_t *bytes, size_t n, const size_t (*errors)[3], size_t m)
+{
+    uint8_t out[32], old[32];
+    size_t records[8][3], kept[8][3];
+    memset(old, 0xA5, sizeof old);
+    memset(kept, 0xA5, sizeof kept);
+    for (size_t spare = 0; spare <= 20; spare += 20) {
+        memcpy(out, old, sizeof out);
+        memcpy(records, kept, sizeof records);
+        toml_decoded d = toml_decode(text, len, kind, out, n + spare, records, spare == 0 ? m : 8);
+        if (!answers(d.answer, 0, n) || d.errors != m || memcmp(out, bytes, n) != 0 || memcmp(records, errors, m * sizeof *records) != 0
+            || memcmp(out + n, old + n, sizeof old - n) != 0 || memcmp(records + m, kept + m, sizeof kept - m * sizeof *kept) != 0) {
+            return 0;
+        }
+    }
+    memcpy(out, old, sizeof out);
+    memcpy(records, kept, sizeof records);
+    int ok = 1;
+    for (size_t room = 0; n > 0 && room < n; room += n > 1 ? n - 1 : 1) {
+        toml_decoded d = toml_decode(text, len, kind, out, room, records, 0);
+        ok &= answers(d.answer, 4, n) && d.errors == 0;
+    }
+    for (size_t room = 0; m > 0 && room < m; room += m > 1 ? m - 1 : 1) {
+        toml_decoded d = toml_decode(text, len, kind, out, n, records, room);
+        ok &= answers(d.answer, 5, m) && d.errors == 0;
+    }
+    return ok && memcmp(out, old, sizeof out) == 0 && memcmp(records, kept, sizeof records) == 0;
+}
+
+#define NO_ERRORS R(0, 0, 0)
+#define DECODES(kind, text, bytes, m, ...)                                    \
+    do {                                                                      \
+        static const size_t errors[][3] = {__VA_ARGS__};                      \
+        EXPECT(decodes(kind, BYTES(text), BYTES(bytes), errors, m) && #text); \
+    } while (0)
+
+static void decoding(void)
+{
+    FROM("tests/scope.txt, dec");
+    DECODES(34, "\"\\u\\u\\u\"", "\xEF\xBF\xBD\xEF\xBF\xBD\xEF\xBF\xBD", 3, R(9, 3, 3), R(9, 5, 5), R(9, 7, 7));
+    DECODES(34, "\"\\uD7FF\"", "\xED\x9F\xBF", 0, NO_ERRORS);
+    DECODES(34, "\"\\uD800\"", "\xEF\xBF\xBD", 1, R(10, 3, 3));
+    DECODES(34, "\"\\U0010FFFF\"", "\xF4\x8F\xBF\xBF", 0, NO_ERRORS);
+    DECODES(34, "\"\\U00110000\"", "\xEF\xBF\xBD", 1, R(10, 3, 3));
+    DECODES(34, "\"\\q\"", "\\q", 1, R(8, 2, 2));
+    DECODES(34, "\"a\\\"", "a\\", 1, R(8, 3, 3));
+    DECODES(1, "'''a''", "a", 1, R(3, 6, 6));
+    DECODES(2, "\"\"\"a\"\"", "a\"\"", 1, R(11, 6, 6));
+    DECODES(2, "\"\"\"a\rb\"\"\"", "a\rb", 1, R(4, 5, 5));
+    DECODES(2, "\"\"\"a\\ \n  b\"\"\"", "ab", 0, NO_ERRORS);
+    DECODES(39, "'", "", 1, R(1, 1, 1));
+    DECODES(39, "", "", 2, R(1, 0, 0), R(1, 0, 0));
+    DECODES(3, "", "", 1, R(14, 0, 0));
+    DECODES(3, "\xC3\xA9", "\xC3\xA9", 2, R(15, 0, 0), R(15, 1, 1));
+    DECODES(1, "'''a'''b'''", "a'''b", 0, NO_ERRORS);
+}
+
+static void decoding_refused(void)
+{
+    uint8_t out[2] = {0xA5, 0xA5};
+    size_t errors[1][3] = {R(7, 8, 9)};
+    FROM("docs/RULES.md, the refusals: 1 before 7, 7 before 4, 4 before 5");
+    toml_decoded d = toml_decode(BYTES("\"\xFF\""), 5, out, 0, errors, 0);
+    EXPECT(answers(d.answer, 1, 1) && d.errors == 0);
+    d = toml_decode(BYTES("\"abc\""), 5, out, 0, errors, 0);
+    EXPECT(answers(d.answer, 7, 5) && d.errors == 0);
+    d = toml_decode(BYTES("\"abc"), 34, out, 2, errors, 0);
+    EXPECT(answers(d.answer, 4, 3) && d.errors == 0);
+    d = toml_decode(BYTES("\"ab"), 34, out, 2, errors, 0);
+    EXPECT(answers(d.answer, 5, 1) && d.errors == 0);
+    FROM("docs/RULES.md, the refusals: a refused call writes nothing");
+    EXPECT(out[0] == 0xA5 && out[1] == 0xA5 && is_record(errors[0], 7, 8, 9));
+}
+
+/* ---- spans, places, kinds */
+
+static int is_part(toml_part p, size_t start, size_t length)
+{
+    return p.start == start && p.length == length;
+}
+
+static int is_position(toml_positioned p, size_t refusal, size_t value, size_t line, size_t column)
+{
+    return answers(p.answer, refusal, value) && p.line == line && p.column == column;
+}
+
+static void places(void)
+{
+    FROM("docs/RULES.md, the refusals: 6 for a span");
+    EXPECT(answers(toml_check_span(BYTES("\xC3\xA9=1"), 0, 4), 0, 0));
+    EXPECT(answers(toml_check_span(BYTES("\xC3\xA9=1"), 4, 4), 0, 0));
+    EXPECT(answers(toml_check_span(BYTES("\xC3\xA9=1"), 1, 2), 6, 4));
+    EXPECT(answers(toml_check_span(BYTES("\xC3\xA9=1"), 0, 1), 6, 4));
+    EXPECT(answers(toml_check_span(BYTES("\xC3\xA9=1"), 3, 2), 6, 4));
+    EXPECT(answers(toml_check_span(BYTES("\xC3\xA9=1"), 0, 5), 6, 4));
+    FROM("crates/toml/specs/Numbers.antt: start and length, 0 and 0 where refused");
+    EXPECT(is_part(toml_text(BYTES("\xC3\xA9=1"), 2, 4), 2, 2));
+    EXPECT(is_part(toml_text(BYTES("\xC3\xA9=1"), 4, 4), 4, 0));
+    EXPECT(is_part(toml_text(BYTES("\xC3\xA9=1"), 1, 4), 0, 0));
+    EXPECT(is_part(toml_text(BYTES("\xC3\xA9=1"), 3, 2), 0, 0));
+    FROM("tests/scope.txt, pos");
+    EXPECT(is_position(toml_position(BYTES("\xC3\xA9=1"), 2), 0, 0, 1, 3));
+    FROM("crates/place/specs/Positions.antt");
+    EXPECT(is_position(toml_position(BYTES("a\nb"), 1), 0, 0, 1, 2));
+    EXPECT(is_position(toml_position(BYTES("a\nb"), 3), 0, 0, 2, 2));
+    EXPECT(is_position(toml_position(BYTES("a\nb"), 4), 6, 3, 0, 0));
+}
+
+static int is_described(toml_described d, const char *words)
+{
+    uint8_t padded[25] = {0};
+    memcpy(padded, words, strlen(words));
+    return answers(d.answer, 0, 0) && d.length == strlen(words) && memcmp(d.bytes, padded, sizeof padded) == 0;
+}
+
+static void kinds(void)
+{
+    static const struct {
+        size_t kind, encoding;
+        const char *words;
+    } table[] = {
+        {TOML_DOT, 0, "`.`"},
+        {TOML_EQUALS, 0, "`=`"},
+        {TOML_COMMA, 0, "`,`"},
+        {TOML_LEFT_SQUARE_BRACKET, 0, "`[`"},
+        {TOML_RIGHT_SQUARE_BRACKET, 0, "`]`"},
+        {TOML_LEFT_CURLY_BRACKET, 0, "`{`"},
+        {TOML_RIGHT_CURLY_BRACKET, 0, "`}`"},
+        {TOML_WHITESPACE, 0, "whitespace"},
+        {TOML_COMMENT, 0, "comment"},
+        {TOML_NEWLINE, 0, "newline"},
+        {TOML_LITERAL_STRING, 39, "literal string"},
+        {TOML_BASIC_STRING, 34, "basic string"},
+        {TOML_ML_LITERAL_STRING, 1, "multi-line literal string"},
+        {TOML_ML_BASIC_STRING, 2, "multi-line basic string"},
+        {TOML_ATOM, 0, "token"},
+        {TOML_EOF, 0, "end-of-input"},
+    };
+    FROM("crates/token/specs/Descriptions.antt and Encodings.antt, from the Rust");
+    for (size_t i = 0; i < sizeof table / sizeof *table; i++) {
+        EXPECT(is_described(toml_description(table[i].kind), table[i].words));
+        toml_encoded e = toml_encoding(table[i].kind);
+        EXPECT(answers(e.answer, 0, 0) && e.encoding == table[i].encoding);
+    }
+    FROM("docs/RULES.md, the refusals: 7 with the number, and zeros");
+    static const uint8_t zeros[25];
+    toml_described d = toml_description(5);
+    EXPECT(answers(d.answer, 7, 5) && d.length == 0 && memcmp(d.bytes, zeros, sizeof zeros) == 0);
+    toml_encoded e = toml_encoding(SIZE_MAX);
+    EXPECT(answers(e.answer, 7, SIZE_MAX) && e.encoding == 0);
+}
+
+/* ---- documents of 16,777,216 bytes, and of one more, for every call */
+
+struct memory {
+    uint8_t *doc, *out;
+    size_t (*records)[3];
+};
+
+/* Accepted by every call. Each byte is a token or an error of its own, so the lent records are as many as
+ * there can be. */
+static void at_the_limit(struct memory m, size_t len)
+{
+    memset(m.doc, '.', len);
+    FROM("docs/RULES.md, the refusals: 16,777,216 bytes are not too many");
+    EXPECT(answers(toml_check_utf8(m.doc, len), 0, 0));
+    EXPECT(answers(toml_start(m.doc, len).answer, 0, 0));
+    EXPECT(steps(toml_step(m.doc, len, len - 1, 0), (toml_token)R(46, len - 1, len), (toml_cursor){len, 0}));
+    EXPECT(answers(toml_check_span(m.doc, len, 0, len), 0, 0));
+    EXPECT(is_part(toml_text(m.doc, len, 1, len), 1, len - 1));
+    EXPECT(is_position(toml_position(m.doc, len, len), 0, 0, 1, len + 1));
+    FROM("crates/lexer/specs/Table.antt: a token for each dot, and Eof");
+    EXPECT(answers(toml_lex(m.doc, len, m.records, len + 1), 0, len + 1));
+    EXPECT(is_record(m.records[0], 46, 0, 1) && is_record(m.records[len], 4, len, len));
+    EXPECT(answers(toml_lex(m.doc, len, m.records, len), 3, len + 1));
+    EXPECT(answers(toml_lex(m.doc, len, m.records, 0), 3, len + 1));
+    FROM("crates/strings/specs/Bodies.antt: error 15 at each byte of a key of dots");
+    toml_decoded d = toml_decode(m.doc, len, 3, m.out, len, m.records, len);
+    EXPECT(answers(d.answer, 0, len) && d.errors == len && is_record(m.records[len - 1], 15, len - 1, len - 1));
+    EXPECT(answers(toml_decode(m.doc, len, 3, m.out, len, m.records, len - 1).answer, 5, len));
+    FROM("crates/strings/specs/Marks.antt: one string without its two marks");
+    m.doc[0] = m.doc[len - 1] = '"';
+    EXPECT(answers(toml_lex(m.doc, len, m.records, 2), 0, 2) && is_record(m.records[0], 34, 0, len));
+    d = toml_decode(m.doc, len, 34, m.out, len + len / 2, m.records, len + 2);
+    EXPECT(answers(d.answer, 0, len - 2) && d.errors == 0 && m.out[0] == '.' && m.out[len - 3] == '.');
+    EXPECT(answers(toml_decode(m.doc, len, 34, m.out, len - 2, m.records, 0).answer, 0, len - 2));
+    EXPECT(answers(toml_decode(m.doc, len, 34, m.out, len - 3, m.records, 0).answer, 4, len - 2));
+    FROM("docs/RULES.md, the refusals: 1 at the last byte");
+    m.doc[len - 1] = 0xC3;
+    EXPECT(answers(toml_check_utf8(m.doc, len), 1, len - 1));
+    EXPECT(answers(toml_lex(m.doc, len, m.records, 0), 1, len - 1));
+    EXPECT(answers(toml_decode(m.doc, len, 5, m.out, 0, m.records, 0).answer, 1, len - 1));
+}
+
+/* Refused by every call, before all else that is wrong with what it is given. */
+static void past_the_limit(struct memory m, size_t len)
+{
+    FROM("docs/RULES.md, the refusals: 2 first, with 16,777,216, and the other results zero");
+    m.doc[0] = 0xFF;
+    m.out[0] = 0xA5;
+    m.records[0][0] = 7;
+    EXPECT(answers(toml_check_utf8(m.doc, len), 2, TOML_LIMIT));
+    EXPECT(answers(toml_lex(m.doc, len, m.records, 0), 2, TOML_LIMIT));
+    EXPECT(answers(toml_lex(m.doc, len, m.records, len + 1), 2, TOML_LIMIT));
+    toml_started start = toml_start(m.doc, len);
+    EXPECT(answers(start.answer, 2, TOML_LIMIT) && start.cursor.place == 0 && start.cursor.ended == 0);
+    EXPECT(steps_nowhere(toml_step(m.doc, len, SIZE_MAX, 1), 2, TOML_LIMIT));
+    EXPECT(answers(toml_check_span(m.doc, len, 5, 4), 2, TOML_LIMIT));
+    EXPECT(is_part(toml_text(m.doc, len, 1, 2), 0, 0));
+    EXPECT(is_position(toml_position(m.doc, len, SIZE_MAX), 2, TOML_LIMIT, 0, 0));
+    toml_decoded d = toml_decode(m.doc, len, 5, m.out, 0, m.records, 0);
+    EXPECT(answers(d.answer, 2, TOML_LIMIT) && d.errors == 0);
+    d = toml_decode(m.doc, len, 34, m.out, TOML_LIMIT, m.records, TOML_LIMIT);
+    EXPECT(answers(d.answer, 2, TOML_LIMIT) && d.errors == 0);
+    EXPECT(m.out[0] == 0xA5 && m.records[0][0] == 7);
+}
+
+static void long_documents(void)
+{
+    size_t len = 16777216;
+    EXPECT(TOML_LIMIT == len);
+    struct memory m = {malloc(len + 1), malloc(len + len / 2), malloc((len + 2) * sizeof(size_t[3]))};
+    if (!m.doc || !m.out || !m.records) {
+        printf("FAILED: no memory for the long documents\n");
+        failed++;
+        return;
+    }
+    at_the_limit(m, len);
+    past_the_limit(m, len + 1);
+    free(m.doc);
+    free(m.out);
+    free(m.records);
+}
+
+int main(void)
+{
+    lexing();
+    stepping();
+    decoding();
+    decoding_refused();
+    places();
+    kinds();
+    long_documents();
+    printf("C: %d passed, %d failed\n", passed, failed);
+    return failed != 0;
+}
