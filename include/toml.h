@@ -16,6 +16,7 @@
  *   6        a place beyond the document; for a span also a start    the document's length
  *            after the end, or an end at a byte 80 to BF
  *   7        a number that is no kind of the call's                  that number
+ *   9        a number that is no edition of TOML                     that number
  *
  * A refused call has written nothing, and its other results are 0. Where several refusals fit, the
  * order beside the call says which is given.
@@ -140,6 +141,12 @@ typedef struct {
 
 toml_decoded toml_decode(const uint8_t *text, size_t text_len, size_t kind, uint8_t *output, size_t output_len,
                          size_t (*errors)[3], size_t errors_len);
+
+/* The same in the edition of TOML that a number names, 10 for TOML 1.0 or 11 for TOML 1.1; toml_decode reads 10.
+ * Edition 11 adds \e (U+001B) and \x with two hex digits (U+0000 to U+00FF) to the basic kinds: error 8 where the
+ * escape is neither those nor 1.0's, and 9 for an \x with fewer digits. Refusals 2, 1, 7, 9, 4, 5. */
+toml_decoded toml_decode_in(const uint8_t *text, size_t text_len, size_t edition, size_t kind, uint8_t *output,
+                            size_t output_len, size_t (*errors)[3], size_t errors_len);
 
 /* The words for a kind: their length, and the words with zeros behind; all zero where refused. Refusal 7. */
 typedef struct {

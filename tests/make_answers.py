@@ -92,6 +92,19 @@ def left_out_cases():
     return out
 
 
+def later_cases():
+    """The same cases in TOML 1.1, which has the escape: each string value, by the suite."""
+    out = []
+    for case in cases():
+        if case['valid'] and not case['toml10']:
+            doc = bytes.fromhex(case['hex'])
+            out += [(call('decin', 11, value['kind'], doc[value['start']:value['end']]), (value['hex'] or '-').encode() + b' | -')
+                    for value in case['strings']]
+    if not out:
+        sys.exit('no case of TOML 1.1')
+    return agreed(out)
+
+
 def invalid_cases(seen):
     return [case for case in cases() if not case['valid'] and case['seen'] == seen]
 
@@ -192,6 +205,17 @@ def kinds():
                         *[call('dec', n, b'a\xff') for n in (0, 3, 4, MAX)])
 
 
+def editions():
+    """What the editions differ in, and what they do not; and the numbers that are none."""
+    texts = [mark + b'\\' + bytes(t) + mark for mark in (b'"', b'"""') for n in range(4) for t in itertools.product(b'exuU4g\\', repeat=n)]
+    both = [call('decin', edition, 2 if text.startswith(b'"""') else 34, text) for text in texts for edition in (10, 11)]
+    rest = [call('decin', 11, kind, mark + b'\\e\\x41' + mark) for kind, mark in ((39, b"'"), (1, b"'''"), (3, b''))]
+    bytes_of = [call('decin', 11, 34, b'"\\x%02x"' % b) for b in range(256)]
+    numbers = [call('decin', edition, kind, text) for edition in (0, 1, 9, 10, 11, 12, 100, MAX) for kind in (39, 34, 1, 2, 3, 0, 5, MAX)
+               for text in (b'a', b'\xff')]
+    return by_reference(*both, *rest, *bytes_of, *numbers)
+
+
 def every_byte():
     """Each byte as a whole document, and between the marks of each kind."""
     marks = {39: b"'", 34: b'"', 1: b"'''", 2: b'"""', 3: b'a'}
@@ -213,7 +237,7 @@ def wrong_lines():
         b'', b' ', b'-', b'lexx -', b'Lex -', b'le', b'lex\t-', b'\x00', b'\xff\xfe', b' lex -', b'=> 4 0 0', b'span0 0 -',
         b'\x00lex -', b'lex\x00 -', b'xdeccap 39 0 0 -', b'deccapx 39 0 0 -', b'\x01lexcap 0 -', b'\x01\x6c\x65\x78 -',
         b'lex', b'lex ', b'lex - ', b'lex  -', b'lex - -', b'lexcap -', b'dec 39', b'dec 39 - -', b'deccap 39 1 -', b'step 0 -',
-        b'span 0 -', b'text 0 0', b'pos -', b'desc', b'desc 1 -', b'utf8 0 -', b'start 0 -',
+        b'span 0 -', b'text 0 0', b'decin 11 -', b'decin 34 11', b'decinx 10 39 -', b'pos -', b'desc', b'desc 1 -', b'utf8 0 -', b'start 0 -',
         b'dec x -', b'dec  -', b'dec -1 -', b'dec +1 -', b'dec 0x1 -', b'dec 3\r -', b'dec 3. -', b'pos 18446744073709551616 -',
         b'pos 99999999999999999999 -', b'pos 100000000000000000000000000000000000000000 -', b'desc -', b'desc 1_0',
         b'pos 00000000000000000000000000000000000000000 -', b'desc 00000000000000000000000000000000000000039',
@@ -225,8 +249,8 @@ def wrong_lines():
         over, over + b'0', b'lex 6', b'lex ' + over, b'desc 4')
 
 
-SECTIONS = [scope, valid_cases, left_out_cases, invalid_utf8, invalid_strings, vectors, lent_records, lent_output, sizes, cursors, spans,
-            positions, kinds, every_byte, short_texts, wrong_lines]
+SECTIONS = [scope, valid_cases, left_out_cases, later_cases, invalid_utf8, invalid_strings, vectors, lent_records, lent_output, sizes, cursors, spans,
+            positions, kinds, editions, every_byte, short_texts, wrong_lines]
 
 
 def main():

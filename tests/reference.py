@@ -130,15 +130,18 @@ def strip(text, mark, number, trims, newline):
     return start, end, errors
 
 
-def escape(text, at, end, errors):
+def escape(text, at, end, errors, edition):
     """An escape whose backslash stands before `at`: its bytes, and the place behind it."""
     b = text[at] if at < end else None
+    if edition == 11 and b == 0x65:
+        return b'\x1b', at + 1
     if b in SIMPLE:
         return bytes([SIMPLE[b]]), at + 1
-    if b not in (0x75, 0x55):
+    digits = {0x75: 4, 0x55: 8, 0x78: 2} if edition == 11 else {0x75: 4, 0x55: 8}
+    if b not in digits:
         errors.append((8, at, at))
         return b'\\', at
-    want, first = (4 if b == 0x75 else 8), at + 1
+    want, first = digits[b], at + 1
     at = first
     while at < end and at - first < want and text[at] in HEX:
         at += 1
@@ -176,7 +179,7 @@ def line_ending(text, at, end, errors):
     return at
 
 
-def decode_basic(text, ml):
+def decode_basic(text, ml, edition):
     start, end, errors = strip(text, b'"""' if ml else b'"', 11 if ml else 6, False, ml)
     plain = BASIC | set(b'"\n') if ml else BASIC
     stops = plain | set(b'\\\r') if ml else plain | set(b'\\')
@@ -188,7 +191,7 @@ def decode_basic(text, ml):
         elif b == 0x5C and ml and at + 1 < end and text[at + 1] in b' \t\r\n':
             at = line_ending(text, at + 1, end, errors)
         elif b == 0x5C:
-            given, at = escape(text, at + 1, end, errors)
+            given, at = escape(text, at + 1, end, errors, edition)
             out += given
         elif ml and b == 0x0D:
             out, at = out + b'\r', at + 1
@@ -219,10 +222,10 @@ def decode_literal(text, ml):
     return text[start:end], errors
 
 
-def decode(kind, text):
+def decode(kind, text, edition=10):
     if kind == 3:
         return text, ([] if text else [(14, 0, 0)]) + [(15, i, i) for i, b in enumerate(text) if b not in KEY]
-    return decode_basic(text, kind == 2) if kind in (34, 2) else decode_literal(text, kind == 1)
+    return decode_basic(text, kind == 2, edition) if kind in (34, 2) else decode_literal(text, kind == 1)
 
 
 def decode_refusal(kind, text):
@@ -262,6 +265,15 @@ def dec(kind, text):
     if refusal:
         return refused(refusal)
     out, errors = decode(kind, text)
+    return hexed(out) + ' | ' + records(errors)
+
+
+def decin(edition, kind, text):
+    """As `dec`, in an edition: 10 for TOML 1.0, 11 for TOML 1.1."""
+    refusal = decode_refusal(kind, text) or (None if edition in (10, 11) else (9, edition))
+    if refusal:
+        return refused(refusal)
+    out, errors = decode(kind, text, edition)
     return hexed(out) + ' | ' + records(errors)
 
 
@@ -330,7 +342,8 @@ def utf8(doc):
 
 
 # The name, and what stands behind it: n a number, b a flag, r records lent, o output lent, x bytes in hex.
-CALLS = {b'lex': (lex, 'x'), b'lexcap': (lexcap, 'rx'), b'dec': (dec, 'nx'), b'deccap': (deccap, 'norx'), b'utf8': (utf8, 'x'),
+CALLS = {b'lex': (lex, 'x'), b'lexcap': (lexcap, 'rx'), b'dec': (dec, 'nx'), b'deccap': (deccap, 'norx'),
+         b'decin': (decin, 'nnx'), b'utf8': (utf8, 'x'),
          b'start': (start, 'x'), b'step': (step, 'nbx'), b'span': (span, 'nnx'), b'text': (text, 'nnx'), b'pos': (pos, 'nx'),
          b'desc': (desc, 'n')}
 

@@ -302,7 +302,32 @@ static void past_the_limit(struct memory m, size_t len)
     EXPECT(answers(d.answer, 2, TOML_LIMIT) && d.errors == 0);
     d = toml_decode(m.doc, len, 34, m.out, TOML_LIMIT, m.records, TOML_LIMIT);
     EXPECT(answers(d.answer, 2, TOML_LIMIT) && d.errors == 0);
+    d = toml_decode_in(m.doc, len, 12, 34, m.out, TOML_LIMIT, m.records, TOML_LIMIT);
+    EXPECT(answers(d.answer, 2, TOML_LIMIT) && d.errors == 0);
     EXPECT(m.out[0] == 0xA5 && m.records[0][0] == 7);
+}
+
+/* The editions: 10 is toml_decode's own, 11 adds two escapes, and another number is refused behind a kind's. */
+static void editions(void)
+{
+    uint8_t out[16];
+    size_t records[4][3];
+    const uint8_t text[] = "\"\\e\\x41\"";
+    size_t len = sizeof text - 1;
+    FROM("the ABNF of TOML 1.1.0: escape-seq-char has e (U+001B) and x with two hex digits besides");
+    toml_decoded d = toml_decode_in(text, len, 11, 34, out, 16, records, 4);
+    EXPECT(answers(d.answer, 0, 2) && d.errors == 0 && out[0] == 0x1B && out[1] == 0x41);
+    FROM("docs/RULES.md, the errors: 8 behind the backslash");
+    d = toml_decode_in(text, len, 10, 34, out, 16, records, 4);
+    EXPECT(answers(d.answer, 0, 6) && d.errors == 2 && records[0][0] == 8 && records[0][1] == 2 && records[1][1] == 4);
+    d = toml_decode(text, len, 34, out, 16, records, 4);
+    EXPECT(answers(d.answer, 0, 6) && d.errors == 2 && records[0][0] == 8 && records[0][1] == 2 && records[1][1] == 4);
+    FROM("docs/RULES.md, the refusals: 9 with the number named, behind 7 and before 4");
+    out[0] = 0xA5;
+    EXPECT(answers(toml_decode_in(text, len, 12, 34, out, 0, records, 4).answer, 9, 12));
+    EXPECT(answers(toml_decode_in(text, len, 12, 39, out, 16, records, 4).answer, 9, 12));
+    EXPECT(answers(toml_decode_in(text, len, 12, 5, out, 16, records, 4).answer, 7, 5));
+    EXPECT(out[0] == 0xA5);
 }
 
 static void long_documents(void)
@@ -330,6 +355,7 @@ int main(void)
     decoding_refused();
     places();
     kinds();
+    editions();
     long_documents();
     printf("C: %d passed, %d failed\n", passed, failed);
     return failed != 0;

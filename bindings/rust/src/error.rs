@@ -1,6 +1,6 @@
 //! Errors of decoding: a number stands for a description and what was expected, together.
 
-use crate::Span;
+use crate::{Edition, Span};
 
 /// What was expected at the place of an error.
 #[derive(Copy, Clone, PartialEq, Eq, Debug)]
@@ -15,6 +15,7 @@ pub enum Expected {
 #[derive(Copy, Clone, PartialEq, Eq, Debug)]
 pub struct ParseError {
     number: usize,
+    edition: Edition,
     context: Span,
     unexpected: Span,
 }
@@ -25,12 +26,25 @@ const APOSTROPHE: &[Expected] = &[Literal("'")];
 const QUOTATION_MARK: &[Expected] = &[Literal("\"")];
 const LINE_FEED: &[Expected] = &[Literal("\n")];
 const HEX_VALUE: &[Expected] = &[Description("unicode hexadecimal value")];
+// TOML 1.0 has all but the last two.
+const ESCAPES: [Expected; 10] = [
+    Literal("b"),
+    Literal("f"),
+    Literal("n"),
+    Literal("r"),
+    Literal("\\"),
+    Literal("\""),
+    Literal("u"),
+    Literal("U"),
+    Literal("e"),
+    Literal("x"),
+];
 const KEY: &[Expected] = &[Description("letters"), Description("numbers"), Literal("-"), Literal("_")];
 
 impl ParseError {
-    pub(crate) fn from_record(record: [usize; 3], text: &[u8]) -> Self {
+    pub(crate) fn from_record(record: [usize; 3], text: &[u8], edition: Edition) -> Self {
         let [number, start, end] = record;
-        Self { number, context: Span::new(0, text.len()), unexpected: Span::new(start, end) }
+        Self { number, edition, context: Span::new(0, text.len()), unexpected: Span::new(start, end) }
     }
 
     /// Its number, 1 to 15.
@@ -65,7 +79,7 @@ impl ParseError {
     }
 
     /// What was expected there. The list of escapes has no `t`, though `\t` is accepted: it is
-    /// toml_parser's list.
+    /// toml_parser's list, behind which TOML 1.1 has its own two.
     pub fn expected(&self) -> &'static [Expected] {
         match self.number {
             1 | 3 => APOSTROPHE,
@@ -74,16 +88,10 @@ impl ParseError {
             5 => &[Description("non-single-quote characters")],
             6 | 11 => QUOTATION_MARK,
             7 => &[Description("non-double-quote visible characters"), Literal("\\")],
-            8 => &[
-                Literal("b"),
-                Literal("f"),
-                Literal("n"),
-                Literal("r"),
-                Literal("\\"),
-                Literal("\""),
-                Literal("u"),
-                Literal("U"),
-            ],
+            8 => match self.edition {
+                Edition::Toml10 => &ESCAPES[..8],
+                Edition::Toml11 => &ESCAPES,
+            },
             9 | 10 => HEX_VALUE,
             12 => &[Literal("\\"), Description("characters")],
             _ => KEY,

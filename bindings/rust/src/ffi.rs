@@ -81,9 +81,10 @@ mod archive {
         pub fn toml_check_span(doc: *const u8, len: usize, start: usize, end: usize) -> Answer;
         pub fn toml_text(doc: *const u8, len: usize, start: usize, end: usize) -> Part;
         pub fn toml_position(doc: *const u8, len: usize, offset: usize) -> Positioned;
-        pub fn toml_decode(
+        pub fn toml_decode_in(
             text: *const u8,
             len: usize,
+            edition: usize,
             kind: usize,
             output: *mut u8,
             output_len: usize,
@@ -123,11 +124,18 @@ pub(crate) fn position(doc: &[u8], offset: usize) -> Positioned {
     unsafe { archive::toml_position(doc.as_ptr(), doc.len(), offset) }
 }
 
-pub(crate) fn decode(text: &[u8], kind: usize, output: &mut [u8], errors: &mut [[usize; 3]]) -> Decoded {
+pub(crate) fn decode_in(
+    text: &[u8],
+    edition: usize,
+    kind: usize,
+    output: &mut [u8],
+    errors: &mut [[usize; 3]],
+) -> Decoded {
     unsafe {
-        archive::toml_decode(
+        archive::toml_decode_in(
             text.as_ptr(),
             text.len(),
+            edition,
             kind,
             output.as_mut_ptr(),
             output.len(),

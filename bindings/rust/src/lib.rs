@@ -24,7 +24,7 @@ mod ffi;
 mod token;
 
 pub use error::{Expected, ParseError};
-pub use token::{Encoding, Span, Token, TokenKind};
+pub use token::{Edition, Encoding, Span, Token, TokenKind};
 
 /// The most bytes that a document or a text may have.
 pub const LIMIT: usize = 16_777_216;
@@ -64,6 +64,11 @@ pub enum Refusal {
         /// That number.
         number: usize,
     },
+    /// 9: a number that is no edition of TOML. No call of this crate is given it: an [`Edition`] is one.
+    NoEdition {
+        /// That number.
+        number: usize,
+    },
 }
 
 impl Refusal {
@@ -78,7 +83,8 @@ impl Refusal {
             4 => Err(Self::ShortOutput { needed: value }),
             5 => Err(Self::FewErrors { needed: value }),
             6 => Err(Self::OutOfPlace { length: value }),
-            _ => Err(Self::NoKind { number: value }),
+            7 => Err(Self::NoKind { number: value }),
+            _ => Err(Self::NoEdition { number: value }),
         }
     }
 }
@@ -95,6 +101,7 @@ impl core::fmt::Display for Refusal {
                 write!(f, "refused 6: a place outside the document's {length} bytes, or inside a character")
             }
             Self::NoKind { number } => write!(f, "refused 7: {number} is no kind"),
+            Self::NoEdition { number } => write!(f, "refused 9: {number} is no edition of TOML"),
         }
     }
 }
@@ -212,14 +219,19 @@ impl Decoded {
     }
 }
 
-/// The bytes and the errors of a text of a kind.
+/// The bytes and the errors of a text of a kind, read as TOML 1.0.
 pub fn decode(text: &[u8], encoding: Encoding) -> Result<Decoded, Refusal> {
+    decode_in(text, encoding, Edition::Toml10)
+}
+
+/// The bytes and the errors of a text of a kind, read as an edition of TOML.
+pub fn decode_in(text: &[u8], encoding: Encoding, edition: Edition) -> Result<Decoded, Refusal> {
     // So much room always suffices, and with it nothing is counted first.
     let len = text.len().min(LIMIT);
     let mut bytes = vec![0u8; len + len / 2];
     let mut records = vec![[0usize; 3]; len + 2];
-    let decoded = ffi::decode(text, encoding.number(), &mut bytes, &mut records);
+    let decoded = ffi::decode_in(text, edition.number(), encoding.number(), &mut bytes, &mut records);
     bytes.truncate(Refusal::read(decoded.answer)?);
-    let errors = records[..decoded.errors].iter().map(|record| ParseError::from_record(*record, text)).collect();
+    let errors = records[..decoded.errors].iter().map(|record| ParseError::from_record(*record, text, edition)).collect();
     Ok(Decoded { bytes, errors })
 }

@@ -1,6 +1,6 @@
 //! Tokens, their kinds and their spans.
 
-use crate::{decode, ffi, text, Decoded, Refusal};
+use crate::{decode_in, ffi, text, Decoded, Refusal};
 
 /// A token: its kind and its span. Its text is not judged.
 #[derive(Copy, Clone, PartialEq, Eq, Hash, Debug)]
@@ -30,10 +30,15 @@ impl Token {
         text(doc, self.span)
     }
 
-    /// The decoded string, for a token of a string kind.
+    /// The decoded string, for a token of a string kind, read as TOML 1.0.
     pub fn decode(&self, doc: &[u8]) -> Option<Result<Decoded, Refusal>> {
+        self.decode_in(doc, Edition::Toml10)
+    }
+
+    /// The decoded string, for a token of a string kind, read as an edition of TOML.
+    pub fn decode_in(&self, doc: &[u8], edition: Edition) -> Option<Result<Decoded, Refusal>> {
         let encoding = self.kind.encoding()?;
-        Some(self.text(doc).and_then(|text| decode(text, encoding)))
+        Some(self.text(doc).and_then(|text| decode_in(text, encoding, edition)))
     }
 }
 
@@ -178,6 +183,26 @@ impl Encoding {
             Self::MlLiteralString => 1,
             Self::MlBasicString => 2,
             Self::UnquotedKey => 3,
+        }
+    }
+}
+
+/// The edition of TOML that a text is read as. TOML 1.1 adds `\e` and `\xHH` to the basic kinds; nothing else about strings
+/// differs.
+#[derive(Copy, Clone, PartialEq, Eq, Hash, Debug)]
+pub enum Edition {
+    /// TOML 1.0
+    Toml10,
+    /// TOML 1.1
+    Toml11,
+}
+
+impl Edition {
+    /// The number that a decode takes.
+    pub const fn number(self) -> usize {
+        match self {
+            Self::Toml10 => 10,
+            Self::Toml11 => 11,
         }
     }
 }

@@ -125,3 +125,18 @@ fn places_and_texts() {
     assert_eq!(text(doc, Span::new(2, 4)), Ok(&b"=1"[..]));
     assert_eq!(check_span(doc, Span::new(0, 4)), Ok(()));
 }
+
+/// From the ABNF of TOML 1.1.0: escape-seq-char has `e` (U+001B) and `x` with two digits besides.
+#[test]
+fn toml_11_has_two_more_escapes() {
+    let text = br#""\e\xe9\t""#;
+    let decoded = decode_in(text, Encoding::BasicString, Edition::Toml11).expect("decoded");
+    assert_eq!(decoded.value(), Ok("\u{1B}\u{E9}\t".as_bytes().to_vec()));
+    let decoded = decode(text, Encoding::BasicString).expect("decoded");
+    assert_eq!(decoded.errors.iter().map(|e| (e.number(), e.unexpected().start())).collect::<Vec<_>>(), [(8, 2), (8, 4)]);
+    let error = decode_in(br#""\q""#, Encoding::BasicString, Edition::Toml11).expect("decoded").errors[0];
+    assert_eq!(error.expected().len(), 10);
+    assert_eq!(error.expected()[8..], [Expected::Literal("e"), Expected::Literal("x")]);
+    let error = decode_in(br#""\x4""#, Encoding::BasicString, Edition::Toml11).expect("decoded").errors[0];
+    assert_eq!((error.number(), error.unexpected()), (9, Span::new(4, 4)));
+}

@@ -19,6 +19,7 @@ pub(crate) fn make(
         Call::LexCap => lexcap(numbers, doc, records),
         Call::Dec => dec(numbers, doc, bytes, records),
         Call::DecCap => deccap(numbers, doc, bytes, records),
+        Call::DecIn => decin(numbers, doc, bytes, records),
         Call::Text => text_of_span(numbers, doc, bytes),
         Call::Desc => desc(numbers, bytes),
         _ => make_plain(call, numbers, doc),
@@ -54,6 +55,12 @@ fn least(asked: usize, there: usize) -> usize
 
 fn dec(numbers: [usize; 3], doc: &[u8], bytes: &mut [u8], records: &mut [[usize; 3]]) -> Answer {
     forms::decoded(decoder::decode(doc, numbers[0], bytes, records))
+}
+
+// The numbers are the edition's and the kind's.
+fn decin(numbers: [usize; 3], doc: &[u8], bytes: &mut [u8], records: &mut [[usize; 3]]) -> Answer {
+    let decoded = decoder::decode_in(doc, numbers[0], numbers[1], bytes, records);
+    forms::decoded(decoded)
 }
 
 // The numbers are the kind, the bytes of output and the records lent.

@@ -22,6 +22,7 @@ pub enum Call {
     LexCap,
     Dec,
     DecCap,
+    DecIn,
     Utf8,
     Start,
     Step,
@@ -109,6 +110,7 @@ fn call_of(key: usize) -> Call {
         0x6C_65_78_63_61_70 => Call::LexCap,
         0x64_65_63 => Call::Dec,
         0x64_65_63_63_61_70 => Call::DecCap,
+        0x64_65_63_69_6E => Call::DecIn,
         0x75_74_66_38 => Call::Utf8,
         0x73_74_61_72_74 => Call::Start,
         0x73_74_65_70 => Call::Step,
@@ -126,7 +128,7 @@ fn numbers_of(call: Call) -> usize
 {
     match call {
         Call::LexCap | Call::Dec | Call::Pos | Call::Desc => 1,
-        Call::Step | Call::Span | Call::Text => 2,
+        Call::DecIn | Call::Step | Call::Span | Call::Text => 2,
         Call::DecCap => 3,
         _ => 0,
     }

@@ -7,8 +7,8 @@ ghost use lib.ListN.{length};
 ghost use lib.Seq.{sets};
 ghost use Rattle.text.specs.Refusals.{limit};
 ghost use Rattle.text.specs.declared.utf8.Utf8Check.the-variants.{Valid};
-ghost use Rattle.strings.specs.Encodings.{encodingOf};
-ghost use Rattle.strings.specs.Decoding.{bytesOf, errorsOf, fitted, bytesBy, errorsBy, decodedBy, decodeOf, after};
+ghost use Rattle.strings.specs.Encodings.{encodingIn, unnamed, encodingBy, encodingOf};
+ghost use Rattle.strings.specs.Decoding.{bytesOf, errorsOf, fitted, bytesBy, errorsBy, decodedBy, decodeIn, decodeOf, after};
 
 mod marks;
 mod write;
@@ -22,6 +22,7 @@ use crate::write::missed;
 use crate::write::write;
 use strings::Choice;
 pub use strings::Decoded;
+use strings::Edition;
 use strings::Encoding;
 use text::Refusal;
 use text::Utf8Check;
@@ -35,22 +36,62 @@ pub fn decode(text: &[u8], kind: usize, output: &mut [u8], errors: &mut [[usize;
     ensures { λ r. ⌜ now (output .exit) ≡ after r (bytesBy (encodingOf kind) (now (text .entry))) (now (output .entry)) ⌝ }
     ensures { λ r. ⌜ now (errors .exit) ≡ after r (errorsBy (encodingOf kind) (now (text .entry))) (now (errors .entry)) ⌝ }
 {
+    decode_in(text, TOML_10, kind, output, errors)
+}
+
+// The numbers of the editions.
+const TOML_10: usize = 10;
+
+const TOML_11: usize = 11;
+
+// The same in the edition of TOML that a number names: 10 for TOML 1.0, 11 for TOML 1.1.
+pub fn decode_in(
+    text: &[u8],
+    edition: usize,
+    kind: usize,
+    output: &mut [u8],
+    errors: &mut [[usize; 3]],
+) -> Decoded
+    ensures { λ r. ⌜ r ≡ decodeIn (now (text .entry)) edition kind (length (now (output .entry))) (length (now (errors .entry))) ⌝ }
+    ensures { λ r. ⌜ now (output .exit) ≡ after r (bytesBy (encodingBy edition kind) (now (text .entry))) (now (output .entry)) ⌝ }
+    ensures { λ r. ⌜ now (errors .exit) ≡ after r (errorsBy (encodingBy edition kind) (now (text .entry))) (now (errors .entry)) ⌝ }
+{
     let check = check_utf8(text);
     match check {
         Utf8Check::Refused(r) => Decoded::Refused(r),
-        Utf8Check::Valid => decode_by(encoding_of(kind), text, output, errors),
+        Utf8Check::Valid => decode_by(encoding_by(edition, kind), text, output, errors),
     }
 }
 
-// Which encoding the number asks for.
-fn encoding_of(kind: usize) -> Choice
-    ensures { λ r. ⌜ r ≡ encodingOf kind ⌝ }
+// Which encoding the two numbers ask for. A kind is asked for before an edition.
+fn encoding_by(edition: usize, kind: usize) -> Choice
+    ensures { λ r. ⌜ r ≡ encodingBy edition kind ⌝ }
+{
+    match edition {
+        TOML_10 => encoding_in(Edition::Toml10, kind),
+        TOML_11 => encoding_in(Edition::Toml11, kind),
+        _ => no_edition(edition, encoding_in(Edition::Toml10, kind)),
+    }
+}
+
+fn no_edition(edition: usize, choice: Choice) -> Choice
+    ensures { λ r. ⌜ r ≡ unnamed edition choice ⌝ }
+{
+    match choice {
+        Choice::Known(_) => Choice::Unknown(Refusal::NoEdition { number: edition }),
+        Choice::Unknown(r) => Choice::Unknown(r),
+    }
+}
+
+// Which encoding the kind's number asks for in an edition.
+fn encoding_in(v: Edition, kind: usize) -> Choice
+    ensures { λ r. ⌜ r ≡ encodingIn v kind ⌝ }
 {
     match kind {
         39 => Choice::Known(Encoding::LiteralString),
-        34 => Choice::Known(Encoding::BasicString),
+        34 => Choice::Known(Encoding::BasicString(v)),
         1 => Choice::Known(Encoding::MlLiteralString),
-        2 => Choice::Known(Encoding::MlBasicString),
+        2 => Choice::Known(Encoding::MlBasicString(v)),
         3 => Choice::Known(Encoding::UnquotedKey),
         _ => Choice::Unknown(Refusal::NoKind { number: kind }),
     }

@@ -16,8 +16,8 @@ pub(crate) fn mark_error(e: Encoding) -> usize
     match e {
         Encoding::LiteralString => 1,
         Encoding::MlLiteralString => 3,
-        Encoding::BasicString => 6,
-        Encoding::MlBasicString => 11,
+        Encoding::BasicString(_) => 6,
+        Encoding::MlBasicString(_) => 11,
         Encoding::UnquotedKey => 14,
     }
 }
@@ -179,8 +179,8 @@ pub(crate) fn ends_of(e: Encoding, t: &[u8]) -> Ends
     match e {
         Encoding::LiteralString => line_ends(b'\'', t),
         Encoding::MlLiteralString => ml_ends(true, b'\'', t),
-        Encoding::BasicString => line_ends(b'"', t),
-        Encoding::MlBasicString => ml_ends(false, b'"', t),
+        Encoding::BasicString(_) => line_ends(b'"', t),
+        Encoding::MlBasicString(_) => ml_ends(false, b'"', t),
         Encoding::UnquotedKey => key_ends(t),
     }
 }

@@ -13,6 +13,7 @@ use Rattle.classes.proofs.Conds.{cond-case, by-eq}
 use Rattle.text.specs.Utf8.{Scalar, encodeScalar, encodes, All}
 use Rattle.text.proofs.EncodeLaws.{encode-1}
 use Rattle.text.proofs.CutLaws.{all-parts}
+use Rattle.strings.specs.declared.Edition.{Edition}
 use Rattle.strings.specs.declared.Piece.{Piece}
 use Rattle.strings.specs.declared.Encoding.the-variants.{BasicString as BasicText}
 use Rattle.strings.specs.Pieces.{notesAt, Pieces, collect, copyPiece}
@@ -28,112 +29,114 @@ use Rattle.grammar.proofs.ClassLaws.{basic-at, basic-is}
 use Rattle.grammar.proofs.Escapes.{escape-at, escape-ascii, EscapedAt, escape-inv}
 use Rattle.grammar.proofs.LineMarks.{marked, line-errors, line-bytes, line-text}
 
-abbrev P : Pieces
-P = pieceOf BasicText
+-- in one edition of TOML
+module _ (ed : Edition) where
+  abbrev P : Pieces
+  P = pieceOf (BasicText ed)
 
--- ---- the pieces, on bytes
+  -- ---- the pieces, on bytes
 
-plain : (at b : ℕ) (s : List ℕ) → basicUnescaped b ≡ true → P false at (b ∷ s) ≡ copyPiece (suc (run basicUnescaped s)) 0 at at
-unfolding basicPiece run
-plain at b s e = rw e
+  plain : (at b : ℕ) (s : List ℕ) → basicUnescaped b ≡ true → P false at (b ∷ s) ≡ copyPiece (suc (run basicUnescaped s)) 0 at at
+  unfolding basicPiece run
+  plain at b s e = rw e
 
-slash : (at : ℕ) (s : List ℕ) → P false at (0x5C ∷ s) ≡ escapePiece at s
-unfolding basicPiece basicUnescaped
-slash at s = refl
+  slash : (at : ℕ) (s : List ℕ) → P false at (0x5C ∷ s) ≡ escapePiece ed at s
+  unfolding basicPiece basicUnescaped
+  slash at s = refl
 
--- a piece without error is of the class, or an escape
-abbrev Good : ℕ → List ℕ → Type 0
-Good b r = (basicUnescaped b ≡ true) ⊎ ((b ≡ 0x5C) × EscapedAt r)
+  -- a piece without error is of the class, or an escape
+  abbrev Good : ℕ → List ℕ → Type 0
+  Good b r = (basicUnescaped b ≡ true) ⊎ ((b ≡ 0x5C) × EscapedAt ed r)
 
-clean : (at b : ℕ) (r : List ℕ) → P false at (b ∷ r) .err ≡ 0 → Good b r
-unfolding basicPiece
-clean at b r =
-    cond-case (λ (p : Piece). p .err ≡ 0 → Good b r) (basicUnescaped b) (λ h e. inl h)
-    λ h. by-eq (λ (p : Piece). p .err ≡ 0 → Good b r) b 0x5C (λ q e. inr (q, escape-inv at r e)) (λ q e. absurd (omega arith))
+  clean : (at b : ℕ) (r : List ℕ) → P false at (b ∷ r) .err ≡ 0 → Good b r
+  unfolding basicPiece
+  clean at b r =
+      cond-case (λ (p : Piece). p .err ≡ 0 → Good b r) (basicUnescaped b) (λ h e. inl h)
+      λ h. by-eq (λ (p : Piece). p .err ≡ 0 → Good b r) b 0x5C (λ q e. inr (q, escape-inv ed at r e)) (λ q e. absurd (omega arith))
 
-char-reads : (c at : ℕ) (s : List ℕ) → basicUnescaped c ≡ true → Reads P false at (encodeScalar c ++ s) (encodeScalar c) false s
-char-reads = reads-char P basicUnescaped plain basic-high
+  char-reads : (c at : ℕ) (s : List ℕ) → basicUnescaped c ≡ true → Reads P false at (encodeScalar c ++ s) (encodeScalar c) false s
+  char-reads = reads-char P basicUnescaped plain basic-high
 
-escape-reads : {t : List ℕ} {v : ℕ} (e : EscapeSeqChar t v) → Names e → (at : ℕ) (s : List ℕ)
-    → Reads P false at ((0x5C ∷ t) ++ s) (encodeScalar v) false s
-escape-reads {t} {v} e n at s = reads-for P false at (0x5C ∷ t) s v (slash at (t ++ s) ∙ escape-at e n at s) (omega arith)
+  escape-reads : {t : List ℕ} {v : ℕ} (e : EscapeSeqChar ed t v) → Names e → (at : ℕ) (s : List ℕ)
+      → Reads P false at ((0x5C ∷ t) ++ s) (encodeScalar v) false s
+  escape-reads {t} {v} e n at s = reads-for P false at (0x5C ∷ t) s v (slash at (t ++ s) ∙ escape-at e n at s) (omega arith)
 
--- ---- from the grammar
+  -- ---- from the grammar
 
-chars-read : {cs v : List ℕ} (d : BasicChars cs v) → CharsName d → (at : ℕ) → Reads P false at (encodes cs) (encodes v) false []
-chars-read stop n at = reads-none P false at []
-chars-read (more {r = r} (basic-unescaped {c} u) d) n at =
-    let a = char-reads c at (encodes r) (basic-at u) in reads-then P a (chars-read d (n .1) (a .to))
-chars-read (more {r = r} (escaped-char (escaped {t} e)) d) n at =
-    let a = escape-reads e (n .0) at (encodes r) in
-    rw (encodes-ascii (0x5C ∷ t) r (omega arith, escape-ascii e)) (reads-then P a (chars-read d (n .1) (a .to)))
+  chars-read : {cs v : List ℕ} (d : BasicChars ed cs v) → CharsName d → (at : ℕ) → Reads P false at (encodes cs) (encodes v) false []
+  chars-read stop n at = reads-none P false at []
+  chars-read (more {r = r} (basic-unescaped {c} u) d) n at =
+      let a = char-reads c at (encodes r) (basic-at u) in reads-then P a (chars-read d (n .1) (a .to))
+  chars-read (more {r = r} (escaped-char (escaped {t} e)) d) n at =
+      let a = escape-reads e (n .0) at (encodes r) in
+      rw (encodes-ascii (0x5C ∷ t) r (omega arith, escape-ascii e)) (reads-then P a (chars-read d (n .1) (a .to)))
 
--- ---- to the grammar
+  -- ---- to the grammar
 
-abbrev Chars : List ℕ → Type 0
-Chars cs = (v : List ℕ) × (d : BasicChars cs v) × CharsName d
+  abbrev Chars : List ℕ → Type 0
+  Chars cs = (v : List ℕ) × (d : BasicChars ed cs v) × CharsName d
 
-put-char : (c : ℕ) (cs : List ℕ) → Scalar c → basicUnescaped c ≡ true → Chars cs → Chars (c ∷ cs)
-put-char c cs sc h (v, d, n) = (c ∷ v, more (basic-unescaped (basic-is c sc h)) d, (tt, n))
+  put-char : (c : ℕ) (cs : List ℕ) → Scalar c → basicUnescaped c ≡ true → Chars cs → Chars (c ∷ cs)
+  put-char c cs sc h (v, d, n) = (c ∷ v, more (basic-unescaped (basic-is c sc h)) d, (tt, n))
 
-put-escape : (s : List ℕ) (x : EscapedAt s) (r : List ℕ) → Chars r → Chars (0x5C ∷ (x .t ++ r))
-put-escape s x r (v, d, n) = (x .v ∷ v, more (escaped-char (escaped (x .char))) d, (x .names, n))
+  put-escape : (s : List ℕ) (x : EscapedAt ed s) (r : List ℕ) → Chars r → Chars (0x5C ∷ (x .t ++ r))
+  put-escape s x r (v, d, n) = (x .v ∷ v, more (escaped-char (escaped (x .char))) d, (x .names, n))
 
-abbrev Ih : ℕ → Type 0
-Ih n = (cs : List ℕ) → length cs ≤ n → All Scalar cs → (at : ℕ) → collect P notesAt 0 false at (encodes cs) ≡ [] → Chars cs
+  abbrev Ih : ℕ → Type 0
+  Ih n = (cs : List ℕ) → length cs ≤ n → All Scalar cs → (at : ℕ) → collect P notesAt 0 false at (encodes cs) ≡ [] → Chars cs
 
-chars-clean : (n : ℕ) → Ih n
-chars-clean zero [] l sc at e = ([], stop, tt)
-chars-clean zero (c ∷ cs) l sc at e = absurd (omega arith)
-chars-clean (suc n) [] l sc at e = ([], stop, tt)
-chars-clean (suc n) (c ∷ cs) l sc at e = go (side c) (chars-clean n)
-  where
-    char : basicUnescaped c ≡ true → Ih n → Chars (c ∷ cs)
-    char h ih =
-        let a = char-reads c at (encodes cs) h in
-        put-char c cs (sc .0) h (ih cs (omega arith) (sc .1) (a .to) (sym (a .quiet) ∙ e))
+  chars-clean : (n : ℕ) → Ih n
+  chars-clean zero [] l sc at e = ([], stop, tt)
+  chars-clean zero (c ∷ cs) l sc at e = absurd (omega arith)
+  chars-clean (suc n) [] l sc at e = ([], stop, tt)
+  chars-clean (suc n) (c ∷ cs) l sc at e = go (side c) (chars-clean n)
+    where
+      char : basicUnescaped c ≡ true → Ih n → Chars (c ∷ cs)
+      char h ih =
+          let a = char-reads c at (encodes cs) h in
+          put-char c cs (sc .0) h (ih cs (omega arith) (sc .1) (a .to) (sym (a .quiet) ∙ e))
 
-    esc : (x : EscapedAt (encodes cs)) → Led (x .t) cs (x .rest) → collect P notesAt 0 false at (0x5C ∷ encodes cs) ≡ [] → Ih n
-        → Chars (0x5C ∷ cs)
-    esc x f z ih =
-        let a = escape-reads (x .char) (x .names) at (x .rest) in
-        let z₂ : collect P notesAt 0 false (a .to) (encodes (f .rest)) ≡ [] =
-        rw (f .bytes) (sym (a .quiet) ∙ (sym (ap (λ y. collect P notesAt 0 false at (0x5C ∷ y)) (x .split)) ∙ z)) in
-        let s₂ : All Scalar (f .rest) = all-parts Scalar (x .t) (f .rest) (subst (All Scalar) (f .text) (sc .1)) .1 in
-        let l₂ : length cs ≡ length (x .t) + length (f .rest) = ap length (f .text) ∙ length-append (x .t) (f .rest) in
-        subst (λ y. Chars (0x5C ∷ y)) (sym (f .text)) (put-escape (encodes cs) x (f .rest) (ih (f .rest) (omega arith) s₂ (a .to) z₂))
+      esc : (x : EscapedAt ed (encodes cs)) → Led (x .t) cs (x .rest) → collect P notesAt 0 false at (0x5C ∷ encodes cs) ≡ [] → Ih n
+          → Chars (0x5C ∷ cs)
+      esc x f z ih =
+          let a = escape-reads (x .char) (x .names) at (x .rest) in
+          let z₂ : collect P notesAt 0 false (a .to) (encodes (f .rest)) ≡ [] =
+          rw (f .bytes) (sym (a .quiet) ∙ (sym (ap (λ y. collect P notesAt 0 false at (0x5C ∷ y)) (x .split)) ∙ z)) in
+          let s₂ : All Scalar (f .rest) = all-parts Scalar (x .t) (f .rest) (subst (All Scalar) (f .text) (sc .1)) .1 in
+          let l₂ : length cs ≡ length (x .t) + length (f .rest) = ap length (f .text) ∙ length-append (x .t) (f .rest) in
+          subst (λ y. Chars (0x5C ∷ y)) (sym (f .text)) (put-escape (encodes cs) x (f .rest) (ih (f .rest) (omega arith) s₂ (a .to) z₂))
 
-    go : Side c → Ih n → Chars (c ∷ cs)
-    go (beyond h) ih = char (basic-high c h) ih
-    go (ascii h) ih =
-        let z : collect P notesAt 0 false at (c ∷ encodes cs) ≡ [] = rw (encode-1 c h) at e in
-        elim (clean at c (encodes cs) (first-clean P false at c (encodes cs) z)) [
-          | inl u ↦ char u ih
-          | inr p ↦
-              let x = p .1 in
-              subst (λ y. Chars (y ∷ cs)) (sym (p .0)) (esc x (ascii-led (x .t) cs (x .rest) (escape-ascii (x .char)) (x .split))
-              (subst (λ y. collect P notesAt 0 false at (y ∷ encodes cs) ≡ []) (p .0) z) ih)
-        ]
+      go : Side c → Ih n → Chars (c ∷ cs)
+      go (beyond h) ih = char (basic-high c h) ih
+      go (ascii h) ih =
+          let z : collect P notesAt 0 false at (c ∷ encodes cs) ≡ [] = rw (encode-1 c h) at e in
+          elim (clean at c (encodes cs) (first-clean P false at c (encodes cs) z)) [
+            | inl u ↦ char u ih
+            | inr p ↦
+                let x = p .1 in
+                subst (λ y. Chars (y ∷ cs)) (sym (p .0)) (esc x (ascii-led (x .t) cs (x .rest) (escape-ascii (x .char)) (x .split))
+                (subst (λ y. collect P notesAt 0 false at (y ∷ encodes cs) ≡ []) (p .0) z) ih)
+          ]
 
--- ---- the text
+  -- ---- the text
 
--- a derived text has no error, and its bytes are its value's
-pub basic-complete : {cs v : List ℕ} (d : BasicString cs v) → BasicNames d
-    → (errorsOf BasicText (encodes cs) ≡ []) × (bytesOf BasicText (encodes cs) ≡ encodes v)
-basic-complete (basic-string {t} {v} d) n =
-    let r = chars-read d n 1 in
-    let low : 0x22 < 0x80 = omega arith in (
-      line-errors BasicText 0x22 low (λ t. refl) t ∙ r .quiet,
-      line-bytes BasicText 0x22 low (λ t. refl) t ∙ (r .bytes ∙ append-nil (encodes v)),
-    )
+  -- a derived text has no error, and its bytes are its value's
+  pub basic-complete : {cs v : List ℕ} (d : BasicString ed cs v) → BasicNames d
+      → (errorsOf (BasicText ed) (encodes cs) ≡ []) × (bytesOf (BasicText ed) (encodes cs) ≡ encodes v)
+  basic-complete (basic-string {t} {v} d) n =
+      let r = chars-read d n 1 in
+      let low : 0x22 < 0x80 = omega arith in (
+        line-errors (BasicText ed) 0x22 low (λ t. refl) t ∙ r .quiet,
+        line-bytes (BasicText ed) 0x22 low (λ t. refl) t ∙ (r .bytes ∙ append-nil (encodes v)),
+      )
 
--- a text without error is derived
-pub basic-sound : (cs : List ℕ) → All Scalar cs → errorsOf BasicText (encodes cs) ≡ []
-    → (v : List ℕ) × (d : BasicString cs v) × BasicNames d
-basic-sound cs sc e =
-    let o = line-text BasicText 0x22 (omega arith) (λ t. refl) cs sc e in
-    subst (λ x. (v : List ℕ) × (d : BasicString x v) × BasicNames d) (sym (o .text))
-    (put (o .body) (chars-clean (length (o .body)) (o .body) (omega arith) (o .each) 1 (o .clean)))
-  where
-    put : (m : List ℕ) → Chars m → (v : List ℕ) × (d : BasicString (marked 0x22 m) v) × BasicNames d
-    put m (v, d, n) = (v, basic-string d, n)
+  -- a text without error is derived
+  pub basic-sound : (cs : List ℕ) → All Scalar cs → errorsOf (BasicText ed) (encodes cs) ≡ []
+      → (v : List ℕ) × (d : BasicString ed cs v) × BasicNames d
+  basic-sound cs sc e =
+      let o = line-text (BasicText ed) 0x22 (omega arith) (λ t. refl) cs sc e in
+      subst (λ x. (v : List ℕ) × (d : BasicString ed x v) × BasicNames d) (sym (o .text))
+      (put (o .body) (chars-clean (length (o .body)) (o .body) (omega arith) (o .each) 1 (o .clean)))
+    where
+      put : (m : List ℕ) → Chars m → (v : List ℕ) × (d : BasicString ed (marked 0x22 m) v) × BasicNames d
+      put m (v, d, n) = (v, basic-string d, n)

@@ -16,7 +16,9 @@ use Rattle.strings.specs.declared.Choice.{Choice}
 use Rattle.strings.specs.declared.Choice.the-variants.{Known}
 use Rattle.strings.specs.declared.Decoded.{Decoded}
 use Rattle.strings.specs.declared.Decoded.the-variants.{Written}
-use Rattle.strings.specs.Encodings.{encodingOf}
+use Rattle.strings.specs.declared.Edition.{Edition}
+use Rattle.strings.specs.declared.Edition.the-variants.{Toml10, Toml11}
+use Rattle.strings.specs.Encodings.{encodingIn, encodingBy, editionNumber}
 use Rattle.strings.specs.Decoding.{bytesOf, errorsOf, fitted, decodedBy, decodedNumber, decodedValue, decodedErrors}
 use Rattle.strings.proofs.DecodeLaws.{fitted-short, fitted-few, fitted-written, decode-valid}
 use Rattle.token.specs.KindNumbers.{kindNumber}
@@ -86,33 +88,37 @@ module _ {b m o e n : ℕ} where
 
 -- ---- the call
 
-known-kind : (s : StringKind) → Known (encoding s) ≡ encodingOf (kindNumber (tokenKind s))
-unfolding encodingOf
-known-kind literal = refl
-known-kind basic = refl
-known-kind ml-literal = refl
-known-kind ml-basic = refl
+known-kind : (ed : Edition) (s : StringKind) → Known (encoding ed s) ≡ encodingBy (editionNumber ed) (kindNumber (tokenKind s))
+unfolding encodingBy encodingIn
+known-kind Toml10 literal = refl
+known-kind Toml10 basic = refl
+known-kind Toml10 ml-literal = refl
+known-kind Toml10 ml-basic = refl
+known-kind Toml11 literal = refl
+known-kind Toml11 basic = refl
+known-kind Toml11 ml-literal = refl
+known-kind Toml11 ml-basic = refl
 
-module _ (s : StringKind) (t : List ℕ) (u : Utf8 t) (small : length t ≤ limit)
-    (derived : (errorsOf (encoding s) t ≡ []) ↔ ((v : List ℕ) × TextDerived s t v))
-    (meant : (errorsOf (encoding s) t ≡ []) ↔ ((v : List ℕ) × TextMeans s t v))
-    (value : (v : List ℕ) → TextMeans s t v → bytesOf (encoding s) t ≡ encodes v) (out : List ℕ) (e : ℕ) where
+module _ (ed : Edition) (s : StringKind) (t : List ℕ) (u : Utf8 t) (small : length t ≤ limit)
+    (derived : (errorsOf (encoding ed s) t ≡ []) ↔ ((v : List ℕ) × TextDerived ed s t v))
+    (meant : (errorsOf (encoding ed s) t ≡ []) ↔ ((v : List ℕ) × TextMeans ed s t v))
+    (value : (v : List ℕ) → TextMeans ed s t v → bytesOf (encoding ed s) t ≡ encodes v) (out : List ℕ) (e : ℕ) where
   abbrev bytes : List ℕ
-  bytes = bytesOf (encoding s) t
+  bytes = bytesOf (encoding ed s) t
 
   abbrev errors : List (List ℕ)
-  errors = errorsOf (encoding s) t
+  errors = errorsOf (encoding ed s) t
 
-  answer-is : fitted bytes errors (length out) e ≡ answerOf s t out e
+  answer-is : fitted bytes errors (length out) e ≡ answerOf ed s t out e
   answer-is =
-      ap (λ (c : Choice). decodedBy Valid c t (length out) e) (known-kind s)
-      ∙ decode-valid t (kindNumber (tokenKind s)) (length out) e (answer-valid t small (utf8-iff t .1 u))
+      ap (λ (c : Choice). decodedBy Valid c t (length out) e) (known-kind ed s)
+      ∙ decode-valid t (editionNumber ed) (kindNumber (tokenKind s)) (length out) e (answer-valid t small (utf8-iff t .1 u))
 
-  answer-clean : (n : ℕ) → (answerOf s t out e ≡ Written n 0) ↔ ((errors ≡ []) × (n ≡ length bytes) × (length bytes ≤ length out))
-  answer-clean = clean bytes errors (length out) e (answerOf s t out e) answer-is
+  answer-clean : (n : ℕ) → (answerOf ed s t out e ≡ Written n 0) ↔ ((errors ≡ []) × (n ≡ length bytes) × (length bytes ≤ length out))
+  answer-clean = clean bytes errors (length out) e (answerOf ed s t out e) answer-is
 
-  answer-means : (n : ℕ) → (answerOf s t out e ≡ Written n 0)
-      ↔ ((v : List ℕ) × TextMeans s t v × (n ≡ length (encodes v)) × (length (encodes v) ≤ length out))
+  answer-means : (n : ℕ) → (answerOf ed s t out e ≡ Written n 0)
+      ↔ ((v : List ℕ) × TextMeans ed s t v × (n ≡ length (encodes v)) × (length (encodes v) ≤ length out))
   answer-means n = (
     λ h.
         let x = answer-clean n .0 h in
@@ -124,19 +130,20 @@ module _ (s : StringKind) (t : List ℕ) (u : Utf8 t) (small : length t ≤ limi
         answer-clean n .1 (meant .1 (y .0, y .1), y .2 ∙ sym (ap length b), subst (λ (z : List ℕ). length z ≤ length out) (sym b) (y .3)),
   )
 
-  output-is : (v : List ℕ) → TextMeans s t v → length (encodes v) ≤ length out
-      → outputOf s t out e ≡ encodes v ++ drop (length (encodes v)) out
+  output-is : (v : List ℕ) → TextMeans ed s t v → length (encodes v) ≤ length out
+      → outputOf ed s t out e ≡ encodes v ++ drop (length (encodes v)) out
   output-is v m l =
       let a = answer-means (length (encodes v)) .1 (v, m, refl, l) in
-      rw (a, ← known-kind s, value v m)
+      rw (a, ← known-kind ed s, value v m)
 
-  pub called-is : Called s t out e
+  pub called-is : Called ed s t out e
   called-is =
-      let x = outcome bytes errors (length out) e (answerOf s t out e) answer-is in
+      let x = outcome bytes errors (length out) e (answerOf ed s t out e) answer-is in
       record {
         within-limit = never 2 (λ z. omega arith) (λ z. omega arith) (λ z. omega arith) x;
         valid = never 1 (λ z. omega arith) (λ z. omega arith) (λ z. omega arith) x;
         known = never 7 (λ z. omega arith) (λ z. omega arith) (λ z. omega arith) x;
+        named = never 9 (λ z. omega arith) (λ z. omega arith) (λ z. omega arith) x;
         short = when-short x;
         few = when-few x;
         answered = when-fits x;

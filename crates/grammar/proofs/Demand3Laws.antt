@@ -22,6 +22,7 @@ use Rattle.lexer.specs.Tokens.{tokenAt}
 use Rattle.lexer.proofs.TokenLaws.{token-fits}
 use Rattle.lexing.specs.Lexing.{textOf}
 use Rattle.lexing.proofs.Lexing.{token-cut, lexed}
+use Rattle.strings.specs.declared.Edition.{Edition}
 use Rattle.grammar.specs.Strings.{StringKind, literal, basic, ml-literal, ml-basic, tokenKind, encoding, mark, Apart, Derived, Means}
 use Rattle.grammar.specs.Demand3.{TextDerived, TextMeans, Agrees, Demand3}
 use Rattle.grammar.proofs.LiteralStrings.{literal-sound, literal-complete}
@@ -33,145 +34,147 @@ use Rattle.grammar.proofs.Lexing.{IsToken, derived-token}
 use Rattle.grammar.proofs.TokenFacts.{listed, stepped, step-there, reached-cut, reached-listed}
 use Rattle.grammar.proofs.CallLaws.{called-is}
 
--- ---- the four kinds together
+-- in one edition of TOML
+module _ (ed : Edition) where
+  -- ---- the four kinds together
 
-means-derives : (s : StringKind) (cs v : List ℕ) → Means s cs v → Derived s cs v
-means-derives literal cs v d = d
-means-derives basic cs v d = d
-means-derives ml-literal cs v (d, o) = d
-means-derives ml-basic cs v (d, n, o) = (d, n)
+  means-derives : (s : StringKind) (cs v : List ℕ) → Means ed s cs v → Derived ed s cs v
+  means-derives literal cs v d = d
+  means-derives basic cs v d = d
+  means-derives ml-literal cs v (d, o) = d
+  means-derives ml-basic cs v (d, n, o) = (d, n)
 
-complete : (s : StringKind) (cs v : List ℕ) → Derived s cs v → errorsOf (encoding s) (encodes cs) ≡ []
-complete literal cs v d = literal-complete d .0
-complete basic cs v (d, n) = basic-complete d n .0
-complete ml-literal cs v d = ml-literal-complete d .0
-complete ml-basic cs v (d, n) = ml-basic-complete d n .0
+  complete : (s : StringKind) (cs v : List ℕ) → Derived ed s cs v → errorsOf (encoding ed s) (encodes cs) ≡ []
+  complete literal cs v d = literal-complete d .0
+  complete basic cs v (d, n) = basic-complete ed d n .0
+  complete ml-literal cs v d = ml-literal-complete d .0
+  complete ml-basic cs v (d, n) = ml-basic-complete ed d n .0
 
-bytes : (s : StringKind) (cs v : List ℕ) → Means s cs v → bytesOf (encoding s) (encodes cs) ≡ encodes v
-bytes literal cs v d = literal-complete d .1
-bytes basic cs v (d, n) = basic-complete d n .1
-bytes ml-literal cs v (d, o) = ml-literal-complete d .1 o
-bytes ml-basic cs v (d, n, o) = ml-basic-complete d n .1 o
+  bytes : (s : StringKind) (cs v : List ℕ) → Means ed s cs v → bytesOf (encoding ed s) (encodes cs) ≡ encodes v
+  bytes literal cs v d = literal-complete d .1
+  bytes basic cs v (d, n) = basic-complete ed d n .1
+  bytes ml-literal cs v (d, o) = ml-literal-complete d .1 o
+  bytes ml-basic cs v (d, n, o) = ml-basic-complete ed d n .1 o
 
-long-of : (k : TokenKind) (s : List ℕ) (n : ℕ) → kindOf s ≡ k → tokenLen s ≡ n → extent k s ≡ n
-unfolding tokenLen
-long-of k s n e h = ap (λ (x : TokenKind). extent x s) (sym e) ∙ h
+  long-of : (k : TokenKind) (s : List ℕ) (n : ℕ) → kindOf s ≡ k → tokenLen s ≡ n → extent k s ≡ n
+  unfolding tokenLen
+  long-of k s n e h = ap (λ (x : TokenKind). extent x s) (sym e) ∙ h
 
-sound : (s : StringKind) (cs rest : List ℕ) → All Scalar cs → IsToken (tokenKind s) (encodes cs) rest
-    → errorsOf (encoding s) (encodes cs) ≡ []
-    → (v : List ℕ) × Means s cs v
-unfolding extent
-sound literal cs rest h t e = literal-sound cs h e
-sound basic cs rest h t e = let x = basic-sound cs h e in (x .0, (x .1, x .2))
-sound ml-literal cs rest h t e =
-    let x = ml-literal-sound cs rest h (long-of (tokenKind ml-literal) (encodes cs ++ rest) (length (encodes cs)) (t .0) (t .1)) e in
-    (x .0, (x .1, x .2))
-sound ml-basic cs rest h t e =
-    let x = ml-basic-sound cs rest h (long-of (tokenKind ml-basic) (encodes cs ++ rest) (length (encodes cs)) (t .0) (t .1)) e in
-    (x .0, (x .1, x .2, x .3))
+  sound : (s : StringKind) (cs rest : List ℕ) → All Scalar cs → IsToken (tokenKind s) (encodes cs) rest
+      → errorsOf (encoding ed s) (encodes cs) ≡ []
+      → (v : List ℕ) × Means ed s cs v
+  unfolding extent
+  sound literal cs rest h t e = literal-sound cs h e
+  sound basic cs rest h t e = let x = basic-sound ed cs h e in (x .0, (x .1, x .2))
+  sound ml-literal cs rest h t e =
+      let x = ml-literal-sound cs rest h (long-of (tokenKind ml-literal) (encodes cs ++ rest) (length (encodes cs)) (t .0) (t .1)) e in
+      (x .0, (x .1, x .2))
+  sound ml-basic cs rest h t e =
+      let x = ml-basic-sound ed cs rest h (long-of (tokenKind ml-basic) (encodes cs ++ rest) (length (encodes cs)) (t .0) (t .1)) e in
+      (x .0, (x .1, x .2, x .3))
 
--- ---- a token's text
+  -- ---- a token's text
 
-module _ (s : StringKind) (t rest : List ℕ) (u : Utf8 t) (tok : IsToken (tokenKind s) t rest) where
-  abbrev k : Rattle.strings.specs.declared.Encoding.Encoding
-  k = encoding s
+  module _ (s : StringKind) (t rest : List ℕ) (u : Utf8 t) (tok : IsToken (tokenKind s) t rest) where
+    abbrev k : Rattle.strings.specs.declared.Encoding.Encoding
+    k = encoding ed s
 
-  means-of : errorsOf k t ≡ [] → (v : List ℕ) × TextMeans s t v
-  means-of e = go (u .0) (u .1) (u .2)
-    where
-      go : (cs : List ℕ) → All Scalar cs → encodes cs ≡ t → (v : List ℕ) × TextMeans s t v
-      go cs h q =
-          let x = sound s cs rest h (subst (λ y. IsToken (tokenKind s) y rest) (sym q) tok) (ap (errorsOf k) q ∙ e) in
-          (x .0, record { points = cs; scalar = h; text = q; means = x .1 })
+    means-of : errorsOf k t ≡ [] → (v : List ℕ) × TextMeans ed s t v
+    means-of e = go (u .0) (u .1) (u .2)
+      where
+        go : (cs : List ℕ) → All Scalar cs → encodes cs ≡ t → (v : List ℕ) × TextMeans ed s t v
+        go cs h q =
+            let x = sound s cs rest h (subst (λ y. IsToken (tokenKind s) y rest) (sym q) tok) (ap (errorsOf k) q ∙ e) in
+            (x .0, record { points = cs; scalar = h; text = q; means = x .1 })
 
-  derives : (v : List ℕ) → TextMeans s t v → TextDerived s t v
-  derives v m = record { points = m .points; scalar = m .scalar; text = m .text; derives = means-derives s (m .points) v (m .means) }
+    derives : (v : List ℕ) → TextMeans ed s t v → TextDerived ed s t v
+    derives v m = record { points = m .points; scalar = m .scalar; text = m .text; derives = means-derives s (m .points) v (m .means) }
 
-  clean : (v : List ℕ) → TextDerived s t v → errorsOf k t ≡ []
-  clean v d = sym (ap (errorsOf k) (d .text)) ∙ complete s (d .points) v (d .derives)
+    clean : (v : List ℕ) → TextDerived ed s t v → errorsOf k t ≡ []
+    clean v d = sym (ap (errorsOf k) (d .text)) ∙ complete s (d .points) v (d .derives)
 
-  value-of : (v : List ℕ) → TextMeans s t v → bytesOf k t ≡ encodes v
-  value-of v m = sym (ap (bytesOf k) (m .text)) ∙ bytes s (m .points) v (m .means)
+    value-of : (v : List ℕ) → TextMeans ed s t v → bytesOf k t ≡ encodes v
+    value-of v m = sym (ap (bytesOf k) (m .text)) ∙ bytes s (m .points) v (m .means)
 
-  scalar-value : (v : List ℕ) → TextMeans s t v → All Scalar v
-  scalar-value v m = value-scalars s (m .points) v (means-derives s (m .points) v (m .means)) (m .scalar)
+    scalar-value : (v : List ℕ) → TextMeans ed s t v → All Scalar v
+    scalar-value v m = value-scalars ed s (m .points) v (means-derives s (m .points) v (m .means)) (m .scalar)
 
-  derived-iff : (errorsOf k t ≡ []) ↔ ((v : List ℕ) × TextDerived s t v)
-  derived-iff = (λ e. let x = means-of e in (x .0, derives (x .0) (x .1)), λ d. clean (d .0) (d .1))
+    derived-iff : (errorsOf k t ≡ []) ↔ ((v : List ℕ) × TextDerived ed s t v)
+    derived-iff = (λ e. let x = means-of e in (x .0, derives (x .0) (x .1)), λ d. clean (d .0) (d .1))
 
-  means-iff : (errorsOf k t ≡ []) ↔ ((v : List ℕ) × TextMeans s t v)
-  means-iff = (means-of, λ m. clean (m .0) (derives (m .0) (m .1)))
+    means-iff : (errorsOf k t ≡ []) ↔ ((v : List ℕ) × TextMeans ed s t v)
+    means-iff = (means-of, λ m. clean (m .0) (derives (m .0) (m .1)))
 
-  agrees : length t ≤ limit → Agrees s t
-  agrees small =
+    agrees : length t ≤ limit → Agrees ed s t
+    agrees small =
+        record {
+          whole = u;
+          derived = derived-iff;
+          meant = means-iff;
+          value = value-of;
+          one = λ v w m n. same-scalars v w (scalar-value v m) (scalar-value w n) (sym (value-of v m) ∙ value-of w n);
+          called = called-is ed s t u small derived-iff means-iff value-of;
+        }
+
+  -- the token at a place
+  place-agrees : (doc : List ℕ) (at : ℕ) → Utf8 (drop at doc) → length doc ≤ limit → (s : StringKind) → kindOf (drop at doc) ≡ tokenKind s
+      → Agrees ed s (textOf doc (tokenAt at (drop at doc)))
+  place-agrees doc at u l s e =
+      let d : List ℕ = drop at doc in
+      let n = tokenLen d in
+      let p : take n d ++ drop n d ≡ d = take-append-drop n d in
+      let z : length (take n d) ≡ n = length-take-le n d (token-fits d) in
+      let tok : IsToken (tokenKind s) (take n d) (drop n d) = (ap kindOf p ∙ e, ap tokenLen p ∙ sym z) in
+      let same : n ≡ at + n - at = omega arith in
+      subst (λ (i : ℕ). Agrees ed s (take i d)) same
+      (agrees s (take n d) (drop n d) (token-cut d u .0) tok (omega (arith, token-fits d, length-drop at doc)))
+
+  -- ---- derived texts at a place
+
+  end-kind : (doc : List ℕ) (at : ℕ) → length doc ≤ at → kindOf (drop at doc) ≡ Eof
+  unfolding kindOf
+  end-kind doc at l = rw (drop-of-length-le doc {i = at} l)
+
+  no-end : (s : StringKind) → Eof ≡ tokenKind s → ⊥
+  no-end literal z = let y : _≡_ {A = ℕ} 4 39 = ap kindNumber z in omega arith
+  no-end basic z = let y : _≡_ {A = ℕ} 4 34 = ap kindNumber z in omega arith
+  no-end ml-literal z = let y : _≡_ {A = ℕ} 4 1 = ap kindNumber z in omega arith
+  no-end ml-basic z = let y : _≡_ {A = ℕ} 4 2 = ap kindNumber z in omega arith
+
+  module _ (doc : List ℕ) (at : ℕ) (s : StringKind) (cs v rest : List ℕ)
+      (d : Derived ed s cs v) (e : drop at doc ≡ encodes cs ++ rest) (a : Apart (mark s) rest) where
+    kind-there : kindOf (drop at doc) ≡ tokenKind s
+    kind-there = ap kindOf e ∙ derived-token ed s cs v rest d a .0
+
+    long-there : tokenLen (drop at doc) ≡ length (encodes cs)
+    long-there = ap tokenLen e ∙ derived-token ed s cs v rest d a .1
+
+    token-there : tokenAt at (drop at doc) ≡ tokenOf (tokenKind s) at (at + length (encodes cs))
+    token-there = rw (kind-there, long-there)
+
+    before-end : at < length doc
+    before-end = elim (decLt at (length doc)) [
+      | yes l ↦ l
+      | no l ↦ absurd (no-end s (sym (end-kind doc at (omega arith)) ∙ kind-there))
+    ]
+
+  -- ---- the demand
+
+  pub demand-3 : Demand3 ed
+  demand-3 =
       record {
-        whole = u;
-        derived = derived-iff;
-        meant = means-iff;
-        value = value-of;
-        one = λ v w m n. same-scalars v w (scalar-value v m) (scalar-value w n) (sym (value-of v m) ∙ value-of w n);
-        called = called-is s t u small derived-iff means-iff value-of;
+        tokens = λ doc u l r m s e.
+            let x = lexed doc r m in
+            subst (λ (y : Token). Agrees ed s (textOf doc y)) (sym (listed doc r m))
+            (place-agrees doc (r .span .start) (x .whole u) l s (sym (x .kind) ∙ e));
+        steps = λ doc c u r d e s h.
+            let x = stepped doc c r d e in
+            let kind : kindOf (drop (c .place) doc) ≡ tokenKind s = ap (λ (y : Token). y .kind) (sym (x .is)) ∙ h in
+            subst (λ (y : Token). Agrees ed s (textOf doc y)) (sym (x .is)) (place-agrees doc (c .place) u (x .few) s kind);
+        reached = reached-cut;
+        listed = reached-listed;
+        step-back = λ doc l c s cs v rest d e a.
+            step-there doc l c (before-end doc (c .place) s cs v rest d e a)
+            ∙ rw (token-there doc (c .place) s cs v rest d e a, long-there doc (c .place) s cs v rest d e a);
+        token-back = λ doc r m s cs v rest d e a. listed doc r m ∙ token-there doc (r .span .start) s cs v rest d e a;
       }
-
--- the token at a place
-place-agrees : (doc : List ℕ) (at : ℕ) → Utf8 (drop at doc) → length doc ≤ limit → (s : StringKind) → kindOf (drop at doc) ≡ tokenKind s
-    → Agrees s (textOf doc (tokenAt at (drop at doc)))
-place-agrees doc at u l s e =
-    let d : List ℕ = drop at doc in
-    let n = tokenLen d in
-    let p : take n d ++ drop n d ≡ d = take-append-drop n d in
-    let z : length (take n d) ≡ n = length-take-le n d (token-fits d) in
-    let tok : IsToken (tokenKind s) (take n d) (drop n d) = (ap kindOf p ∙ e, ap tokenLen p ∙ sym z) in
-    let same : n ≡ at + n - at = omega arith in
-    subst (λ (i : ℕ). Agrees s (take i d)) same
-    (agrees s (take n d) (drop n d) (token-cut d u .0) tok (omega (arith, token-fits d, length-drop at doc)))
-
--- ---- derived texts at a place
-
-end-kind : (doc : List ℕ) (at : ℕ) → length doc ≤ at → kindOf (drop at doc) ≡ Eof
-unfolding kindOf
-end-kind doc at l = rw (drop-of-length-le doc {i = at} l)
-
-no-end : (s : StringKind) → Eof ≡ tokenKind s → ⊥
-no-end literal z = let y : _≡_ {A = ℕ} 4 39 = ap kindNumber z in omega arith
-no-end basic z = let y : _≡_ {A = ℕ} 4 34 = ap kindNumber z in omega arith
-no-end ml-literal z = let y : _≡_ {A = ℕ} 4 1 = ap kindNumber z in omega arith
-no-end ml-basic z = let y : _≡_ {A = ℕ} 4 2 = ap kindNumber z in omega arith
-
-module _ (doc : List ℕ) (at : ℕ) (s : StringKind) (cs v rest : List ℕ)
-    (d : Derived s cs v) (e : drop at doc ≡ encodes cs ++ rest) (a : Apart (mark s) rest) where
-  kind-there : kindOf (drop at doc) ≡ tokenKind s
-  kind-there = ap kindOf e ∙ derived-token s cs v rest d a .0
-
-  long-there : tokenLen (drop at doc) ≡ length (encodes cs)
-  long-there = ap tokenLen e ∙ derived-token s cs v rest d a .1
-
-  token-there : tokenAt at (drop at doc) ≡ tokenOf (tokenKind s) at (at + length (encodes cs))
-  token-there = rw (kind-there, long-there)
-
-  before-end : at < length doc
-  before-end = elim (decLt at (length doc)) [
-    | yes l ↦ l
-    | no l ↦ absurd (no-end s (sym (end-kind doc at (omega arith)) ∙ kind-there))
-  ]
-
--- ---- the demand
-
-pub demand-3 : Demand3
-demand-3 =
-    record {
-      tokens = λ doc u l r m s e.
-          let x = lexed doc r m in
-          subst (λ (y : Token). Agrees s (textOf doc y)) (sym (listed doc r m))
-          (place-agrees doc (r .span .start) (x .whole u) l s (sym (x .kind) ∙ e));
-      steps = λ doc c u r d e s h.
-          let x = stepped doc c r d e in
-          let kind : kindOf (drop (c .place) doc) ≡ tokenKind s = ap (λ (y : Token). y .kind) (sym (x .is)) ∙ h in
-          subst (λ (y : Token). Agrees s (textOf doc y)) (sym (x .is)) (place-agrees doc (c .place) u (x .few) s kind);
-      reached = reached-cut;
-      listed = reached-listed;
-      step-back = λ doc l c s cs v rest d e a.
-          step-there doc l c (before-end doc (c .place) s cs v rest d e a)
-          ∙ rw (token-there doc (c .place) s cs v rest d e a, long-there doc (c .place) s cs v rest d e a);
-      token-back = λ doc r m s cs v rest d e a. listed doc r m ∙ token-there doc (r .span .start) s cs v rest d e a;
-    }

@@ -2,21 +2,25 @@
 -- Assumes nothing.
 use Prim.Native.Nat.{ℕ, zero, suc, _+_, _*_, _≤_, _<_}
 use mathlib.Core.Path.{_≡_, refl, sym, _∙_, ap, subst}
+use mathlib.Core.Logic.{inl}
 use mathlib.Core.Bool.{Bool, true, false, cond}
 use mathlib.Core.List.{List, [], _∷_, _++_}
 use native.Mathlib.Omega.{arith}
 use lib.ListN.{length, take, drop, take-append-drop}
+use borrow.Author.Tests.{ne-eqb}
 use Rattle.classes.specs.Classes.{hexdig}
 use Rattle.classes.specs.Runs.{run}
 use Rattle.classes.proofs.Conds.{by-lt, cond-case, by-eq}
 use Rattle.text.specs.Utf8.{Scalar, All}
 use Rattle.text.specs.Utf8Read.{isScalar}
 use Rattle.text.proofs.EncodeLaws.{scalar-true, true-scalar}
+use Rattle.strings.specs.declared.Edition.{Edition}
+use Rattle.strings.specs.declared.Edition.the-variants.{Toml10, Toml11}
 use Rattle.strings.specs.declared.Piece.{Piece}
 use Rattle.strings.specs.Pieces.{charPiece}
-use Rattle.strings.specs.Escapes.{simpleEscape, hexLength, hexFrom, hexValue, hexPiece, escapePiece}
+use Rattle.strings.specs.Escapes.{newEscape, simpleEscape, newHexLength, hexLength, hexFrom, hexValue, hexPiece, escapePiece}
 use Rattle.strings.proofs.EscapeLaws.{hex-char, escape-hex, escape-simple}
-use Rattle.grammar.specs.Grammar.{HexDig, HexDigits, stop, more, EscapeSeqChar, x22, x5C, x62, x66, x6E, x72, x74, x75, x55}
+use Rattle.grammar.specs.Grammar.{HexDig, HexDigits, stop, more, EscapeSeqChar, x22, x5C, x62, x66, x6E, x72, x74, x75, x55, x65, x78}
 use Rattle.grammar.specs.Scalars.{Names}
 use Rattle.grammar.proofs.ListLaws.{all-weaken}
 use Rattle.grammar.proofs.Encoded.{AllAscii}
@@ -54,6 +58,15 @@ digits-of (suc n) a (b ∷ s) h = go (hexdig b) refl h (digits-of n (a * 16 + he
     go true e l ih = more (digit-is b e) (ih (omega arith))
     go false e l ih = absurd (omega arith)
 
+-- what two digits name is a scalar value
+digit-small : {c d : ℕ} → HexDig c d → d < 16
+digit-small {c} {d} (HexDig.digit e h) = omega arith
+digit-small {c} {d} (HexDig.upper e h k) = omega arith
+digit-small {c} {d} (HexDig.lower e h k) = omega arith
+
+pub two-scalar : {t : List ℕ} {v : ℕ} → HexDigits 2 0 t v → Scalar v
+two-scalar (more {d = d} x (more {d = e} y stop)) = inl (omega (arith, digit-small x, digit-small y))
+
 -- ---- the shape of an escape: a visible byte, and then hex digits
 
 abbrev pub Plain : ℕ → Type 0
@@ -79,7 +92,7 @@ digits-plain (more x r) = (digit-plain x, digits-plain r)
 one-shape : (b : ℕ) → 0x22 ≤ b → b < 0x80 → Shape (b ∷ [])
 one-shape b h l = record { b = b; r = []; is = refl; visible = h; low = l; each = tt }
 
-pub shape : {t : List ℕ} {v : ℕ} → EscapeSeqChar t v → Shape t
+pub shape : {ed : Edition} {t : List ℕ} {v : ℕ} → EscapeSeqChar ed t v → Shape t
 shape x22 = one-shape 0x22 (omega arith) (omega arith)
 shape x5C = one-shape 0x5C (omega arith) (omega arith)
 shape x62 = one-shape 0x62 (omega arith) (omega arith)
@@ -87,75 +100,95 @@ shape x66 = one-shape 0x66 (omega arith) (omega arith)
 shape x6E = one-shape 0x6E (omega arith) (omega arith)
 shape x72 = one-shape 0x72 (omega arith) (omega arith)
 shape x74 = one-shape 0x74 (omega arith) (omega arith)
-shape (x75 {t} d) = record { b = 0x75; r = t; is = refl; visible = omega arith; low = omega arith; each = digits-plain d }
-shape (x55 {t} d) = record { b = 0x55; r = t; is = refl; visible = omega arith; low = omega arith; each = digits-plain d }
+shape (x75 {t = t} d) = record { b = 0x75; r = t; is = refl; visible = omega arith; low = omega arith; each = digits-plain d }
+shape (x55 {t = t} d) = record { b = 0x55; r = t; is = refl; visible = omega arith; low = omega arith; each = digits-plain d }
+shape x65 = one-shape 0x65 (omega arith) (omega arith)
+shape (x78 {t = t} d) = record { b = 0x78; r = t; is = refl; visible = omega arith; low = omega arith; each = digits-plain d }
 
-pub escape-ascii : {t : List ℕ} {v : ℕ} → EscapeSeqChar t v → AllAscii t
+pub escape-ascii : {ed : Edition} {t : List ℕ} {v : ℕ} → EscapeSeqChar ed t v → AllAscii t
 escape-ascii e = let s = shape e in subst AllAscii (sym (s .is)) (s .low, all-weaken (λ c h. h .1) (s .r) (s .each))
 
 -- ---- an escape is one piece that gives its character
 
-simple-at : (b c : ℕ) → 0 ≡ hexLength b → c ≡ simpleEscape b → 0 < c → (at : ℕ) (s : List ℕ) → escapePiece at (b ∷ s) ≡ charPiece 2 c 0 0
-simple-at b c p q h at s = sym (escape-simple at (b ∷ s) 0 c p (omega arith) q h)
+simple-at : (ed : Edition) (b c : ℕ) → 0 ≡ hexLength ed b → c ≡ simpleEscape ed b → 0 < c → (at : ℕ) (s : List ℕ)
+    → escapePiece ed at (b ∷ s) ≡ charPiece 2 c 0 0
+simple-at ed b c p q h at s = sym (escape-simple ed at (b ∷ s) 0 c p (omega arith) q h)
 
-hex-at : (b n v : ℕ) (t : List ℕ) → n ≡ hexLength b → 0 < n → HexDigits n 0 t v → Scalar v
-    → (at : ℕ) (s : List ℕ) → escapePiece at (b ∷ (t ++ s)) ≡ charPiece (suc (length (b ∷ t))) v 0 0
-hex-at b n v t p h d sc at s =
+hex-at : (ed : Edition) (b n v : ℕ) (t : List ℕ) → n ≡ hexLength ed b → 0 < n → HexDigits n 0 t v → Scalar v
+    → (at : ℕ) (s : List ℕ) → escapePiece ed at (b ∷ (t ++ s)) ≡ charPiece (suc (length (b ∷ t))) v 0 0
+hex-at ed b n v t p h d sc at s =
     let value : v ≡ hexFrom 0 (take n (t ++ s)) = digits-value d ∙ ap (hexFrom 0) (sym (digits-taken d s)) in
-    sym (escape-hex at (b ∷ (t ++ s)) n p h)
+    sym (escape-hex ed at (b ∷ (t ++ s)) n p h)
     ∙ (sym (hex-char n at (t ++ s) v (digits-run d s) value (scalar-true v sc))
     ∙ ap (λ (i : ℕ). charPiece i v 0 0) (omega (arith, digits-long d)))
 
-pub escape-at : {t : List ℕ} {v : ℕ} (e : EscapeSeqChar t v) → Names e → (at : ℕ) (s : List ℕ)
-    → escapePiece at (t ++ s) ≡ charPiece (suc (length t)) v 0 0
+-- what 1.1 adds to the letters that ask for digits is one
+no-digits : (ed : Edition) (b : ℕ) → (b ≡ 0x78 → ⊥) → 0 ≡ newHexLength ed b
+no-digits Toml10 b h = refl
+no-digits Toml11 b h = rw (ne-eqb b 0x78 h)
+
+pub escape-at : {ed : Edition} {t : List ℕ} {v : ℕ} (e : EscapeSeqChar ed t v) → Names e → (at : ℕ) (s : List ℕ)
+    → escapePiece ed at (t ++ s) ≡ charPiece (suc (length t)) v 0 0
 unfolding simpleEscape hexLength
-escape-at x22 h = simple-at 0x22 0x22 refl refl (omega arith)
-escape-at x5C h = simple-at 0x5C 0x5C refl refl (omega arith)
-escape-at x62 h = simple-at 0x62 0x08 refl refl (omega arith)
-escape-at x66 h = simple-at 0x66 0x0C refl refl (omega arith)
-escape-at x6E h = simple-at 0x6E 0x0A refl refl (omega arith)
-escape-at x72 h = simple-at 0x72 0x0D refl refl (omega arith)
-escape-at x74 h = simple-at 0x74 0x09 refl refl (omega arith)
-escape-at (x75 {t} {v} d) h = hex-at 0x75 4 v t refl (omega arith) d h
-escape-at (x55 {t} {v} d) h = hex-at 0x55 8 v t refl (omega arith) d h
+escape-at {ed} x22 h = simple-at ed 0x22 0x22 (no-digits ed 0x22 (λ e. omega arith)) refl (omega arith)
+escape-at {ed} x5C h = simple-at ed 0x5C 0x5C (no-digits ed 0x5C (λ e. omega arith)) refl (omega arith)
+escape-at {ed} x62 h = simple-at ed 0x62 0x08 (no-digits ed 0x62 (λ e. omega arith)) refl (omega arith)
+escape-at {ed} x66 h = simple-at ed 0x66 0x0C (no-digits ed 0x66 (λ e. omega arith)) refl (omega arith)
+escape-at {ed} x6E h = simple-at ed 0x6E 0x0A (no-digits ed 0x6E (λ e. omega arith)) refl (omega arith)
+escape-at {ed} x72 h = simple-at ed 0x72 0x0D (no-digits ed 0x72 (λ e. omega arith)) refl (omega arith)
+escape-at {ed} x74 h = simple-at ed 0x74 0x09 (no-digits ed 0x74 (λ e. omega arith)) refl (omega arith)
+escape-at {ed} (x75 {t = t} {v = v} d) h = hex-at ed 0x75 4 v t refl (omega arith) d h
+escape-at {ed} (x55 {t = t} {v = v} d) h = hex-at ed 0x55 8 v t refl (omega arith) d h
+escape-at x65 h = simple-at Toml11 0x65 0x1B refl refl (omega arith)
+escape-at (x78 {t = t} {v = v} d) h = hex-at Toml11 0x78 2 v t refl (omega arith) d (two-scalar d)
 
 -- ---- an escape without error stands in front
 
-pub record EscapedAt (s : List ℕ) : Type 0 where
+pub record EscapedAt (ed : Edition) (s : List ℕ) : Type 0 where
   pub t : List ℕ
   pub rest : List ℕ
   pub v : ℕ
   pub split : s ≡ t ++ rest
-  pub char : EscapeSeqChar t v
+  pub char : EscapeSeqChar ed t v
   pub names : Names char
 
 -- the grammar's escape of the text t, with the value v
-abbrev Named : List ℕ → ℕ → Type 0
-Named t v = (e : EscapeSeqChar t v) × Names e
+abbrev Named : Edition → List ℕ → ℕ → Type 0
+Named ed t v = (e : EscapeSeqChar ed t v) × Names e
 
-module _ (b : ℕ) where
+module _ (ed : Edition) (b : ℕ) where
   abbrev Simple : ℕ → Type 0
-  Simple v = 0 < v → Named (b ∷ []) v
+  Simple v = 0 < v → Named ed (b ∷ []) v
 
-  one-letter : (k v w : ℕ) → Named (k ∷ []) v → Simple w → Simple (cond (lib.Dec.eqb b k) v w)
+  one-letter : (k v w : ℕ) → Named ed (k ∷ []) v → Simple w → Simple (cond (lib.Dec.eqb b k) v w)
   one-letter k v w x f =
-      by-eq Simple b k (λ e h. subst (λ (c : ℕ). Named (c ∷ []) v) (sym e) x) (λ e. f)
-
-  simple-is : Simple (simpleEscape b)
-  unfolding simpleEscape
-  simple-is =
-      one-letter 0x22 0x22 _ (x22, tt) (one-letter 0x5C 0x5C _ (x5C, tt) (one-letter 0x62 0x08 _ (x62, tt) (one-letter 0x66 0x0C _ (x66, tt)
-      (one-letter 0x6E 0x0A _ (x6E, tt) (one-letter 0x72 0x0D _ (x72, tt) (one-letter 0x74 0x09 0 (x74, tt)
-      (λ h. absurd (omega arith))))))))
+      by-eq Simple b k (λ e h. subst (λ (c : ℕ). Named ed (c ∷ []) v) (sym e) x) (λ e. f)
 
   abbrev Hex : ℕ → Type 0
-  Hex n = 0 < n → (t : List ℕ) (v : ℕ) → HexDigits n 0 t v → Scalar v → Named (b ∷ t) v
+  Hex n = 0 < n → (t : List ℕ) (v : ℕ) → HexDigits n 0 t v → Scalar v → Named ed (b ∷ t) v
 
-  hex-is : Hex (hexLength b)
-  unfolding hexLength
-  hex-is =
-      by-eq Hex b 0x75 (λ e h t v d sc. subst (λ (c : ℕ). Named (c ∷ t) v) (sym e) (x75 d, sc))
-      λ _. by-eq Hex b 0x55 (λ e h t v d sc. subst (λ (c : ℕ). Named (c ∷ t) v) (sym e) (x55 d, sc)) (λ _ h. absurd (omega arith))
+new-is : (ed : Edition) (b : ℕ) → Simple ed b (newEscape ed b)
+new-is Toml10 b = λ h. absurd (omega arith)
+new-is Toml11 b = one-letter Toml11 b 0x65 0x1B 0 (x65, tt) (λ h. absurd (omega arith))
+
+simple-is : (ed : Edition) (b : ℕ) → Simple ed b (simpleEscape ed b)
+unfolding simpleEscape
+simple-is ed b =
+    let L = one-letter ed b in
+    L 0x22 0x22 _ (x22, tt) (L 0x5C 0x5C _ (x5C, tt) (L 0x62 0x08 _ (x62, tt) (L 0x66 0x0C _ (x66, tt)
+    (L 0x6E 0x0A _ (x6E, tt) (L 0x72 0x0D _ (x72, tt) (L 0x74 0x09 _ (x74, tt) (new-is ed b)))))))
+
+new-hex-is : (ed : Edition) (b : ℕ) → Hex ed b (newHexLength ed b)
+new-hex-is Toml10 b = λ h. absurd (omega arith)
+new-hex-is Toml11 b =
+    by-eq (Hex Toml11 b) b 0x78 (λ e h t v d sc. subst (λ (c : ℕ). Named Toml11 (c ∷ t) v) (sym e) (x78 d, tt))
+    (λ _ h. absurd (omega arith))
+
+hex-is : (ed : Edition) (b : ℕ) → Hex ed b (hexLength ed b)
+unfolding hexLength
+hex-is ed b =
+    by-eq (Hex ed b) b 0x75 (λ e h t v d sc. subst (λ (c : ℕ). Named ed (c ∷ t) v) (sym e) (x75 d, sc))
+    λ _. by-eq (Hex ed b) b 0x55 (λ e h t v d sc. subst (λ (c : ℕ). Named ed (c ∷ t) v) (sym e) (x55 d, sc)) (λ _. new-hex-is ed b)
 
 hex-clean : (n at : ℕ) (s : List ℕ) → hexPiece n at s .err ≡ 0 → (n ≤ run hexdig s) × Scalar (hexFrom 0 (take n s))
 unfolding hexPiece
@@ -164,8 +197,8 @@ hex-clean n at s =
     λ h. cond-case (λ (p : Piece). p .err ≡ 0 → (n ≤ run hexdig s) × Scalar (hexFrom 0 (take n s))) (isScalar (hexFrom 0 (take n s)))
     (λ v e. (h, true-scalar _ v)) (λ v e. absurd (omega arith))
 
-hex-front : (b n at : ℕ) (s : List ℕ) → 0 < n → Hex b n → hexPiece n at s .err ≡ 0 → EscapedAt (b ∷ s)
-hex-front b n at s h f e =
+hex-front : (ed : Edition) (b n at : ℕ) (s : List ℕ) → 0 < n → Hex ed b n → hexPiece n at s .err ≡ 0 → EscapedAt ed (b ∷ s)
+hex-front ed b n at s h f e =
     let w = hex-clean n at s e in
     let x = f h (take n s) (hexFrom 0 (take n s)) (digits-of n 0 s (w .0)) (w .1) in
     record {
@@ -177,15 +210,17 @@ hex-front b n at s h f e =
       names = x .1;
     }
 
-none-escaped : (at : ℕ) → escapePiece at [] .err ≡ 0 → EscapedAt []
+none-escaped : (ed : Edition) (at : ℕ) → escapePiece ed at [] .err ≡ 0 → EscapedAt ed []
 unfolding escapePiece simpleEscape hexLength
-none-escaped at e = absurd (omega arith)
+none-escaped Toml10 at e = absurd (omega arith)
+none-escaped Toml11 at e = absurd (omega arith)
 
-pub escape-inv : (at : ℕ) (s : List ℕ) → escapePiece at s .err ≡ 0 → EscapedAt s
+pub escape-inv : (ed : Edition) (at : ℕ) (s : List ℕ) → escapePiece ed at s .err ≡ 0 → EscapedAt ed s
 unfolding escapePiece
-escape-inv at [] = none-escaped at
-escape-inv at (b ∷ s) =
-    by-lt (λ (p : Piece). p .err ≡ 0 → EscapedAt (b ∷ s)) 0 (hexLength b) (λ h e. hex-front b (hexLength b) at s h (hex-is b) e)
-    λ h. by-lt (λ (p : Piece). p .err ≡ 0 → EscapedAt (b ∷ s)) 0 (simpleEscape b)
-    (λ l e. let x = simple-is b l in record { t = b ∷ []; rest = s; v = simpleEscape b; split = refl; char = x .0; names = x .1 })
+escape-inv ed at [] = none-escaped ed at
+escape-inv ed at (b ∷ s) =
+    by-lt (λ (p : Piece). p .err ≡ 0 → EscapedAt ed (b ∷ s)) 0 (hexLength ed b)
+    (λ h e. hex-front ed b (hexLength ed b) at s h (hex-is ed b) e)
+    λ h. by-lt (λ (p : Piece). p .err ≡ 0 → EscapedAt ed (b ∷ s)) 0 (simpleEscape ed b)
+    (λ l e. let x = simple-is ed b l in record { t = b ∷ []; rest = s; v = simpleEscape ed b; split = refl; char = x .0; names = x .1 })
     (λ l e. absurd (omega arith))

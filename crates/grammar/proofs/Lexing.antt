@@ -12,6 +12,7 @@ use Rattle.text.proofs.EncodeLaws.{encode-length}
 use Rattle.token.specs.declared.TokenKind.{TokenKind}
 use Rattle.lexer.specs.Extents.{lineTail, triple}
 use Rattle.lexer.specs.Table.{kindBy, kindOf, extent, tokenLen}
+use Rattle.strings.specs.declared.Edition.{Edition}
 use Rattle.grammar.specs.Grammar.{LiteralChars, LiteralString, literal-string, BasicUnescaped, EscapeSeqChar, escaped, basic-unescaped, escaped-char, BasicChars, BasicString, basic-string, MlLiteralString, ml-literal-string, MlBasicString, ml-basic-string}
 use Rattle.grammar.specs.Strings.{StringKind, literal, basic, ml-literal, ml-basic, tokenKind, mark, Apart, Derived}
 use Rattle.grammar.proofs.ListLaws.{all-weaken}
@@ -85,63 +86,65 @@ literal-token (literal-string {s} d) rest h =
 char-in : {c : ℕ} → BasicUnescaped c → All (InLine 34) (encodeScalar c)
 char-in {c} x = char-bytes (line-high 34 (omega arith)) c (basic-in x)
 
-slashed : {t : List ℕ} {v : ℕ} → EscapeSeqChar t v → (r : List ℕ) → encodes ((0x5C ∷ t) ++ r) ≡ 0x5C ∷ (t ++ encodes r)
-slashed {t} e r = encodes-ascii (0x5C ∷ t) r (omega arith, escape-ascii e)
+-- in one edition of TOML
+module _ (ed : Edition) where
+  slashed : {t : List ℕ} {v : ℕ} → EscapeSeqChar ed t v → (r : List ℕ) → encodes ((0x5C ∷ t) ++ r) ≡ 0x5C ∷ (t ++ encodes r)
+  slashed {t} e r = encodes-ascii (0x5C ∷ t) r (omega arith, escape-ascii e)
 
-escape-line : {t : List ℕ} {v : ℕ} → EscapeSeqChar t v → (s : List ℕ)
-    → lineTail 34 false (92 ∷ (t ++ s)) ≡ suc (length t) + lineTail 34 false s
-escape-line {t} e s =
-    let w = shape e in
-    let digits = all-weaken digit-in (w .r) (w .each) in
-    let a = line-hidden (w .b) (w .r ++ s) (λ z. omega (arith, w .visible)) in
-    let b = pass-all (lineTail 34 false) (InLine 34) (line-pass 34) (w .r) digits s in
-    ap (λ x. lineTail 34 false (92 ∷ (x ++ s))) (w .is) ∙ omega (arith, ap length (w .is))
+  escape-line : {t : List ℕ} {v : ℕ} → EscapeSeqChar ed t v → (s : List ℕ)
+      → lineTail 34 false (92 ∷ (t ++ s)) ≡ suc (length t) + lineTail 34 false s
+  escape-line {t} e s =
+      let w = shape e in
+      let digits = all-weaken digit-in (w .r) (w .each) in
+      let a = line-hidden (w .b) (w .r ++ s) (λ z. omega (arith, w .visible)) in
+      let b = pass-all (lineTail 34 false) (InLine 34) (line-pass 34) (w .r) digits s in
+      ap (λ x. lineTail 34 false (92 ∷ (x ++ s))) (w .is) ∙ omega (arith, ap length (w .is))
 
-basic-tail : {s v : List ℕ} → BasicChars s v → (rest : List ℕ) → lineTail 34 false (encodes s ++ (34 ∷ rest)) ≡ suc (length (encodes s))
-basic-tail BasicChars.stop rest = line-close 34 rest
-basic-tail (BasicChars.more {r = r} (basic-unescaped {c} x) d) rest =
-    let p = pass-all (lineTail 34 false) (InLine 34) (line-pass 34) (encodeScalar c) (char-in x) (encodes r ++ (34 ∷ rest)) in
-    rw (append-assoc (encodeScalar c) (encodes r) (34 ∷ rest), length-append (encodeScalar c) (encodes r))
-    (omega (arith, basic-tail d rest))
-basic-tail (BasicChars.more {r = r} (escaped-char (escaped {t} x)) d) rest =
-    rw (slashed x r, append-assoc t (encodes r) (34 ∷ rest), length-append t (encodes r))
-    (omega (arith, escape-line x (encodes r ++ (34 ∷ rest)), basic-tail d rest))
+  basic-tail : {s v : List ℕ} → BasicChars ed s v → (rest : List ℕ) → lineTail 34 false (encodes s ++ (34 ∷ rest)) ≡ suc (length (encodes s))
+  basic-tail BasicChars.stop rest = line-close 34 rest
+  basic-tail (BasicChars.more {r = r} (basic-unescaped {c} x) d) rest =
+      let p = pass-all (lineTail 34 false) (InLine 34) (line-pass 34) (encodeScalar c) (char-in x) (encodes r ++ (34 ∷ rest)) in
+      rw (append-assoc (encodeScalar c) (encodes r) (34 ∷ rest), length-append (encodeScalar c) (encodes r))
+      (omega (arith, basic-tail d rest))
+  basic-tail (BasicChars.more {r = r} (escaped-char (escaped {t} x)) d) rest =
+      rw (slashed x r, append-assoc t (encodes r) (34 ∷ rest), length-append t (encodes r))
+      (omega (arith, escape-line x (encodes r ++ (34 ∷ rest)), basic-tail d rest))
 
-basic-triple : {s v : List ℕ} → BasicChars s v → (rest : List ℕ) → Apart 34 rest → triple 34 (34 ∷ (encodes s ++ (34 ∷ rest))) ≡ false
-basic-triple BasicChars.stop rest h = triple-two 34 rest h
-basic-triple (BasicChars.more {r = r} (basic-unescaped {c} x) d) rest h =
-    rw (append-assoc (encodeScalar c) (encodes r) (34 ∷ rest))
-    (first (encodeScalar c) (encodes r ++ (34 ∷ rest)) (char-in x) (encode-length c .0))
-  where
-    first : (x s : List ℕ) → All (InLine 34) x → 0 < length x → triple 34 (34 ∷ (x ++ s)) ≡ false
-    first [] s k l = absurd (omega arith)
-    first (b ∷ x) s k l = triple-no 34 b (x ++ s) (k .0 .0 .0)
-basic-triple (BasicChars.more {r = r} (escaped-char (escaped {t} x)) d) rest h =
-    rw (slashed x r) (triple-no 34 0x5C ((t ++ encodes r) ++ (34 ∷ rest)) (λ e. omega arith))
+  basic-triple : {s v : List ℕ} → BasicChars ed s v → (rest : List ℕ) → Apart 34 rest → triple 34 (34 ∷ (encodes s ++ (34 ∷ rest))) ≡ false
+  basic-triple BasicChars.stop rest h = triple-two 34 rest h
+  basic-triple (BasicChars.more {r = r} (basic-unescaped {c} x) d) rest h =
+      rw (append-assoc (encodeScalar c) (encodes r) (34 ∷ rest))
+      (first (encodeScalar c) (encodes r ++ (34 ∷ rest)) (char-in x) (encode-length c .0))
+    where
+      first : (x s : List ℕ) → All (InLine 34) x → 0 < length x → triple 34 (34 ∷ (x ++ s)) ≡ false
+      first [] s k l = absurd (omega arith)
+      first (b ∷ x) s k l = triple-no 34 b (x ++ s) (k .0 .0 .0)
+  basic-triple (BasicChars.more {r = r} (escaped-char (escaped {t} x)) d) rest h =
+      rw (slashed x r) (triple-no 34 0x5C ((t ++ encodes r) ++ (34 ∷ rest)) (λ e. omega arith))
 
-basic-token : {cs v : List ℕ} → BasicString cs v → (rest : List ℕ) → Apart 34 rest → IsToken (tokenKind basic) (encodes cs) rest
-unfolding extent
-basic-token (basic-string {t} d) rest h =
-    let e = marked-rest 34 (omega arith) t rest in
-    token-of (tokenKind basic) (encodes (marked 34 t)) rest (ap kindOf e ∙ kind-quote (encodes t ++ (34 ∷ rest)) (basic-triple d rest h))
-    (ap (λ x. suc (lineTail 34 false (drop 1 x))) e ∙ omega (arith, basic-tail d rest, marked-long 34 (omega arith) t))
+  basic-token : {cs v : List ℕ} → BasicString ed cs v → (rest : List ℕ) → Apart 34 rest → IsToken (tokenKind basic) (encodes cs) rest
+  unfolding extent
+  basic-token (basic-string {t} d) rest h =
+      let e = marked-rest 34 (omega arith) t rest in
+      token-of (tokenKind basic) (encodes (marked 34 t)) rest (ap kindOf e ∙ kind-quote (encodes t ++ (34 ∷ rest)) (basic-triple d rest h))
+      (ap (λ x. suc (lineTail 34 false (drop 1 x))) e ∙ omega (arith, basic-tail d rest, marked-long 34 (omega arith) t))
 
--- ---- the multi-line kinds
+  -- ---- the multi-line kinds
 
-ml-literal-kind : {cs v : List ℕ} → MlLiteralString cs v → (rest : List ℕ) → kindOf (encodes cs ++ rest) ≡ tokenKind ml-literal
-ml-literal-kind (ml-literal-string {b = b} o d) rest =
-    ap (λ x. kindOf (x ++ rest)) (encodes-fenced 39 (omega arith) o b) ∙ kind-apostrophes _
+  ml-literal-kind : {cs v : List ℕ} → MlLiteralString cs v → (rest : List ℕ) → kindOf (encodes cs ++ rest) ≡ tokenKind ml-literal
+  ml-literal-kind (ml-literal-string {b = b} o d) rest =
+      ap (λ x. kindOf (x ++ rest)) (encodes-fenced 39 (omega arith) o b) ∙ kind-apostrophes _
 
-ml-basic-kind : {cs v : List ℕ} → MlBasicString cs v → (rest : List ℕ) → kindOf (encodes cs ++ rest) ≡ tokenKind ml-basic
-ml-basic-kind (ml-basic-string {b = b} o d) rest = ap (λ x. kindOf (x ++ rest)) (encodes-fenced 34 (omega arith) o b) ∙ kind-quotes _
+  ml-basic-kind : {cs v : List ℕ} → MlBasicString ed cs v → (rest : List ℕ) → kindOf (encodes cs ++ rest) ≡ tokenKind ml-basic
+  ml-basic-kind (ml-basic-string {b = b} o d) rest = ap (λ x. kindOf (x ++ rest)) (encodes-fenced 34 (omega arith) o b) ∙ kind-quotes _
 
--- ---- all four
+  -- ---- all four
 
-pub derived-token : (s : StringKind) (cs v rest : List ℕ) → Derived s cs v → Apart (mark s) rest → IsToken (tokenKind s) (encodes cs) rest
-unfolding extent
-derived-token literal cs v rest d h = literal-token d rest h
-derived-token basic cs v rest (d, n) h = basic-token d rest h
-derived-token ml-literal cs v rest d h =
-    token-of (tokenKind ml-literal) (encodes cs) rest (ml-literal-kind d rest) (ml-literal-lexed d rest h)
-derived-token ml-basic cs v rest (d, n) h =
-    token-of (tokenKind ml-basic) (encodes cs) rest (ml-basic-kind d rest) (ml-basic-lexed d n rest h)
+  pub derived-token : (s : StringKind) (cs v rest : List ℕ) → Derived ed s cs v → Apart (mark s) rest → IsToken (tokenKind s) (encodes cs) rest
+  unfolding extent
+  derived-token literal cs v rest d h = literal-token d rest h
+  derived-token basic cs v rest (d, n) h = basic-token d rest h
+  derived-token ml-literal cs v rest d h =
+      token-of (tokenKind ml-literal) (encodes cs) rest (ml-literal-kind d rest) (ml-literal-lexed d rest h)
+  derived-token ml-basic cs v rest (d, n) h =
+      token-of (tokenKind ml-basic) (encodes cs) rest (ml-basic-kind d rest) (ml-basic-lexed ed d n rest h)

@@ -11,6 +11,8 @@ use Rattle.classes.specs.Classes.{wschar, literalChar, mllChar, basicUnescaped,
 use Rattle.classes.specs.Runs.{run}
 use Rattle.classes.proofs.Conds.{not-both}
 use Rattle.text.specs.Utf8.{encodeScalar, encodes}
+use Rattle.strings.specs.declared.Edition.{Edition}
+use Rattle.strings.specs.declared.Edition.the-variants.{Toml10, Toml11}
 use Rattle.strings.specs.Encodings.{mllPlain, mlbPlain, basicInvalid}
 use Rattle.strings.specs.Pieces.{gives, notes}
 use Rattle.strings.specs.Escapes.{simpleEscape, hexLength, hexValue, hexFrom, hexPiece, escapePiece}
@@ -27,15 +29,15 @@ use Rattle.grammar.proofs.BasicStrings.{basic-complete}
 use Rattle.grammar.proofs.Lexing.{derived-token}
 
 -- t decodes to o, without error
-abbrev Decodes : StringKind → List ℕ → List ℕ → Type 0
-Decodes s t o = (errorsOf (encoding s) t ≡ []) × (bytesOf (encoding s) t ≡ o)
+abbrev Decodes : Edition → StringKind → List ℕ → List ℕ → Type 0
+Decodes ed s t o = (errorsOf (encoding ed s) t ≡ []) × (bytesOf (encoding ed s) t ≡ o)
 
 -- ---- '''a'''b''' decodes without error, and yet nothing derives it: no lexing yields it, its token ends behind seven bytes
 
 abbrev unlexed : List ℕ
 unlexed = 39 ∷ 39 ∷ 39 ∷ 97 ∷ 39 ∷ 39 ∷ 39 ∷ 98 ∷ 39 ∷ 39 ∷ 39 ∷ []
 
-pub unlexed-decodes : Decodes ml-literal unlexed (97 ∷ 39 ∷ 39 ∷ 39 ∷ 98 ∷ [])
+pub unlexed-decodes : Decodes Toml10 ml-literal unlexed (97 ∷ 39 ∷ 39 ∷ 39 ∷ 98 ∷ [])
 unfolding errorsOf bytesOf mlEnds mlStart mlClosed mlEnd newlineLen threes notes gives mlLiteralPiece run mllPlain mllChar
 unlexed-decodes = (refl, refl)
 
@@ -47,9 +49,9 @@ unlexed-long : length (encodes unlexed) ≡ 11
 unfolding encodeScalar
 unlexed-long = refl
 
-pub unlexed-not-derived : (v : List ℕ) → Derived ml-literal unlexed v → ⊥
+pub unlexed-not-derived : (v : List ℕ) → Derived Toml10 ml-literal unlexed v → ⊥
 unlexed-not-derived v d =
-    let t = derived-token ml-literal unlexed v [] d (λ z. omega arith) in omega (arith, t .1, unlexed-short, unlexed-long)
+    let t = derived-token Toml10 ml-literal unlexed v [] d (λ z. omega arith) in omega (arith, t .1, unlexed-short, unlexed-long)
 
 -- ---- "\q" has no derivation
 
@@ -63,7 +65,7 @@ unescaped-slash = refl
 no-slash : {c : ℕ} → BasicUnescaped c → c ≡ 92 → ⊥
 no-slash u e = not-both (basic-at u) (ap basicUnescaped e ∙ unescaped-slash)
 
-first-q : {t : List ℕ} {v : ℕ} → EscapeSeqChar t v → (r s : List ℕ) → t ++ r ≡ 113 ∷ s → ⊥
+first-q : {ed : Edition} {t : List ℕ} {v : ℕ} → EscapeSeqChar ed t v → (r s : List ℕ) → t ++ r ≡ 113 ∷ s → ⊥
 first-q EscapeSeqChar.x22 r s e = let z : _≡_ {A = ℕ} 0x22 113 = cc in omega arith
 first-q EscapeSeqChar.x5C r s e = let z : _≡_ {A = ℕ} 0x5C 113 = cc in omega arith
 first-q EscapeSeqChar.x62 r s e = let z : _≡_ {A = ℕ} 0x62 113 = cc in omega arith
@@ -73,23 +75,25 @@ first-q EscapeSeqChar.x72 r s e = let z : _≡_ {A = ℕ} 0x72 113 = cc in omega
 first-q EscapeSeqChar.x74 r s e = let z : _≡_ {A = ℕ} 0x74 113 = cc in omega arith
 first-q (EscapeSeqChar.x75 d) r s e = let z : _≡_ {A = ℕ} 0x75 113 = cc in omega arith
 first-q (EscapeSeqChar.x55 d) r s e = let z : _≡_ {A = ℕ} 0x55 113 = cc in omega arith
+first-q EscapeSeqChar.x65 r s e = let z : _≡_ {A = ℕ} 0x65 113 = cc in omega arith
+first-q (EscapeSeqChar.x78 d) r s e = let z : _≡_ {A = ℕ} 0x78 113 = cc in omega arith
 
-no-chars : {t v : List ℕ} → BasicChars t v → t ++ (34 ∷ []) ≡ 92 ∷ 113 ∷ 34 ∷ [] → ⊥
+no-chars : {ed : Edition} {t v : List ℕ} → BasicChars ed t v → t ++ (34 ∷ []) ≡ 92 ∷ 113 ∷ 34 ∷ [] → ⊥
 no-chars BasicChars.stop e = let z : _≡_ {A = ℕ} 34 92 = cc in omega arith
 no-chars (BasicChars.more {r = r} (BasicChar.basic-unescaped {c} u) d) e = let z : c ≡ 92 = cc in no-slash u z
 no-chars (BasicChars.more {r = r} (BasicChar.escaped-char (escaped {t} x)) d) e =
     let y : (t ++ r) ++ (34 ∷ []) ≡ 113 ∷ 34 ∷ [] = cc in
     first-q x (r ++ (34 ∷ [])) (34 ∷ []) (sym (append-assoc t r (34 ∷ [])) ∙ y)
 
-pub unknown-not-derived : (cs v : List ℕ) → BasicString cs v → cs ≡ unknown-escape → ⊥
-unknown-not-derived cs v (basic-string {t} d) e = let y : t ++ (34 ∷ []) ≡ 92 ∷ 113 ∷ 34 ∷ [] = cc in no-chars d y
+pub unknown-not-derived : (ed : Edition) (cs v : List ℕ) → BasicString ed cs v → cs ≡ unknown-escape → ⊥
+unknown-not-derived ed cs v (basic-string {t} d) e = let y : t ++ (34 ∷ []) ≡ 92 ∷ 113 ∷ 34 ∷ [] = cc in no-chars d y
 
 -- ---- "\uD800" has a derivation, and none whose escapes name scalar values
 
 abbrev surrogate : List ℕ
 surrogate = 34 ∷ 92 ∷ 117 ∷ 68 ∷ 56 ∷ 48 ∷ 48 ∷ 34 ∷ []
 
-pub surrogate-derived : BasicString surrogate (0xD800 ∷ [])
+pub surrogate-derived : BasicString Toml10 surrogate (0xD800 ∷ [])
 surrogate-derived =
     basic-string (BasicChars.more (BasicChar.escaped-char (escaped (EscapeSeqChar.x75
     (HexDigits.more (HexDig.upper {d = 13} refl (omega arith) (omega arith))
@@ -97,12 +101,12 @@ surrogate-derived =
     (HexDigits.more (HexDig.digit {d = 0} refl (omega arith))
     (HexDigits.more (HexDig.digit {d = 0} refl (omega arith)) HexDigits.stop))))))) BasicChars.stop)
 
-surrogate-error : errorsOf (encoding basic) (encodes surrogate) ≡ (10 ∷ 3 ∷ 3 ∷ []) ∷ []
+surrogate-error : errorsOf (encoding Toml10 basic) (encodes surrogate) ≡ (10 ∷ 3 ∷ 3 ∷ []) ∷ []
 unfolding encodeScalar errorsOf lineEnds notes basicPiece run basicUnescaped basicInvalid escapePiece hexLength hexPiece hexdig hexFrom hexValue
 surrogate-error = refl
 
-pub surrogate-not-derived : (v : List ℕ) → Derived basic surrogate v → ⊥
-surrogate-not-derived v (d, n) = cons≢nil (sym surrogate-error ∙ basic-complete d n .0)
+pub surrogate-not-derived : (v : List ℕ) → Derived Toml10 basic surrogate v → ⊥
+surrogate-not-derived v (d, n) = cons≢nil (sym surrogate-error ∙ basic-complete Toml10 d n .0)
 
 -- ---- the grammar alone reads ''' LF a''' in two ways: only the prose rule says which is meant
 
@@ -112,7 +116,7 @@ two-ways = 39 ∷ 39 ∷ 39 ∷ 10 ∷ 97 ∷ 39 ∷ 39 ∷ 39 ∷ []
 mll : (c : ℕ) → 0x28 ≤ c → c ≤ 0x7E → MllContent (c ∷ [])
 mll c h k = MllContent.mll-char (MllChar.x28-7E h k)
 
-pub two-readings : Derived ml-literal two-ways (97 ∷ []) × Derived ml-literal two-ways (10 ∷ 97 ∷ [])
+pub two-readings : Derived Toml10 ml-literal two-ways (97 ∷ []) × Derived Toml10 ml-literal two-ways (10 ∷ 97 ∷ [])
 two-readings =
     let a : MllContents (97 ∷ []) = MllContents.more (mll 97 (omega arith) (omega arith)) MllContents.stop in (
       ml-literal-string (OptNewline.present Newline.x0A) (ml-literal-body a MllGroups.stop OptMllQuotes.absent),
@@ -125,12 +129,12 @@ two-readings =
 abbrev literal-text : List ℕ
 literal-text = 39 ∷ 92 ∷ 0xE9 ∷ 39 ∷ []
 
-pub literal-means : Means literal literal-text (92 ∷ 0xE9 ∷ [])
+pub literal-means : Means Toml10 literal literal-text (92 ∷ 0xE9 ∷ [])
 literal-means =
     literal-string (LiteralChars.more (LiteralChar.x28-7E {c = 92} (omega arith) (omega arith))
     (LiteralChars.more (LiteralChar.non-ascii (NonAscii.x80-D7FF {c = 0xE9} (omega arith) (omega arith))) LiteralChars.stop))
 
-pub literal-decodes : Decodes literal (encodes literal-text) (92 ∷ 0xC3 ∷ 0xA9 ∷ [])
+pub literal-decodes : Decodes Toml10 literal (encodes literal-text) (92 ∷ 0xC3 ∷ 0xA9 ∷ [])
 unfolding encodeScalar errorsOf bytesOf notes lineEnds gives literalPiece run literalChar
 literal-decodes = (refl, refl)
 
@@ -139,7 +143,7 @@ literal-decodes = (refl, refl)
 abbrev basic-text : List ℕ
 basic-text = 34 ∷ 97 ∷ 92 ∷ 117 ∷ 48 ∷ 48 ∷ 69 ∷ 57 ∷ 92 ∷ 110 ∷ 34 ∷ []
 
-pub basic-means : Means basic basic-text (97 ∷ 0xE9 ∷ 10 ∷ [])
+pub basic-means : Means Toml10 basic basic-text (97 ∷ 0xE9 ∷ 10 ∷ [])
 basic-means = (
   basic-string (BasicChars.more (BasicChar.basic-unescaped (BasicUnescaped.x5D-7E {c = 97} (omega arith) (omega arith)))
       (BasicChars.more (BasicChar.escaped-char (escaped (EscapeSeqChar.x75
@@ -151,7 +155,7 @@ basic-means = (
   (tt, (inl (omega arith), (tt, tt))),
 )
 
-pub basic-decodes : Decodes basic (encodes basic-text) (97 ∷ 0xC3 ∷ 0xA9 ∷ 10 ∷ [])
+pub basic-decodes : Decodes Toml10 basic (encodes basic-text) (97 ∷ 0xC3 ∷ 0xA9 ∷ 10 ∷ [])
 unfolding encodeScalar errorsOf bytesOf notes lineEnds gives basicPiece run basicUnescaped escapePiece simpleEscape hexLength hexPiece hexdig hexFrom hexValue
 basic-decodes = (refl, refl)
 
@@ -160,7 +164,7 @@ basic-decodes = (refl, refl)
 abbrev ml-literal-text : List ℕ
 ml-literal-text = 39 ∷ 39 ∷ 39 ∷ 10 ∷ 97 ∷ 13 ∷ 10 ∷ 39 ∷ 39 ∷ 98 ∷ 39 ∷ 39 ∷ 39 ∷ []
 
-pub ml-literal-means : Means ml-literal ml-literal-text (97 ∷ 13 ∷ 10 ∷ 39 ∷ 39 ∷ 98 ∷ [])
+pub ml-literal-means : Means Toml10 ml-literal ml-literal-text (97 ∷ 13 ∷ 10 ∷ 39 ∷ 39 ∷ 98 ∷ [])
 ml-literal-means = (
   ml-literal-string (OptNewline.present Newline.x0A) (ml-literal-body
       (MllContents.more (mll 97 (omega arith) (omega arith)) (MllContents.more (MllContent.newline Newline.x0D-0A) MllContents.stop))
@@ -169,7 +173,7 @@ ml-literal-means = (
   tt,
 )
 
-pub ml-literal-decodes : Decodes ml-literal (encodes ml-literal-text) (97 ∷ 13 ∷ 10 ∷ 39 ∷ 39 ∷ 98 ∷ [])
+pub ml-literal-decodes : Decodes Toml10 ml-literal (encodes ml-literal-text) (97 ∷ 13 ∷ 10 ∷ 39 ∷ 39 ∷ 98 ∷ [])
 unfolding encodeScalar errorsOf bytesOf notes mlEnds mlStart mlClosed mlEnd newlineLen threes gives mlLiteralPiece run mllPlain mllChar
 ml-literal-decodes = (refl, refl)
 
@@ -178,18 +182,18 @@ ml-literal-decodes = (refl, refl)
 abbrev ml-basic-text : List ℕ
 ml-basic-text = 34 ∷ 34 ∷ 34 ∷ 97 ∷ 92 ∷ 32 ∷ 10 ∷ 32 ∷ 34 ∷ 98 ∷ 13 ∷ 10 ∷ 34 ∷ 34 ∷ 34 ∷ []
 
-mlb : (c : ℕ) → 0x5D ≤ c → c ≤ 0x7E → MlbContent (c ∷ []) (c ∷ [])
+mlb : (c : ℕ) → 0x5D ≤ c → c ≤ 0x7E → MlbContent Toml10 (c ∷ []) (c ∷ [])
 mlb c h k = MlbContent.mlb-char (MlbChar.mlb-unescaped (MlbUnescaped.x5D-7E h k))
 
-line-end : MlbContent (92 ∷ 32 ∷ 10 ∷ 32 ∷ []) []
+line-end : MlbContent Toml10 (92 ∷ 32 ∷ 10 ∷ 32 ∷ []) []
 line-end =
     MlbContent.escaped-nl (mlb-escaped-nl (Ws.more Wschar.x20 Ws.stop) Newline.x0A
     (WscharNewlines.more (WscharNewline.wschar Wschar.x20) WscharNewlines.stop))
 
-pub ml-basic-means : Means ml-basic ml-basic-text (97 ∷ 34 ∷ 98 ∷ 13 ∷ 10 ∷ [])
+pub ml-basic-means : Means Toml10 ml-basic ml-basic-text (97 ∷ 34 ∷ 98 ∷ 13 ∷ 10 ∷ [])
 unfolding startsNewline startsBlank mlb line-end
 ml-basic-means =
-    let line : MlbContents (13 ∷ 10 ∷ []) (13 ∷ 10 ∷ []) = MlbContents.more (MlbContent.newline Newline.x0D-0A) MlbContents.stop in (
+    let line : MlbContents Toml10 (13 ∷ 10 ∷ []) (13 ∷ 10 ∷ []) = MlbContents.more (MlbContent.newline Newline.x0D-0A) MlbContents.stop in (
       ml-basic-string OptNewline.absent (ml-basic-body
           (MlbContents.more (mlb 97 (omega arith) (omega arith)) (MlbContents.more line-end MlbContents.stop))
           (MlbGroups.more MlbQuotes.one (MlbContents1.some-content (mlb 98 (omega arith) (omega arith)) line) MlbGroups.stop)
@@ -198,6 +202,31 @@ ml-basic-means =
       (refl, ((tt, (refl, tt)), ((tt, (tt, tt)), tt))),
     )
 
-pub ml-basic-decodes : Decodes ml-basic (encodes ml-basic-text) (97 ∷ 34 ∷ 98 ∷ 13 ∷ 10 ∷ [])
+pub ml-basic-decodes : Decodes Toml10 ml-basic (encodes ml-basic-text) (97 ∷ 34 ∷ 98 ∷ 13 ∷ 10 ∷ [])
 unfolding encodeScalar errorsOf bytesOf notes mlEnds mlStart mlClosed mlEnd newlineLen threes gives mlBasicPiece mlbContent run mlbPlain mlbUnescaped skips wschar escapedNl escapedMore escapePiece
 ml-basic-decodes = (refl, refl)
+
+-- ---- the editions differ: "\e\x41" means U+001B and A in TOML 1.1, and TOML 1.0 does not derive it
+
+abbrev later-text : List ℕ
+later-text = 34 ∷ 92 ∷ 101 ∷ 92 ∷ 120 ∷ 52 ∷ 49 ∷ 34 ∷ []
+
+pub later-means : Means Toml11 basic later-text (0x1B ∷ 0x41 ∷ [])
+later-means = (
+  basic-string (BasicChars.more (BasicChar.escaped-char (escaped EscapeSeqChar.x65))
+      (BasicChars.more (BasicChar.escaped-char (escaped (EscapeSeqChar.x78
+      (HexDigits.more (HexDig.digit {d = 4} refl (omega arith))
+      (HexDigits.more (HexDig.digit {d = 1} refl (omega arith)) HexDigits.stop))))) BasicChars.stop)),
+  (tt, (tt, tt)),
+)
+
+pub later-decodes : Decodes Toml11 basic (encodes later-text) (0x1B ∷ 0x41 ∷ [])
+unfolding encodeScalar errorsOf bytesOf notes lineEnds gives basicPiece run basicUnescaped escapePiece simpleEscape hexLength hexPiece hexdig hexFrom hexValue
+later-decodes = (refl, refl)
+
+later-error : errorsOf (encoding Toml10 basic) (encodes later-text) ≡ (8 ∷ 2 ∷ 2 ∷ []) ∷ (8 ∷ 4 ∷ 4 ∷ []) ∷ []
+unfolding encodeScalar errorsOf lineEnds notes basicPiece run basicUnescaped basicInvalid escapePiece simpleEscape hexLength
+later-error = refl
+
+pub later-not-derived : (v : List ℕ) → Derived Toml10 basic later-text v → ⊥
+later-not-derived v (d, n) = cons≢nil (sym later-error ∙ basic-complete Toml10 d n .0)

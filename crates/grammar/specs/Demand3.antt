@@ -1,5 +1,5 @@
--- RULE. Demand 3, in full: TOML 1.0.0's grammar of strings against the lexer and the decoders. The statement only; it is
--- proved in proofs/Demand3Laws.antt, `demand-3`.
+-- RULE. Demand 3, in full, for each edition of TOML: its grammar of strings against the lexer and the decoders. The statement
+-- only; it is proved in proofs/Demand3Laws.antt, `demand-3`.
 --
 -- For every token of a string kind that lexing gives of a document in UTF-8 and within the limit: decoding its text has no
 -- error exactly where the grammar derives the text with escapes that name scalar values; the decoded bytes are then the
@@ -8,7 +8,7 @@
 --
 -- The names: `tokensOf`, `stepOf` (lexer) are whole lexing and a step; `textOf doc r` (lexing) is the part of doc from the
 -- start of the token r to its end; `errorsOf`, `bytesOf` (strings) are the errors and the bytes of a decoded text;
--- `decodeOf`, `after` (strings) are what `decode` promises to answer and to leave in lent memory; `encodes` (text) is the
+-- `decodeIn`, `after` (strings) are what `decode_in` promises to answer and to leave in lent memory; `encodes` (text) is the
 -- UTF-8 of scalar values; `Derived`, `Means`, `Apart` (Strings.antt) are the grammar's side.
 -- Newlines are not normalised: the grammar gives a newline in a multi-line string its own code points as its value
 -- (Grammar.antt, `MlbContent.newline`; the value of an ml-literal-body is its text), and the bytes are that value's.
@@ -20,10 +20,11 @@ use mathlib.Core.List.{List, [], _++_, List·Memᴰ}
 use lib.ListN.{length, drop}
 use Rattle.text.specs.Utf8.{Scalar, encodes, All, Utf8}
 use Rattle.text.specs.Refusals.{limit}
+use Rattle.strings.specs.declared.Edition.{Edition}
 use Rattle.strings.specs.declared.Decoded.{Decoded}
 use Rattle.strings.specs.declared.Decoded.the-variants.{Written}
-use Rattle.strings.specs.Encodings.{encodingOf}
-use Rattle.strings.specs.Decoding.{bytesOf, errorsOf, bytesBy, decodeOf, after, decodedNumber}
+use Rattle.strings.specs.Encodings.{encodingBy, editionNumber}
+use Rattle.strings.specs.Decoding.{bytesOf, errorsOf, bytesBy, decodeIn, after, decodedNumber}
 use Rattle.token.specs.KindNumbers.{kindNumber}
 use Rattle.token.specs.Records.{tokenOf}
 use Rattle.token.specs.declared.Token.{Token}
@@ -37,68 +38,70 @@ use Rattle.grammar.specs.Strings.{StringKind, tokenKind, encoding, mark,
 
 -- ---- texts, in bytes
 
--- the bytes t are UTF-8, and the grammar derives their code points with the value v
-pub record TextDerived (s : StringKind) (t v : List ℕ) : Type 0 where
+-- the bytes t are UTF-8, and the edition's grammar derives their code points with the value v
+pub record TextDerived (ed : Edition) (s : StringKind) (t v : List ℕ) : Type 0 where
   pub points : List ℕ
   pub scalar : All Scalar points
   pub text : encodes points ≡ t
-  pub derives : Derived s points v
+  pub derives : Derived ed s points v
 
 -- the same, by the prose rules too: the text t means v
-pub record TextMeans (s : StringKind) (t v : List ℕ) : Type 0 where
+pub record TextMeans (ed : Edition) (s : StringKind) (t v : List ℕ) : Type 0 where
   pub points : List ℕ
   pub scalar : All Scalar points
   pub text : encodes points ≡ t
-  pub means : Means s points v
+  pub means : Means ed s points v
 
--- ---- the call `decode`, by the kind's number, with an output that holds `out` and with e error records
+-- ---- the call `decode_in`, by the numbers of the edition and the kind, with an output that holds `out` and with e error records
 
 -- its answer
-abbrev pub answerOf : StringKind → List ℕ → List ℕ → ℕ → Decoded
-answerOf s t out e = decodeOf t (kindNumber (tokenKind s)) (length out) e
+abbrev pub answerOf : Edition → StringKind → List ℕ → List ℕ → ℕ → Decoded
+answerOf ed s t out e = decodeIn t (editionNumber ed) (kindNumber (tokenKind s)) (length out) e
 
 -- what the output holds afterwards
-abbrev pub outputOf : StringKind → List ℕ → List ℕ → ℕ → List ℕ
-outputOf s t out e = after (answerOf s t out e) (bytesBy (encodingOf (kindNumber (tokenKind s))) t) out
+abbrev pub outputOf : Edition → StringKind → List ℕ → List ℕ → ℕ → List ℕ
+outputOf ed s t out e =
+    after (answerOf ed s t out e) (bytesBy (encodingBy (editionNumber ed) (kindNumber (tokenKind s))) t) out
 
-pub record Called (s : StringKind) (t out : List ℕ) (e : ℕ) : Type 0 where
-  -- refusals 2, 1 and 7 never occur
-  pub within-limit : decodedNumber (answerOf s t out e) ≡ 2 → ⊥
-  pub valid : decodedNumber (answerOf s t out e) ≡ 1 → ⊥
-  pub known : decodedNumber (answerOf s t out e) ≡ 7 → ⊥
+pub record Called (ed : Edition) (s : StringKind) (t out : List ℕ) (e : ℕ) : Type 0 where
+  -- refusals 2, 1, 7 and 9 never occur
+  pub within-limit : decodedNumber (answerOf ed s t out e) ≡ 2 → ⊥
+  pub valid : decodedNumber (answerOf ed s t out e) ≡ 1 → ⊥
+  pub known : decodedNumber (answerOf ed s t out e) ≡ 7 → ⊥
+  pub named : decodedNumber (answerOf ed s t out e) ≡ 9 → ⊥
   -- 4 exactly where the output is too short
-  pub short : (decodedNumber (answerOf s t out e) ≡ 4) ↔ (length out < length (bytesOf (encoding s) t))
+  pub short : (decodedNumber (answerOf ed s t out e) ≡ 4) ↔ (length out < length (bytesOf (encoding ed s) t))
   -- 5 exactly where it is not, and the error records are too few
-  pub few : (decodedNumber (answerOf s t out e) ≡ 5)
-      ↔ ((length (bytesOf (encoding s) t) ≤ length out) × (e < length (errorsOf (encoding s) t)))
+  pub few : (decodedNumber (answerOf ed s t out e) ≡ 5)
+      ↔ ((length (bytesOf (encoding ed s) t) ≤ length out) × (e < length (errorsOf (encoding ed s) t)))
   -- else it is answered
-  pub answered : (decodedNumber (answerOf s t out e) ≡ 0)
-      ↔ ((length (bytesOf (encoding s) t) ≤ length out) × (length (errorsOf (encoding s) t) ≤ e))
+  pub answered : (decodedNumber (answerOf ed s t out e) ≡ 0)
+      ↔ ((length (bytesOf (encoding ed s) t) ≤ length out) × (length (errorsOf (encoding ed s) t) ≤ e))
   -- given room for the bytes, no error exactly where the text is derived
-  pub no-error : length (bytesOf (encoding s) t) ≤ length out
-      → (answerOf s t out e ≡ Written (length (bytesOf (encoding s) t)) 0) ↔ ((v : List ℕ) × TextDerived s t v)
+  pub no-error : length (bytesOf (encoding ed s) t) ≤ length out
+      → (answerOf ed s t out e ≡ Written (length (bytesOf (encoding ed s) t)) 0) ↔ ((v : List ℕ) × TextDerived ed s t v)
   -- n bytes and no error exactly where it means a value whose encoding has n bytes and fits
-  pub meaning : (n : ℕ) → (answerOf s t out e ≡ Written n 0)
-      ↔ ((v : List ℕ) × TextMeans s t v × (n ≡ length (encodes v)) × (length (encodes v) ≤ length out))
+  pub meaning : (n : ℕ) → (answerOf ed s t out e ≡ Written n 0)
+      ↔ ((v : List ℕ) × TextMeans ed s t v × (n ≡ length (encodes v)) × (length (encodes v) ≤ length out))
   -- and then these stand at the front of the output, and the rest of it is kept
-  pub output : (v : List ℕ) → TextMeans s t v → length (encodes v) ≤ length out
-      → outputOf s t out e ≡ encodes v ++ drop (length (encodes v)) out
+  pub output : (v : List ℕ) → TextMeans ed s t v → length (encodes v) ≤ length out
+      → outputOf ed s t out e ≡ encodes v ++ drop (length (encodes v)) out
 
 -- ---- what is demanded of the text t of a token of the kind s
 
-pub record Agrees (s : StringKind) (t : List ℕ) : Type 0 where
+pub record Agrees (ed : Edition) (s : StringKind) (t : List ℕ) : Type 0 where
   -- the text is UTF-8: lexing has cut no character
   pub whole : Utf8 t
   -- no error exactly where the text is derived with escapes that name scalar values
-  pub derived : (errorsOf (encoding s) t ≡ []) ↔ ((v : List ℕ) × TextDerived s t v)
+  pub derived : (errorsOf (encoding ed s) t ≡ []) ↔ ((v : List ℕ) × TextDerived ed s t v)
   -- and exactly where some derivation obeys the prose rules too: one does wherever any is
-  pub meant : (errorsOf (encoding s) t ≡ []) ↔ ((v : List ℕ) × TextMeans s t v)
+  pub meant : (errorsOf (encoding ed s) t ≡ []) ↔ ((v : List ℕ) × TextMeans ed s t v)
   -- the decoded bytes are then the encoding of its value
-  pub value : (v : List ℕ) → TextMeans s t v → bytesOf (encoding s) t ≡ encodes v
+  pub value : (v : List ℕ) → TextMeans ed s t v → bytesOf (encoding ed s) t ≡ encodes v
   -- and all that obey the prose rules have that value
-  pub one : (v w : List ℕ) → TextMeans s t v → TextMeans s t w → v ≡ w
+  pub one : (v w : List ℕ) → TextMeans ed s t v → TextMeans ed s t w → v ≡ w
   -- the same of the call
-  pub called : (out : List ℕ) (e : ℕ) → Called s t out e
+  pub called : (out : List ℕ) (e : ℕ) → Called ed s t out e
 
 -- ---- the cursors that steps reach from the start
 
@@ -108,24 +111,24 @@ pub data Reached (doc : List ℕ) : Cursor → Type 0 where
 
 -- ---- the demand
 
-pub record Demand3 : Type 0 where
+pub record Demand3 (ed : Edition) : Type 0 where
   -- every string token of whole lexing, of a document that is UTF-8 and within the limit
   pub tokens : (doc : List ℕ) → Utf8 doc → length doc ≤ limit → (r : Token) → List·Memᴰ r (tokensOf doc)
-      → (s : StringKind) → r .kind ≡ tokenKind s → Agrees s (textOf doc r)
+      → (s : StringKind) → r .kind ≡ tokenKind s → Agrees ed s (textOf doc r)
   -- every string token that a step gives at a place from which on the document is UTF-8, by any cursor
   pub steps : (doc : List ℕ) (c : Cursor) → Utf8 (drop (c .place) doc) → (r : Token) (d : Cursor) → stepOf doc c ≡ Given r d
-      → (s : StringKind) → r .kind ≡ tokenKind s → Agrees s (textOf doc r)
+      → (s : StringKind) → r .kind ≡ tokenKind s → Agrees ed s (textOf doc r)
   -- steps from the start of a document in UTF-8 reach such places only
   pub reached : (doc : List ℕ) → Utf8 doc → (c : Cursor) → Reached doc c → Utf8 (drop (c .place) doc)
   -- and give tokens of whole lexing only
   pub listed : (doc : List ℕ) (c : Cursor) → Reached doc c → (r : Token) (d : Cursor) → stepOf doc c ≡ Given r d
       → List·Memᴰ r (tokensOf doc)
   -- a derived text at any cursor's place, its own quote mark not behind it, is the token that a step gives there
-  pub step-back : (doc : List ℕ) → length doc ≤ limit → (c : Cursor) (s : StringKind) (cs v rest : List ℕ) → Derived s cs v
+  pub step-back : (doc : List ℕ) → length doc ≤ limit → (c : Cursor) (s : StringKind) (cs v rest : List ℕ) → Derived ed s cs v
       → drop (c .place) doc ≡ encodes cs ++ rest → Apart (mark s) rest
       → stepOf doc c
       ≡ Given (tokenOf (tokenKind s) (c .place) (c .place + length (encodes cs))) (cursorOf (c .place + length (encodes cs)) (c .ended))
   -- and where whole lexing has a token r that starts there, r is that token
-  pub token-back : (doc : List ℕ) (r : Token) → List·Memᴰ r (tokensOf doc) → (s : StringKind) (cs v rest : List ℕ) → Derived s cs v
+  pub token-back : (doc : List ℕ) (r : Token) → List·Memᴰ r (tokensOf doc) → (s : StringKind) (cs v rest : List ℕ) → Derived ed s cs v
       → drop (r .span .start) doc ≡ encodes cs ++ rest → Apart (mark s) rest
       → r ≡ tokenOf (tokenKind s) (r .span .start) (r .span .start + length (encodes cs))

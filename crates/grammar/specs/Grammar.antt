@@ -1,11 +1,14 @@
--- RULE. TOML 1.0.0's ABNF of the four kinds of string, over code points: a definition for each rule, under its name, with
--- its line beside it, in the order of the published text. A family's last index is the value that TOML gives the text; where
+-- RULE. The ABNF of TOML 1.0.0 and of 1.1.0 for the four kinds of string, over code points: a definition for each rule, under
+-- its name, with its line beside it, in the order of the published text. The two differ in escape-seq-char alone: that rule,
+-- and those that reach it, take the edition. A family's last index is the value that TOML gives the text; where
 -- the value is the text itself it has no such index.
 -- A repetition `*rule` is `stop` or `more`; an option `[ rule ]` is `absent` or `present`.
 -- Assumes nothing.
 use Prim.Native.Nat.{ℕ, suc, _+_, _*_, _≤_, _<_}
 use mathlib.Core.Path.{_≡_}
 use mathlib.Core.List.{List, [], _∷_, _++_}
+use Rattle.strings.specs.declared.Edition.{Edition}
+use Rattle.strings.specs.declared.Edition.the-variants.{Toml11}
 
 -- ---- Whitespace
 
@@ -79,34 +82,39 @@ pub data HexDigits : ℕ → ℕ → List ℕ → ℕ → Type 0 where
 -- escape-seq-char =/ %x74         ; t    tab             U+0009
 -- escape-seq-char =/ %x75 4HEXDIG ; uXXXX                U+XXXX
 -- escape-seq-char =/ %x55 8HEXDIG ; UXXXXXXXX            U+XXXXXXXX
-pub data EscapeSeqChar : List ℕ → ℕ → Type 0 where
-  x22 : EscapeSeqChar (0x22 ∷ []) 0x22
-  x5C : EscapeSeqChar (0x5C ∷ []) 0x5C
-  x62 : EscapeSeqChar (0x62 ∷ []) 0x08
-  x66 : EscapeSeqChar (0x66 ∷ []) 0x0C
-  x6E : EscapeSeqChar (0x6E ∷ []) 0x0A
-  x72 : EscapeSeqChar (0x72 ∷ []) 0x0D
-  x74 : EscapeSeqChar (0x74 ∷ []) 0x09
-  x75 : {t : List ℕ} {v : ℕ} → HexDigits 4 0 t v → EscapeSeqChar (0x75 ∷ t) v
-  x55 : {t : List ℕ} {v : ℕ} → HexDigits 8 0 t v → EscapeSeqChar (0x55 ∷ t) v
+-- and in TOML 1.1.0:
+-- escape-seq-char =/ %x65         ; e    escape          U+001B
+-- escape-seq-char =/ %x78 2HEXDIG ; xHH                  U+00HH
+pub data EscapeSeqChar : Edition → List ℕ → ℕ → Type 0 where
+  x22 : {ed : Edition} → EscapeSeqChar ed (0x22 ∷ []) 0x22
+  x5C : {ed : Edition} → EscapeSeqChar ed (0x5C ∷ []) 0x5C
+  x62 : {ed : Edition} → EscapeSeqChar ed (0x62 ∷ []) 0x08
+  x66 : {ed : Edition} → EscapeSeqChar ed (0x66 ∷ []) 0x0C
+  x6E : {ed : Edition} → EscapeSeqChar ed (0x6E ∷ []) 0x0A
+  x72 : {ed : Edition} → EscapeSeqChar ed (0x72 ∷ []) 0x0D
+  x74 : {ed : Edition} → EscapeSeqChar ed (0x74 ∷ []) 0x09
+  x75 : {ed : Edition} {t : List ℕ} {v : ℕ} → HexDigits 4 0 t v → EscapeSeqChar ed (0x75 ∷ t) v
+  x55 : {ed : Edition} {t : List ℕ} {v : ℕ} → HexDigits 8 0 t v → EscapeSeqChar ed (0x55 ∷ t) v
+  x65 : EscapeSeqChar Toml11 (0x65 ∷ []) 0x1B
+  x78 : {t : List ℕ} {v : ℕ} → HexDigits 2 0 t v → EscapeSeqChar Toml11 (0x78 ∷ t) v
 
 -- escaped = escape escape-seq-char
-pub data Escaped : List ℕ → ℕ → Type 0 where
-  escaped : {t : List ℕ} {v : ℕ} → EscapeSeqChar t v → Escaped (escape ∷ t) v
+pub data Escaped (ed : Edition) : List ℕ → ℕ → Type 0 where
+  escaped : {t : List ℕ} {v : ℕ} → EscapeSeqChar ed t v → Escaped ed (escape ∷ t) v
 
 -- basic-char = basic-unescaped / escaped
-pub data BasicChar : List ℕ → ℕ → Type 0 where
-  basic-unescaped : {c : ℕ} → BasicUnescaped c → BasicChar (c ∷ []) c
-  escaped-char : {t : List ℕ} {v : ℕ} → Escaped t v → BasicChar t v
+pub data BasicChar (ed : Edition) : List ℕ → ℕ → Type 0 where
+  basic-unescaped : {c : ℕ} → BasicUnescaped c → BasicChar ed (c ∷ []) c
+  escaped-char : {t : List ℕ} {v : ℕ} → Escaped ed t v → BasicChar ed t v
 
 -- *basic-char
-pub data BasicChars : List ℕ → List ℕ → Type 0 where
-  stop : BasicChars [] []
-  more : {t r vs : List ℕ} {v : ℕ} → BasicChar t v → BasicChars r vs → BasicChars (t ++ r) (v ∷ vs)
+pub data BasicChars (ed : Edition) : List ℕ → List ℕ → Type 0 where
+  stop : BasicChars ed [] []
+  more : {t r vs : List ℕ} {v : ℕ} → BasicChar ed t v → BasicChars ed r vs → BasicChars ed (t ++ r) (v ∷ vs)
 
 -- basic-string = quotation-mark *basic-char quotation-mark
-pub data BasicString : List ℕ → List ℕ → Type 0 where
-  basic-string : {t v : List ℕ} → BasicChars t v → BasicString (quotation-mark ∷ (t ++ (quotation-mark ∷ []))) v
+pub data BasicString (ed : Edition) : List ℕ → List ℕ → Type 0 where
+  basic-string : {t v : List ℕ} → BasicChars ed t v → BasicString ed (quotation-mark ∷ (t ++ (quotation-mark ∷ []))) v
 
 -- ---- Multiline Basic String
 
@@ -123,9 +131,9 @@ pub data MlbUnescaped : ℕ → Type 0 where
   non-ascii : {c : ℕ} → NonAscii c → MlbUnescaped c
 
 -- mlb-char = mlb-unescaped / escaped
-pub data MlbChar : List ℕ → ℕ → Type 0 where
-  mlb-unescaped : {c : ℕ} → MlbUnescaped c → MlbChar (c ∷ []) c
-  escaped-char : {t : List ℕ} {v : ℕ} → Escaped t v → MlbChar t v
+pub data MlbChar (ed : Edition) : List ℕ → ℕ → Type 0 where
+  mlb-unescaped : {c : ℕ} → MlbUnescaped c → MlbChar ed (c ∷ []) c
+  escaped-char : {t : List ℕ} {v : ℕ} → Escaped ed t v → MlbChar ed t v
 
 -- wschar / newline
 pub data WscharNewline : List ℕ → Type 0 where
@@ -142,19 +150,19 @@ pub data MlbEscapedNl : List ℕ → Type 0 where
   mlb-escaped-nl : {w n r : List ℕ} → Ws w → Newline n → WscharNewlines r → MlbEscapedNl (escape ∷ (w ++ (n ++ r)))
 
 -- mlb-content = mlb-char / newline / mlb-escaped-nl
-pub data MlbContent : List ℕ → List ℕ → Type 0 where
-  mlb-char : {t : List ℕ} {v : ℕ} → MlbChar t v → MlbContent t (v ∷ [])
-  newline : {t : List ℕ} → Newline t → MlbContent t t
-  escaped-nl : {t : List ℕ} → MlbEscapedNl t → MlbContent t []
+pub data MlbContent (ed : Edition) : List ℕ → List ℕ → Type 0 where
+  mlb-char : {t : List ℕ} {v : ℕ} → MlbChar ed t v → MlbContent ed t (v ∷ [])
+  newline : {t : List ℕ} → Newline t → MlbContent ed t t
+  escaped-nl : {t : List ℕ} → MlbEscapedNl t → MlbContent ed t []
 
 -- *mlb-content
-pub data MlbContents : List ℕ → List ℕ → Type 0 where
-  stop : MlbContents [] []
-  more : {t r w v : List ℕ} → MlbContent t w → MlbContents r v → MlbContents (t ++ r) (w ++ v)
+pub data MlbContents (ed : Edition) : List ℕ → List ℕ → Type 0 where
+  stop : MlbContents ed [] []
+  more : {t r w v : List ℕ} → MlbContent ed t w → MlbContents ed r v → MlbContents ed (t ++ r) (w ++ v)
 
 -- 1*mlb-content
-pub data MlbContents1 : List ℕ → List ℕ → Type 0 where
-  some-content : {t r w v : List ℕ} → MlbContent t w → MlbContents r v → MlbContents1 (t ++ r) (w ++ v)
+pub data MlbContents1 (ed : Edition) : List ℕ → List ℕ → Type 0 where
+  some-content : {t r w v : List ℕ} → MlbContent ed t w → MlbContents ed r v → MlbContents1 ed (t ++ r) (w ++ v)
 
 -- mlb-quotes = 1*2quotation-mark
 pub data MlbQuotes : List ℕ → Type 0 where
@@ -162,9 +170,9 @@ pub data MlbQuotes : List ℕ → Type 0 where
   two : MlbQuotes (quotation-mark ∷ (quotation-mark ∷ []))
 
 -- *( mlb-quotes 1*mlb-content )
-pub data MlbGroups : List ℕ → List ℕ → Type 0 where
-  stop : MlbGroups [] []
-  more : {q t r w v : List ℕ} → MlbQuotes q → MlbContents1 t w → MlbGroups r v → MlbGroups (q ++ (t ++ r)) (q ++ (w ++ v))
+pub data MlbGroups (ed : Edition) : List ℕ → List ℕ → Type 0 where
+  stop : MlbGroups ed [] []
+  more : {q t r w v : List ℕ} → MlbQuotes q → MlbContents1 ed t w → MlbGroups ed r v → MlbGroups ed (q ++ (t ++ r)) (q ++ (w ++ v))
 
 -- [ mlb-quotes ]
 pub data OptMlbQuotes : List ℕ → Type 0 where
@@ -172,14 +180,14 @@ pub data OptMlbQuotes : List ℕ → Type 0 where
   present : {q : List ℕ} → MlbQuotes q → OptMlbQuotes q
 
 -- ml-basic-body = *mlb-content *( mlb-quotes 1*mlb-content ) [ mlb-quotes ]
-pub data MlBasicBody : List ℕ → List ℕ → Type 0 where
-  ml-basic-body : {a g q w v : List ℕ} → MlbContents a w → MlbGroups g v → OptMlbQuotes q → MlBasicBody (a ++ (g ++ q)) (w ++ (v ++ q))
+pub data MlBasicBody (ed : Edition) : List ℕ → List ℕ → Type 0 where
+  ml-basic-body : {a g q w v : List ℕ} → MlbContents ed a w → MlbGroups ed g v → OptMlbQuotes q → MlBasicBody ed (a ++ (g ++ q)) (w ++ (v ++ q))
 
 -- ml-basic-string = ml-basic-string-delim [ newline ] ml-basic-body
 --                   ml-basic-string-delim
-pub data MlBasicString : List ℕ → List ℕ → Type 0 where
-  ml-basic-string : {n b v : List ℕ} → OptNewline n → MlBasicBody b v
-      → MlBasicString (ml-basic-string-delim ++ (n ++ (b ++ ml-basic-string-delim))) v
+pub data MlBasicString (ed : Edition) : List ℕ → List ℕ → Type 0 where
+  ml-basic-string : {n b v : List ℕ} → OptNewline n → MlBasicBody ed b v
+      → MlBasicString ed (ml-basic-string-delim ++ (n ++ (b ++ ml-basic-string-delim))) v
 
 -- ---- Literal String
 

@@ -7,6 +7,7 @@ use mathlib.Core.Path.{_≡_}
 use mathlib.Core.Bool.{Bool, false, _&&_, _||_}
 use mathlib.Core.List.{List, [], _∷_, _++_}
 use lib.Dec.{eqb}
+use Rattle.strings.specs.declared.Edition.{Edition}
 use Rattle.grammar.specs.Grammar.{OptNewline, MlLiteralString, ml-literal-string, MlbContent, mlb-char, newline, escaped-nl, MlbContents, MlbContents1, some-content, MlbGroups, MlBasicBody, ml-basic-body, MlBasicString, ml-basic-string}
 
 -- a newline stands at the front
@@ -31,24 +32,24 @@ MlLiteralObeys (ml-literal-string {n} {b} o d) = Trimmed o b
 
 -- ---- a line-ending backslash: nothing that it could drop follows; f is all that follows in the body
 
-abbrev pub Drops : {t w : List ℕ} → MlbContent t w → List ℕ → Type 0
+abbrev pub Drops : {ed : Edition} {t w : List ℕ} → MlbContent ed t w → List ℕ → Type 0
 Drops (mlb-char c) f = Unit {0}
 Drops (MlbContent.newline n) f = Unit {0}
 Drops (escaped-nl e) f = startsBlank f ≡ false
 
-abbrev pub ContentsDrop : {t w : List ℕ} → MlbContents t w → List ℕ → Type 0
+abbrev pub ContentsDrop : {ed : Edition} {t w : List ℕ} → MlbContents ed t w → List ℕ → Type 0
 ContentsDrop MlbContents.stop f = Unit {0}
 ContentsDrop (MlbContents.more {r = r} c cs) f = Drops c (r ++ f) × ContentsDrop cs f
 
-abbrev pub Contents1Drop : {t w : List ℕ} → MlbContents1 t w → List ℕ → Type 0
+abbrev pub Contents1Drop : {ed : Edition} {t w : List ℕ} → MlbContents1 ed t w → List ℕ → Type 0
 Contents1Drop (MlbContents1.some-content {r = r} c cs) f = Drops c (r ++ f) × ContentsDrop cs f
 
-abbrev pub GroupsDrop : {t w : List ℕ} → MlbGroups t w → List ℕ → Type 0
+abbrev pub GroupsDrop : {ed : Edition} {t w : List ℕ} → MlbGroups ed t w → List ℕ → Type 0
 GroupsDrop MlbGroups.stop f = Unit {0}
 GroupsDrop (MlbGroups.more {r = r} q c g) f = Contents1Drop c (r ++ f) × GroupsDrop g f
 
-abbrev pub BodyDrops : {t w : List ℕ} → MlBasicBody t w → Type 0
+abbrev pub BodyDrops : {ed : Edition} {t w : List ℕ} → MlBasicBody ed t w → Type 0
 BodyDrops (ml-basic-body {g = g} {q = q} a gs o) = ContentsDrop a (g ++ q) × GroupsDrop gs q
 
-abbrev pub MlBasicObeys : {t v : List ℕ} → MlBasicString t v → Type 0
+abbrev pub MlBasicObeys : {ed : Edition} {t v : List ℕ} → MlBasicString ed t v → Type 0
 MlBasicObeys (ml-basic-string {b = b} o d) = Trimmed o b × BodyDrops d

@@ -7,6 +7,7 @@ use mathlib.Core.List.{List}
 use lib.ListN.{getD}
 use Rattle.token.specs.declared.TokenKind.{TokenKind}
 use Rattle.token.specs.declared.TokenKind.the-variants.{LiteralString as LiteralToken, BasicString as BasicToken, MlLiteralString as MlLiteralToken, MlBasicString as MlBasicToken}
+use Rattle.strings.specs.declared.Edition.{Edition}
 use Rattle.strings.specs.declared.Encoding.{Encoding}
 use Rattle.strings.specs.declared.Encoding.the-variants.{LiteralString as LiteralText, BasicString as BasicText, MlLiteralString as MlLiteralText, MlBasicString as MlBasicText}
 use Rattle.grammar.specs.Grammar.{apostrophe, quotation-mark, LiteralString, BasicString, MlLiteralString, MlBasicString}
@@ -24,12 +25,12 @@ tokenKind basic = BasicToken
 tokenKind ml-literal = MlLiteralToken
 tokenKind literal = LiteralToken
 
--- the decoder that reads it
-abbrev pub encoding : StringKind → Encoding
-encoding ml-basic = MlBasicText
-encoding basic = BasicText
-encoding ml-literal = MlLiteralText
-encoding literal = LiteralText
+-- the decoder that reads it in an edition of TOML
+abbrev pub encoding : Edition → StringKind → Encoding
+encoding ed ml-basic = MlBasicText ed
+encoding ed basic = BasicText ed
+encoding ed ml-literal = MlLiteralText
+encoding ed literal = LiteralText
 
 -- its quote mark
 abbrev pub mark : StringKind → ℕ
@@ -42,17 +43,17 @@ mark literal = apostrophe
 abbrev pub Apart : ℕ → List ℕ → Type 0
 Apart q s = getD s 0 0 ≡ q → ⊥
 
--- the kind's rule derives the code points cs with the value v, and each \u and \U in them names a scalar value
-abbrev pub Derived : StringKind → List ℕ → List ℕ → Type 0
-Derived ml-basic cs v = (d : MlBasicString cs v) × MlBasicNames d
-Derived basic cs v = (d : BasicString cs v) × BasicNames d
-Derived ml-literal cs v = MlLiteralString cs v
-Derived literal cs v = LiteralString cs v
+-- in an edition the kind's rule derives the code points cs with the value v, and each \u and \U in them names a scalar value
+abbrev pub Derived : Edition → StringKind → List ℕ → List ℕ → Type 0
+Derived ed ml-basic cs v = (d : MlBasicString ed cs v) × MlBasicNames d
+Derived ed basic cs v = (d : BasicString ed cs v) × BasicNames d
+Derived ed ml-literal cs v = MlLiteralString cs v
+Derived ed literal cs v = LiteralString cs v
 
 -- and the derivation obeys the two prose rules: the newline after the opening is dropped, and a line-ending backslash drops
 -- all that it can
-abbrev pub Means : StringKind → List ℕ → List ℕ → Type 0
-Means ml-basic cs v = (d : MlBasicString cs v) × MlBasicNames d × MlBasicObeys d
-Means basic cs v = (d : BasicString cs v) × BasicNames d
-Means ml-literal cs v = (d : MlLiteralString cs v) × MlLiteralObeys d
-Means literal cs v = LiteralString cs v
+abbrev pub Means : Edition → StringKind → List ℕ → List ℕ → Type 0
+Means ed ml-basic cs v = (d : MlBasicString ed cs v) × MlBasicNames d × MlBasicObeys d
+Means ed basic cs v = (d : BasicString ed cs v) × BasicNames d
+Means ed ml-literal cs v = (d : MlLiteralString cs v) × MlLiteralObeys d
+Means ed literal cs v = LiteralString cs v

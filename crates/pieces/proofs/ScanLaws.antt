@@ -80,9 +80,9 @@ pub clear-plain : (e : Encoding) → Wide e → (b w : ℕ) → b < 256 → w < 
     → (b ≡ stopsOf e .first → ⊥) → (b ≡ stopsOf e .second → ⊥) → (b ≡ 0x7F → ⊥) → stopsOf e .low ≤ b → stopsOf e .span ≤ w
     → plain e b ≡ true
 clear-plain LiteralString v b w h i x f s d l k = sym (literal-clear b h d f l)
-clear-plain BasicString v b w h i x f s d l k = sym (basic-clear b h d f s l)
+clear-plain (BasicString n) v b w h i x f s d l k = sym (basic-clear b h d f s l)
 clear-plain MlLiteralString v b w h i x f s d l k = sym (mll-clear b h d (over-lines b w i x l k))
-clear-plain MlBasicString v b w h i x f s d l k = sym (mlb-clear b h d f (over-lines b w i x l k))
+clear-plain (MlBasicString n) v b w h i x f s d l k = sym (mlb-clear b h d f (over-lines b w i x l k))
 clear-plain UnquotedKey v b w h i x f s d l k = absurd v
 
 -- a hex digit is at least 0

@@ -21,9 +21,9 @@ setOf Blank = wschar
 -- the encodings that are scanned in blocks: all but the key
 abbrev pub Wide : Encoding → Type 0
 Wide LiteralString = Unit {0}
-Wide BasicString = Unit {0}
+Wide (BasicString v) = Unit {0}
 Wide MlLiteralString = Unit {0}
-Wide MlBasicString = Unit {0}
+Wide (MlBasicString v) = Unit {0}
 Wide UnquotedKey = ⊥
 
 abbrev stops : ℕ → ℕ → ℕ → ℕ → Stops
@@ -32,9 +32,9 @@ stops a z l k = record { first = a; second = z; low = l; span = k }
 -- what a block is given up at
 abbrev pub stopsOf : Encoding → Stops
 stopsOf LiteralString = stops 0x27 0x27 0x20 0
-stopsOf BasicString = stops 0x22 0x5C 0x20 0
+stopsOf (BasicString v) = stops 0x22 0x5C 0x20 0
 stopsOf MlLiteralString = stops 0x7F 0x7F 0x09 21
-stopsOf MlBasicString = stops 0x5C 0x5C 0x09 21
+stopsOf (MlBasicString v) = stops 0x5C 0x5C 0x09 21
 stopsOf UnquotedKey = stops 0x7F 0x7F 0x20 0
 
 -- the flags of a block

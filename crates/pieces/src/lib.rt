@@ -35,8 +35,8 @@ pub fn piece_at(e: Encoding, dropping: bool, s: &[u8], at: usize) -> Piece
     match e {
         Encoding::LiteralString => decode_literal_string(s, at),
         Encoding::MlLiteralString => decode_ml_literal_string(s, at),
-        Encoding::BasicString => decode_basic_string(s, at),
-        Encoding::MlBasicString => decode_ml_basic_string(dropping, s, at),
+        Encoding::BasicString(v) => decode_basic_string(v, s, at),
+        Encoding::MlBasicString(v) => decode_ml_basic_string(v, dropping, s, at),
         Encoding::UnquotedKey => decode_unquoted_key(s, at),
     }
 }

@@ -48,9 +48,9 @@ fn is_plain(e: Encoding, b: u8) -> bool
 {
     match e {
         Encoding::LiteralString => is_literal_char(b),
-        Encoding::BasicString => is_basic_unescaped(b),
+        Encoding::BasicString(_) => is_basic_unescaped(b),
         Encoding::MlLiteralString => is_mll_plain(b),
-        Encoding::MlBasicString => is_mlb_plain(b),
+        Encoding::MlBasicString(_) => is_mlb_plain(b),
         Encoding::UnquotedKey => is_unquoted_char(b),
     }
 }
@@ -143,7 +143,7 @@ fn stops_of(e: Encoding) -> Stops
             low: 0x20,
             span: 0,
         },
-        Encoding::BasicString => Stops {
+        Encoding::BasicString(_) => Stops {
             first: b'"',
             second: b'\\',
             low: 0x20,
@@ -155,7 +155,7 @@ fn stops_of(e: Encoding) -> Stops
             low: 0x09,
             span: 21,
         },
-        Encoding::MlBasicString => Stops {
+        Encoding::MlBasicString(_) => Stops {
             first: b'\\',
             second: b'\\',
             low: 0x09,

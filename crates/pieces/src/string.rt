@@ -7,7 +7,7 @@ ghost use lib.ListN.{length};
 ghost use Rattle.classes.specs.Classes.{literalChar, basicUnescaped};
 ghost use Rattle.classes.specs.Runs.{run};
 ghost use Rattle.strings.specs.Encodings.{mllPlain, mlbPlain, basicInvalid, mlbInvalid};
-ghost use Rattle.strings.specs.Escapes.{simpleEscape, hexLength, hexValue, hexPiece, escapePiece};
+ghost use Rattle.strings.specs.Escapes.{newEscape, simpleEscape, newHexLength, hexLength, hexValue, hexPiece, escapePiece};
 ghost use Rattle.strings.specs.Bodies.{crError, literalPiece, mlLiteralPiece, basicPiece, skips, escapedNl, escapedMore, mlbContent, mlBasicPiece, keyPiece};
 ghost use Rattle.strings.specs.Marks.{newlineLen};
 use crate::piece::char_piece;
@@ -19,6 +19,7 @@ use crate::scan::plain_blocks;
 use crate::scan::run_from;
 use classes::is_hexdig;
 use classes::is_wschar;
+use strings::Edition;
 use strings::Encoding;
 use strings::Piece;
 use text::is_scalar;
@@ -76,28 +77,28 @@ fn cr_error(next: u8) -> usize
 }
 
 // basic-char = basic-unescaped / escaped
-pub(crate) fn decode_basic_string(s: &[u8], at: usize) -> Piece
+pub(crate) fn decode_basic_string(v: Edition, s: &[u8], at: usize) -> Piece
     requires { ⌜ (0 < length (now s)) × (at + length (now s) < 2 ^ 62) ⌝ }
-    ensures { λ r. ⌜ r ≡ basicPiece at (now (s .entry)) ⌝ }
+    ensures { λ r. ⌜ r ≡ basicPiece v at (now (s .entry)) ⌝ }
 {
-    let n = basic_unescaped(s);
+    let n = basic_unescaped(v, s);
     if 0 < n {
         return copy_piece(n, 0, at, at);
     }
     if s[0] == b'\\' {
-        return escape_seq_char(&s[1..], at);
+        return escape_seq_char(v, &s[1..], at);
     }
     let k = basic_invalid(s);
     copy_piece(k, 7, at, at + k)
 }
 
 // basic-unescaped = wschar / %x21 / %x23-5B / %x5D-7E / non-ascii
-fn basic_unescaped(s: &[u8]) -> usize
+fn basic_unescaped(v: Edition, s: &[u8]) -> usize
     ensures { λ r. ⌜ r ≡ run basicUnescaped (now (s .entry)) ⌝ }
 {
-    let wide = plain_blocks(Encoding::BasicString, s, 0, 16);
-    let i = plain_blocks(Encoding::BasicString, s, wide, 8);
-    run_from(Set::Plain(Encoding::BasicString), s, i)
+    let wide = plain_blocks(Encoding::BasicString(v), s, 0, 16);
+    let i = plain_blocks(Encoding::BasicString(v), s, wide, 8);
+    run_from(Set::Plain(Encoding::BasicString(v)), s, i)
 }
 
 fn basic_invalid(s: &[u8]) -> usize
@@ -106,17 +107,17 @@ fn basic_invalid(s: &[u8]) -> usize
     run_from(Set::BasicInvalid, s, 0)
 }
 
-// escape-seq-char, behind a backslash at `at`
-fn escape_seq_char(s: &[u8], at: usize) -> Piece
+// escape-seq-char of the edition, behind a backslash at `at`
+fn escape_seq_char(v: Edition, s: &[u8], at: usize) -> Piece
     requires { ⌜ at < 2 ^ 62 ⌝ }
-    ensures { λ r. ⌜ r ≡ escapePiece at (now (s .entry)) ⌝ }
+    ensures { λ r. ⌜ r ≡ escapePiece v at (now (s .entry)) ⌝ }
 {
     let b = peek(s, 0);
-    let n = hex_length(b);
+    let n = hex_length(v, b);
     if 0 < n {
         return hexescape(&s[1..], n, at);
     }
-    let c = simple_escape(b);
+    let c = simple_escape(v, b);
     if 0 < c {
         return char_piece(2, c, 0, 0);
     }
@@ -124,19 +125,29 @@ fn escape_seq_char(s: &[u8], at: usize) -> Piece
 }
 
 // How many digits the letter asks for, 0 for none.
-fn hex_length(b: u8) -> usize
-    ensures { λ r. ⌜ r ≡ hexLength b ⌝ }
+fn hex_length(v: Edition, b: u8) -> usize
+    ensures { λ r. ⌜ r ≡ hexLength v b ⌝ }
 {
     match b {
         b'u' => 4,
         b'U' => 8,
-        _ => 0,
+        _ => new_hex_length(v, b),
+    }
+}
+
+// What TOML 1.1 adds to that.
+fn new_hex_length(v: Edition, b: u8) -> usize
+    ensures { λ r. ⌜ r ≡ newHexLength v b ⌝ }
+{
+    match v {
+        Edition::Toml10 => 0,
+        Edition::Toml11 => { if b == b'x' { 2 } else { 0 } }
     }
 }
 
 // The character of the letter, 0 for none.
-fn simple_escape(b: u8) -> u32
-    ensures { λ r. ⌜ r ≡ simpleEscape b ⌝ }
+fn simple_escape(v: Edition, b: u8) -> u32
+    ensures { λ r. ⌜ r ≡ simpleEscape v b ⌝ }
 {
     match b {
         b'b' => 0x08,
@@ -146,7 +157,17 @@ fn simple_escape(b: u8) -> u32
         b't' => 0x09,
         b'\\' => 0x5C,
         b'"' => 0x22,
-        _ => 0,
+        _ => new_escape(v, b),
+    }
+}
+
+// What TOML 1.1 adds to that.
+fn new_escape(v: Edition, b: u8) -> u32
+    ensures { λ r. ⌜ r ≡ newEscape v b ⌝ }
+{
+    match v {
+        Edition::Toml10 => 0,
+        Edition::Toml11 => { if b == b'e' { 0x1B } else { 0 } }
     }
 }
 
@@ -201,24 +222,24 @@ pub fn strip_start_newline(s: &[u8]) -> usize
 }
 
 // mlb-content = mlb-char / newline / mlb-escaped-nl, or the rest of an mlb-escaped-nl
-pub(crate) fn decode_ml_basic_string(dropping: bool, s: &[u8], at: usize) -> Piece
+pub(crate) fn decode_ml_basic_string(v: Edition, dropping: bool, s: &[u8], at: usize) -> Piece
     requires { ⌜ (0 < length (now s)) × (at + length (now s) < 2 ^ 62) ⌝ }
-    ensures { λ r. ⌜ r ≡ mlBasicPiece dropping at (now (s .entry)) ⌝ }
+    ensures { λ r. ⌜ r ≡ mlBasicPiece v dropping at (now (s .entry)) ⌝ }
 {
     if dropping {
         if is_skipped(s[0]) {
             return mlb_escaped_more(s, at);
         }
-        return mlb_content(s, at);
+        return mlb_content(v, s, at);
     }
-    mlb_content(s, at)
+    mlb_content(v, s, at)
 }
 
-fn mlb_content(s: &[u8], at: usize) -> Piece
+fn mlb_content(v: Edition, s: &[u8], at: usize) -> Piece
     requires { ⌜ (0 < length (now s)) × (at + length (now s) < 2 ^ 62) ⌝ }
-    ensures { λ r. ⌜ r ≡ mlbContent at (now (s .entry)) ⌝ }
+    ensures { λ r. ⌜ r ≡ mlbContent v at (now (s .entry)) ⌝ }
 {
-    let n = mlb_unescaped(s);
+    let n = mlb_unescaped(v, s);
     if 0 < n {
         return copy_piece(n, 0, at, at);
     }
@@ -227,7 +248,7 @@ fn mlb_content(s: &[u8], at: usize) -> Piece
         if is_skipped(peek(s, 1)) {
             return mlb_escaped_nl(&s[1..], at);
         }
-        return escape_seq_char(&s[1..], at);
+        return escape_seq_char(v, &s[1..], at);
     }
     if b == b'\r' {
         if peek(s, 1) == b'\n' {
@@ -283,12 +304,12 @@ fn mlb_escaped_more(s: &[u8], at: usize) -> Piece
 }
 
 // mlb-unescaped, with mlb-quotes and LF
-fn mlb_unescaped(s: &[u8]) -> usize
+fn mlb_unescaped(v: Edition, s: &[u8]) -> usize
     ensures { λ r. ⌜ r ≡ run mlbPlain (now (s .entry)) ⌝ }
 {
-    let wide = plain_blocks(Encoding::MlBasicString, s, 0, 16);
-    let i = plain_blocks(Encoding::MlBasicString, s, wide, 8);
-    run_from(Set::Plain(Encoding::MlBasicString), s, i)
+    let wide = plain_blocks(Encoding::MlBasicString(v), s, 0, 16);
+    let i = plain_blocks(Encoding::MlBasicString(v), s, wide, 8);
+    run_from(Set::Plain(Encoding::MlBasicString(v)), s, i)
 }
 
 fn mlb_invalid(s: &[u8]) -> usize

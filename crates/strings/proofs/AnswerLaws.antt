@@ -19,16 +19,16 @@ use Rattle.strings.specs.declared.Encoding.{Encoding}
 use Rattle.strings.specs.declared.Choice.{Choice}
 use Rattle.strings.specs.declared.Choice.the-variants.{Known, Unknown}
 use Rattle.strings.specs.declared.Decoded.the-variants.{Written, Refused}
-use Rattle.strings.specs.Encodings.{encodingOf}
-use Rattle.strings.specs.Decoding.{bytesOf, errorsOf, fitted, decodedBy, decodeOf}
+use Rattle.strings.specs.Encodings.{encodingBy}
+use Rattle.strings.specs.Decoding.{bytesOf, errorsOf, fitted, decodedBy, decodeIn}
 use Rattle.strings.proofs.Bounds.{bytes-most, bytes-quiet, errors-few}
 use Rattle.strings.proofs.Utf8Laws.{decoded-utf8}
 
--- n bytes and m errors were written: the text passed the check, the kind is one of the five, and both counts are right
-pub record Answered (t : List ℕ) (kind o e n m : ℕ) : Type 0 where
+-- n bytes and m errors were written: the text passed the check, edition and kind have an encoding, and both counts are right
+pub record Answered (t : List ℕ) (edition kind o e n m : ℕ) : Type 0 where
   pub check : (length t ≤ limit) × Utf8 t
   pub encoding : Encoding
-  pub kind-is : encodingOf kind ≡ Known encoding
+  pub chosen : encodingBy edition kind ≡ Known encoding
   pub bytes : n ≡ length (bytesOf encoding t)
   pub errors : m ≡ length (errorsOf encoding t)
   pub room : (n ≤ o) × (m ≤ e)
@@ -56,11 +56,13 @@ fitted-answered bs es o e n m h = go (ltb o (length bs)) (ltb e (length es)) ref
         let b : length es ≡ m = cc in
         (sym a, sym b, omega (arith, ltb-false o (length bs) p), omega (arith, ltb-false e (length es) q))
 
-pub decode-answered : (t : List ℕ) (kind o e n m : ℕ) → decodeOf t kind o e ≡ Written n m → Answered t kind o e n m
-unfolding decodeOf
-decode-answered t kind o e n m h = go (checkOf t) (encodingOf kind) refl refl h
+pub decode-answered : (t : List ℕ) (edition kind o e n m : ℕ) → decodeIn t edition kind o e ≡ Written n m
+    → Answered t edition kind o e n m
+unfolding decodeIn
+decode-answered t edition kind o e n m h = go (checkOf t) (encodingBy edition kind) refl refl h
   where
-    go : (x : Utf8Check) (y : Choice) → checkOf t ≡ x → encodingOf kind ≡ y → decodedBy x y t o e ≡ Written n m → Answered t kind o e n m
+    go : (x : Utf8Check) (y : Choice) → checkOf t ≡ x → encodingBy edition kind ≡ y → decodedBy x y t o e ≡ Written n m
+        → Answered t edition kind o e n m
     go (NotValid r) y p q f = let z : _≡_ {A = ℕ} 0 1 = cc in absurd (omega arith)
     go Valid (Unknown r) p q f = let z : _≡_ {A = ℕ} 0 1 = cc in absurd (omega arith)
     go Valid (Known k) p q f =
@@ -69,7 +71,7 @@ decode-answered t kind o e n m h = go (checkOf t) (encodingOf kind) refl refl h
         record {
           check = c;
           encoding = k;
-          kind-is = q;
+          chosen = q;
           bytes = w .0;
           errors = w .1;
           room = (w .2, w .3);

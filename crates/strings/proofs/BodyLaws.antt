@@ -12,6 +12,7 @@ use Rattle.classes.specs.Runs.{run}
 use Rattle.classes.proofs.Conds.{cond-case, by-eq}
 use Rattle.classes.proofs.RunLaws.{run-le, run-step, there}
 use Rattle.strings.specs.declared.Piece.{Piece}
+use Rattle.strings.specs.declared.Edition.{Edition}
 use Rattle.strings.specs.declared.Encoding.{Encoding}
 use Rattle.strings.specs.declared.Encoding.the-variants.{LiteralString, BasicString, MlLiteralString, MlBasicString, UnquotedKey}
 use Rattle.strings.specs.Encodings.{mllPlain, mlbPlain, basicInvalid, mlbInvalid}
@@ -53,11 +54,11 @@ module _ (at : ℕ) (s : List ℕ) (h : 0 < length s) where
       cond-case Good (mllPlain (getD s 0 0)) (fine-run mllPlain 0 at at)
       λ e. by-eq Good (getD s 0 0) 0x0D (λ f. fine-one (crError (getD s 1 0)) (at + 1) (at + 1)) (λ f. fine-one 5 at at)
 
-  basic-fine : FineAt (basicPiece at s) s
+  basic-fine : (v : Edition) → FineAt (basicPiece v at s) s
   unfolding basicPiece
-  basic-fine =
+  basic-fine v =
       cond-case Good (basicUnescaped (getD s 0 0)) (fine-run basicUnescaped 0 at at)
-      λ e. by-eq Good (getD s 0 0) 0x5C (λ f. escape-fine at s (drop 1 s) (omega (arith, length-drop 1 s)))
+      λ e. by-eq Good (getD s 0 0) 0x5C (λ f. escape-fine v at s (drop 1 s) (omega (arith, length-drop 1 s)))
       (λ f. fine-run basicInvalid 7 at _ (invalid-basic (getD s 0 0) e f))
 
   -- a line-ending escape, where t stands behind the backslash at the front of s
@@ -85,23 +86,23 @@ module _ (at : ℕ) (s : List ℕ) (h : 0 < length s) where
       (λ f. fine-drop 1 4 _ s (omega arith) h))
       (λ e. fine-drop 1 0 0 s (omega arith) h)
 
-  content-fine : FineAt (mlbContent at s) s
+  content-fine : (v : Edition) → FineAt (mlbContent v at s) s
   unfolding mlbContent
-  content-fine =
+  content-fine v =
       cond-case Good (mlbPlain (getD s 0 0)) (fine-run mlbPlain 0 at at)
       λ e. by-eq Good (getD s 0 0) 0x5C
       (λ f. cond-case Good (skips (getD s 1 0))
       (λ g. escaped-fine (drop 1 s) (omega (arith, length-drop 1 s)))
-      (λ g. escape-fine at s (drop 1 s) (omega (arith, length-drop 1 s))))
+      (λ g. escape-fine v at s (drop 1 s) (omega (arith, length-drop 1 s))))
       λ f. by-eq Good (getD s 0 0) 0x0D
       (λ g. by-eq Good (getD s 1 0) 0x0A
       (λ i. let k = there s 1 (omega arith) in fine-copy 2 0 at at s (omega arith) (omega arith))
       (λ i. fine-one 4 (at + 1) (at + 1)))
       (λ g. fine-run mlbInvalid 12 at _ (invalid-mlb (getD s 0 0) e f g))
 
-  ml-basic-fine : (d : Bool) → FineAt (mlBasicPiece d at s) s
+  ml-basic-fine : (v : Edition) (d : Bool) → FineAt (mlBasicPiece v d at s) s
   unfolding mlBasicPiece
-  ml-basic-fine d = cond-case Good (d && skips (getD s 0 0)) (λ e. more-fine) (λ e. content-fine)
+  ml-basic-fine v d = cond-case Good (d && skips (getD s 0 0)) (λ e. more-fine) (λ e. content-fine v)
 
   key-fine : FineAt (keyPiece at s) s
   unfolding keyPiece
@@ -110,6 +111,6 @@ module _ (at : ℕ) (s : List ℕ) (h : 0 < length s) where
 pub piece-fine : (e : Encoding) → Fine (pieceOf e)
 piece-fine LiteralString d at s h = literal-fine at s h
 piece-fine MlLiteralString d at s h = ml-literal-fine at s h
-piece-fine BasicString d at s h = basic-fine at s h
-piece-fine MlBasicString d at s h = ml-basic-fine at s h d
+piece-fine (BasicString v) d at s h = basic-fine at s h v
+piece-fine (MlBasicString v) d at s h = ml-basic-fine at s h v d
 piece-fine UnquotedKey d at s h = key-fine at s h

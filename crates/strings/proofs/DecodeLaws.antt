@@ -14,11 +14,11 @@ use Rattle.text.specs.declared.utf8.Utf8Check.the-variants.{Valid, Refused as N
 use Rattle.strings.specs.declared.Encoding.{Encoding}
 use Rattle.strings.specs.declared.Ends.{Ends}
 use Rattle.strings.specs.declared.Decoded.the-variants.{Written, Refused}
-use Rattle.strings.specs.Encodings.{encodingOf, markError}
+use Rattle.strings.specs.Encodings.{encodingBy, markError}
 use Rattle.strings.specs.Pieces.{gives, notesAt, collect}
 use Rattle.strings.specs.Bodies.{pieceOf}
 use Rattle.strings.specs.Marks.{endsOf, bodyOf}
-use Rattle.strings.specs.Decoding.{bytesOf, missing, errorsOf, fitted, decodedBy, decodeOf}
+use Rattle.strings.specs.Decoding.{bytesOf, missing, errorsOf, fitted, decodedBy, decodeIn}
 
 module _ (k : Encoding) (t : List ℕ) (d : Ends) (e : d ≡ endsOf k t) where
   pub bytes-is : bytesOf k t ≡ collect (pieceOf k) gives 0 false (d .start) (bodyOf d t)
@@ -46,13 +46,13 @@ module _ (bytes : List ℕ) (errors : List (List ℕ)) (o e : ℕ) where
   fitted-written n m h k l r =
       rw (h, k) (simp (le-ltb o (length bytes) (omega arith), le-ltb e (length errors) (omega arith)))
 
--- ---- refusals 2 and 1, then 7
+-- ---- refusals 2 and 1, then 7 and 9
 
-module _ (t : List ℕ) (kind o e : ℕ) where
-  pub decode-invalid : (r : Refusal) → NotValid r ≡ checkOf t → Refused r ≡ decodeOf t kind o e
-  unfolding decodeOf
+module _ (t : List ℕ) (edition kind o e : ℕ) where
+  pub decode-invalid : (r : Refusal) → NotValid r ≡ checkOf t → Refused r ≡ decodeIn t edition kind o e
+  unfolding decodeIn
   decode-invalid r h = rw (← h)
 
-  pub decode-valid : Valid ≡ checkOf t → decodedBy Valid (encodingOf kind) t o e ≡ decodeOf t kind o e
-  unfolding decodeOf
+  pub decode-valid : Valid ≡ checkOf t → decodedBy Valid (encodingBy edition kind) t o e ≡ decodeIn t edition kind o e
+  unfolding decodeIn
   decode-valid h = rw (← h)

@@ -17,9 +17,11 @@ use Rattle.classes.proofs.RunLaws.{run-le, there}
 use Rattle.text.specs.Utf8.{encodeScalar}
 use Rattle.text.specs.Utf8Read.{isScalar}
 use Rattle.text.proofs.EncodeLaws.{encode-1, encode-length, true-scalar}
+use Rattle.strings.specs.declared.Edition.{Edition}
+use Rattle.strings.specs.declared.Edition.the-variants.{Toml10, Toml11}
 use Rattle.strings.specs.declared.Piece.{Piece}
 use Rattle.strings.specs.Pieces.{charPiece}
-use Rattle.strings.specs.Escapes.{simpleEscape, hexLength, hexValue, hexFrom, hexPiece, escapePiece}
+use Rattle.strings.specs.Escapes.{newEscape, simpleEscape, newHexLength, hexLength, hexValue, hexFrom, hexPiece, escapePiece}
 use Rattle.strings.proofs.Fine.{FineAt, fine-char}
 
 -- ---- letters
@@ -28,26 +30,34 @@ use Rattle.strings.proofs.Fine.{FineAt, fine-char}
 abbrev Simple : ℕ → ℕ → Type 0
 Simple b c = 0 < c → (0x22 ≤ b) × (b < 0x80) × (c < 0x80)
 
-pub simple-ascii : (b : ℕ) → Simple b (simpleEscape b)
+new-ascii : (v : Edition) (b : ℕ) → Simple b (newEscape v b)
+new-ascii Toml10 b = λ z. omega arith
+new-ascii Toml11 b = by-eq (Simple b) b 0x65 (λ e z. omega arith) (λ e z. omega arith)
+
+pub simple-ascii : (v : Edition) (b : ℕ) → Simple b (simpleEscape v b)
 unfolding simpleEscape
-simple-ascii b =
+simple-ascii v b =
     by-eq (Simple b) b 0x22 (λ e z. omega arith)
     λ e. by-eq (Simple b) b 0x5C (λ e z. omega arith)
     λ e. by-eq (Simple b) b 0x62 (λ e z. omega arith)
     λ e. by-eq (Simple b) b 0x66 (λ e z. omega arith)
     λ e. by-eq (Simple b) b 0x6E (λ e z. omega arith)
     λ e. by-eq (Simple b) b 0x72 (λ e z. omega arith)
-    λ e. by-eq (Simple b) b 0x74 (λ e z. omega arith) (λ e z. omega arith)
+    λ e. by-eq (Simple b) b 0x74 (λ e z. omega arith) (λ e. new-ascii v b)
 
--- a letter that asks for digits asks for four to eight
+-- a letter that asks for digits asks for two to eight
 abbrev Hex : ℕ → ℕ → Type 0
-Hex b n = 0 < n → (0x22 ≤ b) × (b < 0x80) × (4 ≤ n) × (n ≤ 8)
+Hex b n = 0 < n → (0x22 ≤ b) × (b < 0x80) × (2 ≤ n) × (n ≤ 8)
 
-pub hex-letter : (b : ℕ) → Hex b (hexLength b)
+new-letter : (v : Edition) (b : ℕ) → Hex b (newHexLength v b)
+new-letter Toml10 b = λ z. omega arith
+new-letter Toml11 b = by-eq (Hex b) b 0x78 (λ e z. omega arith) (λ e z. omega arith)
+
+pub hex-letter : (v : Edition) (b : ℕ) → Hex b (hexLength v b)
 unfolding hexLength
-hex-letter b =
+hex-letter v b =
     by-eq (Hex b) b 0x75 (λ e z. omega arith)
-    λ e. by-eq (Hex b) b 0x55 (λ e z. omega arith) (λ e z. omega arith)
+    λ e. by-eq (Hex b) b 0x55 (λ e z. omega arith) (λ e. new-letter v b)
 
 -- ---- digits
 
@@ -77,16 +87,16 @@ module _ (n at : ℕ) (s : List ℕ) where
   unfolding hexPiece
   hex-none v h e t = rw (le-ltb _ _ h, ← e, t)
 
-module _ (at : ℕ) (s : List ℕ) where
-  pub escape-hex : (n : ℕ) → n ≡ hexLength (getD s 0 0) → 0 < n → hexPiece n at (drop 1 s) ≡ escapePiece at s
+module _ (v : Edition) (at : ℕ) (s : List ℕ) where
+  pub escape-hex : (n : ℕ) → n ≡ hexLength v (getD s 0 0) → 0 < n → hexPiece n at (drop 1 s) ≡ escapePiece v at s
   unfolding escapePiece
   escape-hex n e h = rw (← e, lt-ltb _ _ h)
 
-  pub escape-simple : (n c : ℕ) → n ≡ hexLength (getD s 0 0) → n ≤ 0 → c ≡ simpleEscape (getD s 0 0) → 0 < c → charPiece 2 c 0 0 ≡ escapePiece at s
+  pub escape-simple : (n c : ℕ) → n ≡ hexLength v (getD s 0 0) → n ≤ 0 → c ≡ simpleEscape v (getD s 0 0) → 0 < c → charPiece 2 c 0 0 ≡ escapePiece v at s
   unfolding escapePiece
   escape-simple n c e h f l = rw (← e, le-ltb _ _ h, ← f, lt-ltb _ _ l)
 
-  pub escape-none : (n c : ℕ) → n ≡ hexLength (getD s 0 0) → n ≤ 0 → c ≡ simpleEscape (getD s 0 0) → c ≤ 0 → charPiece 1 0x5C 8 (at + 1) ≡ escapePiece at s
+  pub escape-none : (n c : ℕ) → n ≡ hexLength v (getD s 0 0) → n ≤ 0 → c ≡ simpleEscape v (getD s 0 0) → c ≤ 0 → charPiece 1 0x5C 8 (at + 1) ≡ escapePiece v at s
   unfolding escapePiece
   escape-none n c e h f l = rw (← e, le-ltb _ _ h, ← f, le-ltb _ _ l)
 
@@ -97,7 +107,7 @@ unfolding encodeScalar
 replacement = refl
 
 -- n digits asked for behind the first two bytes of s
-module _ (n at : ℕ) (s t : List ℕ) (four : 4 ≤ n) (long : 2 + length t ≤ length s) where
+module _ (n at : ℕ) (s t : List ℕ) (two : 2 ≤ n) (long : 2 + length t ≤ length s) where
   pub hex-fine : FineAt (hexPiece n at t) s
   unfolding hexPiece
   hex-fine =
@@ -111,21 +121,21 @@ module _ (n at : ℕ) (s t : List ℕ) (four : 4 ≤ n) (long : 2 + length t ≤
       (λ v. fine-char _ 0xFFFD 10 _ s (omega arith) (omega arith) (inr (omega arith)) (omega (arith, replacement)) (λ z. omega arith))
 
 -- an escape, where t stands behind the backslash at the front of s
-module _ (at : ℕ) (s t : List ℕ) (long : length s ≡ suc (length t)) where
-  pub escape-fine : FineAt (escapePiece at t) s
+module _ (v : Edition) (at : ℕ) (s t : List ℕ) (long : length s ≡ suc (length t)) where
+  pub escape-fine : FineAt (escapePiece v at t) s
   unfolding escapePiece
   escape-fine =
       let b = getD t 0 0 in
-      by-lt (λ (p : Piece). FineAt p s) 0 (hexLength b)
+      by-lt (λ (p : Piece). FineAt p s) 0 (hexLength v b)
       (λ h.
-      let l = hex-letter b h in
+      let l = hex-letter v b h in
       let k = there t 0 (omega arith) in
-      hex-fine (hexLength b) at s (drop 1 t) (l .2) (omega (arith, length-drop 1 t)))
-      λ h. by-lt (λ (p : Piece). FineAt p s) 0 (simpleEscape b)
+      hex-fine (hexLength v b) at s (drop 1 t) (l .2) (omega (arith, length-drop 1 t)))
+      λ h. by-lt (λ (p : Piece). FineAt p s) 0 (simpleEscape v b)
       (λ h.
-      let l = simple-ascii b h in
+      let l = simple-ascii v b h in
       let k = there t 0 (omega arith) in
-      let one : length (encodeScalar (simpleEscape b)) ≡ 1 = ap length (encode-1 _ (l .2)) in
+      let one : length (encodeScalar (simpleEscape v b)) ≡ 1 = ap length (encode-1 _ (l .2)) in
       fine-char 2 _ 0 0 s (omega arith) (omega arith) (inl (omega arith)) (omega arith) (λ z. omega arith))
       (λ h.
       let one : length (encodeScalar 0x5C) ≡ 1 = ap length (encode-1 0x5C (omega arith)) in

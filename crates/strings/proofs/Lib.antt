@@ -9,4 +9,5 @@ pub mod DecodeLaws
 pub mod Bounds
 pub mod AsciiLaws
 pub mod Utf8Laws
+pub mod EditionLaws
 pub mod AnswerLaws

@@ -194,8 +194,8 @@ key-within t = omega arith
 pub ends-within : (e : Encoding) (t : List ℕ) → Within (endsOf e t) t
 ends-within LiteralString t = line-within 0x27 t
 ends-within MlLiteralString t = ml-within true 0x27 t
-ends-within BasicString t = line-within 0x22 t
-ends-within MlBasicString t = ml-within false 0x22 t
+ends-within (BasicString v) t = line-within 0x22 t
+ends-within (MlBasicString v) t = ml-within false 0x22 t
 ends-within UnquotedKey t = key-within t
 
 pub ends-fit : (e : Encoding) (t : List ℕ) (d : Ends) → d ≡ endsOf e t → Within d t

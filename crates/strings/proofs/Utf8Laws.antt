@@ -22,6 +22,7 @@ use Rattle.text.proofs.CutLaws.{utf8-append, cut-at}
 use Rattle.strings.specs.declared.Piece.{Piece}
 use Rattle.strings.specs.declared.Ends.{Ends}
 use Rattle.strings.specs.declared.Given.the-variants.{Copy}
+use Rattle.strings.specs.declared.Edition.{Edition}
 use Rattle.strings.specs.declared.Encoding.{Encoding}
 use Rattle.strings.specs.declared.Encoding.the-variants.{LiteralString, BasicString, MlLiteralString, MlBasicString, UnquotedKey}
 use Rattle.strings.specs.Encodings.{mllPlain, mlbPlain, basicInvalid, mlbInvalid}
@@ -109,13 +110,13 @@ module _ (at : ℕ) (s : List ℕ) (slash : getD s 0 0 ≡ 0x5C) where
       (λ v. whole-char s _ _ 0 0 (true-scalar _ v) (digits n l h e))
       (λ v. whole-char s _ 0xFFFD 10 _ (inr (omega arith)) (digits n l h e))
 
-  escape-whole : Whole s (escapePiece at (drop 1 s))
+  escape-whole : (v : Edition) → Whole s (escapePiece v at (drop 1 s))
   unfolding escapePiece
-  escape-whole =
+  escape-whole v =
       let b = getD (drop 1 s) 0 0 in
-      by-lt (Whole s) 0 (hexLength b) (λ h. let l = hex-letter b h in hex-whole (hexLength b) (l .1) (omega arith))
-      λ h. by-lt (Whole s) 0 (simpleEscape b)
-      (λ h. let l = simple-ascii b h in whole-char s 2 _ 0 0 (inl (omega arith)) (two (l .1) (omega arith)))
+      by-lt (Whole s) 0 (hexLength v b) (λ h. let l = hex-letter v b h in hex-whole (hexLength v b) (l .1) (omega arith))
+      λ h. by-lt (Whole s) 0 (simpleEscape v b)
+      (λ h. let l = simple-ascii v b h in whole-char s 2 _ 0 0 (inl (omega arith)) (two (l .1) (omega arith)))
       (λ h. whole-char s 1 0x5C 8 _ (inl (omega arith)) one)
 
   -- the backslash, w blanks, and one or two bytes that are there
@@ -155,11 +156,11 @@ module _ (at : ℕ) (s : List ℕ) (h : 0 < length s) where
       let g : getD (drop 1 s) 0 0 ≡ 0x0A = getD-drop 1 s 0 0 ∙ f in
       front-add 1 1 s (front-one s h (omega arith)) (front-one (drop 1 s) (there (drop 1 s) 0 (omega arith)) (omega arith))
 
-  basic-whole : Utf8 s → Whole s (basicPiece at s)
+  basic-whole : (v : Edition) → Utf8 s → Whole s (basicPiece v at s)
   unfolding basicPiece
-  basic-whole u =
+  basic-whole v u =
       cond-case (Whole s) (basicUnescaped (getD s 0 0)) (λ e. whole-copy s _ 0 at at (front-high basicUnescaped basic-high s u))
-      λ e. by-eq (Whole s) (getD s 0 0) 0x5C (escape-whole at s)
+      λ e. by-eq (Whole s) (getD s 0 0) 0x5C (λ f. escape-whole at s f v)
       (λ f. whole-copy s _ 7 at _ (front-low basicInvalid basic-invalid-low (run basicInvalid s) s (omega arith)))
 
   more-whole : skips (getD s 0 0) ≡ true → Whole s (escapedMore at s)
@@ -170,22 +171,22 @@ module _ (at : ℕ) (s : List ℕ) (h : 0 < length s) where
       (λ e. by-eq (Whole s) (getD s 1 0) 0x0A (λ f. whole-drop s 2 0 0 (crlf e f)) (λ f. whole-drop s 1 4 _ low))
       (λ e. whole-drop s 1 0 0 low)
 
-  content-whole : Utf8 s → Whole s (mlbContent at s)
+  content-whole : (v : Edition) → Utf8 s → Whole s (mlbContent v at s)
   unfolding mlbContent
-  content-whole u =
+  content-whole v u =
       cond-case (Whole s) (mlbPlain (getD s 0 0)) (λ e. whole-copy s _ 0 at at (front-high mlbPlain mlb-high s u))
       λ e. by-eq (Whole s) (getD s 0 0) 0x5C
-      (λ f. cond-case (Whole s) (skips (getD s 1 0)) (λ g. nl-whole at s f) (λ g. escape-whole at s f))
+      (λ f. cond-case (Whole s) (skips (getD s 1 0)) (λ g. nl-whole at s f) (λ g. escape-whole at s f v))
       λ f. by-eq (Whole s) (getD s 0 0) 0x0D
       (λ g. by-eq (Whole s) (getD s 1 0) 0x0A
       (λ i. whole-copy s 2 0 at at (crlf g i))
       (λ i. whole-copy s 1 4 (at + 1) (at + 1) (front-one s h (omega arith))))
       (λ g. whole-copy s _ 12 at _ (front-low mlbInvalid mlb-invalid-low (run mlbInvalid s) s (omega arith)))
 
-  ml-basic-whole : (d : Bool) → Utf8 s → Whole s (mlBasicPiece d at s)
+  ml-basic-whole : (v : Edition) (d : Bool) → Utf8 s → Whole s (mlBasicPiece v d at s)
   unfolding mlBasicPiece
-  ml-basic-whole d u =
-      cond-case (Whole s) (d && skips (getD s 0 0)) (λ e. more-whole (both-right d (skips (getD s 0 0)) e)) (λ e. content-whole u)
+  ml-basic-whole v d u =
+      cond-case (Whole s) (d && skips (getD s 0 0)) (λ e. more-whole (both-right d (skips (getD s 0 0)) e)) (λ e. content-whole v u)
 
 abbrev WholeAll : Pieces → Type 0
 WholeAll P = (d : Bool) (at : ℕ) (s : List ℕ) → 0 < length s → Utf8 s → Whole s (P d at s)
@@ -319,8 +320,8 @@ key-utf8 t u = (nil-utf8, cut-end t u)
 ends-utf8 : (k : Encoding) (t : List ℕ) → Utf8 t → Utf8 (take (endsOf k t .start) t) × Utf8 (take (endsOf k t .end) t)
 ends-utf8 LiteralString t u = line-utf8 0x27 (omega arith) t u
 ends-utf8 MlLiteralString t u = ml-utf8 0x27 (omega arith) t u true
-ends-utf8 BasicString t u = line-utf8 0x22 (omega arith) t u
-ends-utf8 MlBasicString t u = ml-utf8 0x22 (omega arith) t u false
+ends-utf8 (BasicString v) t u = line-utf8 0x22 (omega arith) t u
+ends-utf8 (MlBasicString v) t u = ml-utf8 0x22 (omega arith) t u false
 ends-utf8 UnquotedKey t u = key-utf8 t u
 
 pub body-utf8 : (k : Encoding) (t : List ℕ) → Utf8 t → Utf8 (bodyOf (endsOf k t) t)
@@ -349,7 +350,9 @@ unfolding bytesOf
 decoded-utf8 LiteralString t u = rw (literal-is t) (body-utf8 LiteralString t u)
 decoded-utf8 MlLiteralString t u = rw (ml-literal-is t) (body-utf8 MlLiteralString t u)
 decoded-utf8 UnquotedKey t u = rw (key-body t) (body-utf8 UnquotedKey t u)
-decoded-utf8 BasicString t u =
-    collect-utf8 (pieceOf BasicString) (piece-fine BasicString) (λ d at s h v. basic-whole at s h v) 0 false _ _ (body-utf8 BasicString t u)
-decoded-utf8 MlBasicString t u =
-    collect-utf8 (pieceOf MlBasicString) (piece-fine MlBasicString) (λ d at s h v. ml-basic-whole at s h d v) 0 false _ _ (body-utf8 MlBasicString t u)
+decoded-utf8 (BasicString n) t u =
+    collect-utf8 (pieceOf (BasicString n)) (piece-fine (BasicString n)) (λ d at s h v. basic-whole at s h n v) 0 false _ _
+    (body-utf8 (BasicString n) t u)
+decoded-utf8 (MlBasicString n) t u =
+    collect-utf8 (pieceOf (MlBasicString n)) (piece-fine (MlBasicString n)) (λ d at s h v. ml-basic-whole at s h n d v) 0 false _ _
+    (body-utf8 (MlBasicString n) t u)

@@ -9,6 +9,7 @@ use lib.Dec.{eqb}
 use lib.ListN.{drop, getD}
 use Rattle.classes.specs.Classes.{wschar, literalChar, basicUnescaped, unquotedChar}
 use Rattle.classes.specs.Runs.{run}
+use Rattle.strings.specs.declared.Edition.{Edition}
 use Rattle.strings.specs.declared.Piece.{Piece}
 use Rattle.strings.specs.declared.Encoding.{Encoding}
 use Rattle.strings.specs.declared.Encoding.the-variants.{LiteralString, BasicString, MlLiteralString, MlBasicString, UnquotedKey}
@@ -34,10 +35,10 @@ mlLiteralPiece at s =
     (copyPiece 1 5 at at))
 
 -- bytes that are not allowed in a basic string: error 7 at their whole run
-unfoldable pub basicPiece : ℕ → List ℕ → Piece
-basicPiece at s =
+unfoldable pub basicPiece : Edition → ℕ → List ℕ → Piece
+basicPiece v at s =
     cond (basicUnescaped (getD s 0 0)) (copyPiece (run basicUnescaped s) 0 at at)
-    (cond (eqb (getD s 0 0) 0x5C) (escapePiece at (drop 1 s))
+    (cond (eqb (getD s 0 0) 0x5C) (escapePiece v at (drop 1 s))
     (copyPiece (run basicInvalid s) 7 at (at + run basicInvalid s)))
 
 -- what a line-ending escape drops: blanks, LF and CR
@@ -63,16 +64,16 @@ escapedMore at s =
     (dropPiece 1 0 0)
 
 -- bytes that are not allowed in an ml-basic string: error 12 at their run, which ends at a CR too
-unfoldable pub mlbContent : ℕ → List ℕ → Piece
-mlbContent at s =
+unfoldable pub mlbContent : Edition → ℕ → List ℕ → Piece
+mlbContent v at s =
     cond (mlbPlain (getD s 0 0)) (copyPiece (run mlbPlain s) 0 at at)
-    (cond (eqb (getD s 0 0) 0x5C) (cond (skips (getD s 1 0)) (escapedNl at (drop 1 s)) (escapePiece at (drop 1 s)))
+    (cond (eqb (getD s 0 0) 0x5C) (cond (skips (getD s 1 0)) (escapedNl at (drop 1 s)) (escapePiece v at (drop 1 s)))
     (cond (eqb (getD s 0 0) 0x0D) (cond (eqb (getD s 1 0) 0x0A) (copyPiece 2 0 at at) (copyPiece 1 4 (at + 1) (at + 1)))
     (copyPiece (run mlbInvalid s) 12 at (at + run mlbInvalid s))))
 
 -- within a line-ending escape, what it drops comes first
-unfoldable pub mlBasicPiece : Bool → ℕ → List ℕ → Piece
-mlBasicPiece dropping at s = cond (dropping && skips (getD s 0 0)) (escapedMore at s) (mlbContent at s)
+unfoldable pub mlBasicPiece : Edition → Bool → ℕ → List ℕ → Piece
+mlBasicPiece v dropping at s = cond (dropping && skips (getD s 0 0)) (escapedMore at s) (mlbContent v at s)
 
 -- a byte that is not allowed in a key: error 15 at it
 unfoldable pub keyPiece : ℕ → List ℕ → Piece
@@ -84,6 +85,6 @@ keyPiece at s =
 abbrev pub pieceOf : Encoding → Pieces
 pieceOf LiteralString dropping at s = literalPiece at s
 pieceOf MlLiteralString dropping at s = mlLiteralPiece at s
-pieceOf BasicString dropping at s = basicPiece at s
-pieceOf MlBasicString dropping at s = mlBasicPiece dropping at s
+pieceOf (BasicString v) dropping at s = basicPiece v at s
+pieceOf (MlBasicString v) dropping at s = mlBasicPiece v dropping at s
 pieceOf UnquotedKey dropping at s = keyPiece at s

@@ -16,7 +16,7 @@ use Rattle.strings.specs.declared.Choice.{Choice}
 use Rattle.strings.specs.declared.Choice.the-variants.{Known, Unknown}
 use Rattle.strings.specs.declared.Decoded.{Decoded}
 use Rattle.strings.specs.declared.Decoded.the-variants.{Written, Refused}
-use Rattle.strings.specs.Encodings.{encodingOf, markError}
+use Rattle.strings.specs.Encodings.{encodingBy, markError}
 use Rattle.strings.specs.Pieces.{gives, errorAt, notesAt, collect}
 use Rattle.strings.specs.Bodies.{pieceOf}
 use Rattle.strings.specs.Marks.{endsOf, bodyOf}
@@ -55,15 +55,19 @@ abbrev pub errorsBy : Choice → List ℕ → List (List ℕ)
 errorsBy (Known e) t = errorsOf e t
 errorsBy (Unknown r) t = []
 
--- refusals 2 and 1 are the check's, then comes 7
+-- refusals 2 and 1 are the check's, then come 7 and 9
 abbrev pub decodedBy : Utf8Check → Choice → List ℕ → ℕ → ℕ → Decoded
-decodedBy (NotValid r) kind t o e = Refused r
+decodedBy (NotValid r) choice t o e = Refused r
 decodedBy Valid (Unknown r) t o e = Refused r
 decodedBy Valid (Known k) t o e = fitted (bytesOf k t) (errorsOf k t) o e
 
--- the answer for a text, a kind number, an output of o bytes and e error records
-unfoldable pub decodeOf : List ℕ → ℕ → ℕ → ℕ → Decoded
-decodeOf t kind o e = decodedBy (checkOf t) (encodingOf kind) t o e
+-- the answer for a text, the numbers of an edition and a kind, an output of o bytes and e error records
+unfoldable pub decodeIn : List ℕ → ℕ → ℕ → ℕ → ℕ → Decoded
+decodeIn t edition kind o e = decodedBy (checkOf t) (encodingBy edition kind) t o e
+
+-- a call that names no edition reads TOML 1.0
+abbrev pub decodeOf : List ℕ → ℕ → ℕ → ℕ → Decoded
+decodeOf t kind o e = decodeIn t 10 kind o e
 
 -- lent memory that held `old` after that answer: what was to be written, from the front, and the rest untouched; all of
 -- it untouched where the call refused

@@ -1,32 +1,55 @@
--- RULE. Which kind number asks for which decoder, and what the kinds differ in: the error number of a missing mark, the
+-- RULE. Which numbers of a kind and an edition ask for which decoder, and what the kinds differ in: the error number of a missing mark, the
 -- bytes that stand for themselves, and those that are not allowed.
 -- Assumes nothing.
 use Prim.Native.Nat.{ℕ}
 use mathlib.Core.Bool.{Bool, cond, not, _||_}
 use lib.Dec.{eqb}
 use Rattle.classes.specs.Classes.{literalChar, mllChar, basicUnescaped, mlbUnescaped, unquotedChar}
-use Rattle.text.specs.declared.refusal.Refusal.the-variants.{NoKind}
+use Rattle.text.specs.declared.refusal.Refusal.the-variants.{NoKind, NoEdition}
+use Rattle.strings.specs.declared.Edition.{Edition}
+use Rattle.strings.specs.declared.Edition.the-variants.{Toml10, Toml11}
 use Rattle.strings.specs.declared.Encoding.{Encoding}
 use Rattle.strings.specs.declared.Encoding.the-variants.{LiteralString, BasicString, MlLiteralString, MlBasicString, UnquotedKey}
 use Rattle.strings.specs.declared.Choice.{Choice}
 use Rattle.strings.specs.declared.Choice.the-variants.{Known, Unknown}
 
 -- the numbers of the four string kinds, and 3 for a key; any other is refused, and told
-unfoldable pub encodingOf : ℕ → Choice
-encodingOf kind =
+unfoldable pub encodingIn : Edition → ℕ → Choice
+encodingIn v kind =
     cond (eqb kind 39) (Known LiteralString)
-    (cond (eqb kind 34) (Known BasicString)
+    (cond (eqb kind 34) (Known (BasicString v))
     (cond (eqb kind 1) (Known MlLiteralString)
-    (cond (eqb kind 2) (Known MlBasicString)
+    (cond (eqb kind 2) (Known (MlBasicString v))
     (cond (eqb kind 3) (Known UnquotedKey)
     (Unknown (NoKind kind))))))
+
+-- a number that is no edition is refused, and told, unless the kind is
+abbrev pub unnamed : ℕ → Choice → Choice
+unnamed edition (Known e) = Unknown (NoEdition edition)
+unnamed edition (Unknown r) = Unknown r
+
+-- 10 for TOML 1.0, 11 for TOML 1.1
+abbrev pub editionNumber : Edition → ℕ
+editionNumber Toml10 = 10
+editionNumber Toml11 = 11
+
+-- what the numbers of an edition and a kind ask for
+unfoldable pub encodingBy : ℕ → ℕ → Choice
+encodingBy edition kind =
+    cond (eqb edition 10) (encodingIn Toml10 kind)
+    (cond (eqb edition 11) (encodingIn Toml11 kind)
+    (unnamed edition (encodingIn Toml10 kind)))
+
+-- a call that names no edition reads TOML 1.0
+abbrev pub encodingOf : ℕ → Choice
+encodingOf kind = encodingBy 10 kind
 
 -- the error of a quote mark that is missing, at either end; a key has no mark, and its error is that it is empty
 abbrev pub markError : Encoding → ℕ
 markError LiteralString = 1
 markError MlLiteralString = 3
-markError BasicString = 6
-markError MlBasicString = 11
+markError (BasicString v) = 6
+markError (MlBasicString v) = 11
 markError UnquotedKey = 14
 
 -- in an ml-literal body an apostrophe stands for itself, and so does an LF
@@ -41,8 +64,8 @@ mlbPlain b = mlbUnescaped b || (eqb b 0x22 || eqb b 0x0A)
 abbrev pub plain : Encoding → ℕ → Bool
 plain LiteralString = literalChar
 plain MlLiteralString = mllPlain
-plain BasicString = basicUnescaped
-plain MlBasicString = mlbPlain
+plain (BasicString v) = basicUnescaped
+plain (MlBasicString v) = mlbPlain
 plain UnquotedKey = unquotedChar
 
 -- neither plain nor a backslash: what error 7 is about

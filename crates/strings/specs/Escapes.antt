@@ -1,5 +1,5 @@
--- RULE. A backslash and what it stands for: errors 8, 9 and 10. What the two letters of the hex escapes and the seven of
--- the others are is said here and nowhere else.
+-- RULE. A backslash and what it stands for, in each edition of TOML: errors 8, 9 and 10. Which letters there are is said here
+-- and nowhere else. TOML 1.1.0 has all of 1.0.0's, and two more.
 -- Assumes nothing.
 use Prim.Native.Nat.{ℕ, _+_, _-_, _*_}
 use mathlib.Core.Bool.{cond}
@@ -9,6 +9,8 @@ use lib.ListN.{take, drop, getD}
 use Rattle.classes.specs.Classes.{hexdig}
 use Rattle.classes.specs.Runs.{run}
 use Rattle.text.specs.Utf8Read.{isScalar}
+use Rattle.strings.specs.declared.Edition.{Edition}
+use Rattle.strings.specs.declared.Edition.the-variants.{Toml10, Toml11}
 use Rattle.strings.specs.declared.Piece.{Piece}
 use Rattle.strings.specs.Pieces.{charPiece}
 
@@ -19,9 +21,15 @@ use Rattle.strings.specs.Pieces.{charPiece}
 -- escape-seq-char =/ %x6E         ; n    line feed       U+000A
 -- escape-seq-char =/ %x72         ; r    carriage return U+000D
 -- escape-seq-char =/ %x74         ; t    tab             U+0009
+-- and in 1.1.0:
+-- escape-seq-char =/ %x65         ; e    escape          U+001B
+abbrev pub newEscape : Edition → ℕ → ℕ
+newEscape Toml10 b = 0
+newEscape Toml11 b = cond (eqb b 0x65) 0x1B 0
+
 -- the character of a letter, 0 where it has none
-unfoldable pub simpleEscape : ℕ → ℕ
-simpleEscape b =
+unfoldable pub simpleEscape : Edition → ℕ → ℕ
+simpleEscape v b =
     cond (eqb b 0x22) 0x22
     (cond (eqb b 0x5C) 0x5C
     (cond (eqb b 0x62) 0x08
@@ -29,13 +37,19 @@ simpleEscape b =
     (cond (eqb b 0x6E) 0x0A
     (cond (eqb b 0x72) 0x0D
     (cond (eqb b 0x74) 0x09
-    0))))))
+    (newEscape v b)))))))
 
 -- escape-seq-char =/ %x75 4HEXDIG ; uXXXX                U+XXXX
 -- escape-seq-char =/ %x55 8HEXDIG ; UXXXXXXXX            U+XXXXXXXX
+-- and in 1.1.0:
+-- escape-seq-char =/ %x78 2HEXDIG ; xHH                  U+00HH
+abbrev pub newHexLength : Edition → ℕ → ℕ
+newHexLength Toml10 b = 0
+newHexLength Toml11 b = cond (eqb b 0x78) 2 0
+
 -- how many digits a letter asks for, 0 where it asks for none
-unfoldable pub hexLength : ℕ → ℕ
-hexLength b = cond (eqb b 0x75) 4 (cond (eqb b 0x55) 8 0)
+unfoldable pub hexLength : Edition → ℕ → ℕ
+hexLength v b = cond (eqb b 0x75) 4 (cond (eqb b 0x55) 8 (newHexLength v b))
 
 -- the value of a hex digit: 0 to 9, A to F, a to f
 unfoldable pub hexValue : ℕ → ℕ
@@ -46,7 +60,7 @@ unfoldable pub hexFrom : ℕ → List ℕ → ℕ
 hexFrom v [] = v
 hexFrom v (b ∷ s) = hexFrom (v * 16 + hexValue b) s
 
--- \u or \U at place `at`, with n digits to come in s. Fewer: error 9 behind those that are there. No scalar value: error
+-- a hex escape at place `at`, with n digits to come in s. Fewer: error 9 behind those that are there. No scalar value: error
 -- 10 at the first digit. Either gives U+FFFD.
 unfoldable pub hexPiece : ℕ → ℕ → List ℕ → Piece
 hexPiece n at s =
@@ -56,8 +70,8 @@ hexPiece n at s =
 
 -- a backslash at place `at`, with s behind it. Behind it the end or another letter: error 8 there, and the backslash is
 -- given alone.
-unfoldable pub escapePiece : ℕ → List ℕ → Piece
-escapePiece at s =
-    cond (ltb 0 (hexLength (getD s 0 0))) (hexPiece (hexLength (getD s 0 0)) at (drop 1 s))
-    (cond (ltb 0 (simpleEscape (getD s 0 0))) (charPiece 2 (simpleEscape (getD s 0 0)) 0 0)
+unfoldable pub escapePiece : Edition → ℕ → List ℕ → Piece
+escapePiece v at s =
+    cond (ltb 0 (hexLength v (getD s 0 0))) (hexPiece (hexLength v (getD s 0 0)) at (drop 1 s))
+    (cond (ltb 0 (simpleEscape v (getD s 0 0))) (charPiece 2 (simpleEscape v (getD s 0 0)) 0 0)
     (charPiece 1 0x5C 8 (at + 1)))

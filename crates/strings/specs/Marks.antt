@@ -79,8 +79,8 @@ keyEnds t = record { opened = ltb 0 (length t); closed = true; start = 0; end = 
 abbrev pub endsOf : Encoding → List ℕ → Ends
 endsOf LiteralString t = lineEnds 0x27 t
 endsOf MlLiteralString t = mlEnds true 0x27 t
-endsOf BasicString t = lineEnds 0x22 t
-endsOf MlBasicString t = mlEnds false 0x22 t
+endsOf (BasicString v) t = lineEnds 0x22 t
+endsOf (MlBasicString v) t = mlEnds false 0x22 t
 endsOf UnquotedKey t = keyEnds t
 
 -- the bytes from the start to the end

@@ -3,16 +3,23 @@
 // Rules: specs/Encodings.antt, Pieces.antt, Escapes.antt, Bodies.antt, Marks.antt, Decoding.antt.
 use text::Refusal;
 
-// How a text is read: the Rust's `Encoding`, and the key.
+// The edition of TOML that a basic string is written in: 1.0 or 1.1.
+pub enum Edition {
+    Toml10,
+    Toml11,
+}
+
+// How a text is read: the Rust's `Encoding`, and the key. Only the basic kinds have escapes, and
+// escapes are all that the editions differ in.
 pub enum Encoding {
     LiteralString,
-    BasicString,
+    BasicString(Edition),
     MlLiteralString,
-    MlBasicString,
+    MlBasicString(Edition),
     UnquotedKey,
 }
 
-// What a kind number asks for.
+// What a kind number and an edition's number ask for.
 pub enum Choice {
     Known(Encoding),
     Unknown(Refusal),

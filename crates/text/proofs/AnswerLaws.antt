@@ -13,7 +13,7 @@ use Rattle.text.specs.Utf8.{Utf8}
 use Rattle.text.specs.Utf8Read.{validPrefix}
 use Rattle.text.specs.Answers.{checkOf}
 use Rattle.text.specs.CheckMeans.{Longest, CheckMeans}
-use Rattle.text.specs.declared.refusal.Refusal.the-variants.{NotUtf8, TooLong, FewTokens, ShortOutput, FewErrors, OutOfPlace, NoKind}
+use Rattle.text.specs.declared.refusal.Refusal.the-variants.{NotUtf8, TooLong, FewTokens, ShortOutput, FewErrors, OutOfPlace, NoKind, NoEdition}
 use Rattle.text.specs.declared.utf8.Utf8Check.{Utf8Check}
 use Rattle.text.specs.declared.utf8.Utf8Check.the-variants.{Valid, Refused}
 use Rattle.classes.proofs.Conds.{by-lt, cond-case}
@@ -57,6 +57,7 @@ means-answer s (Refused (ShortOutput n)) m = absurd m
 means-answer s (Refused (FewErrors n)) m = absurd m
 means-answer s (Refused (OutOfPlace n)) m = absurd m
 means-answer s (Refused (NoKind n)) m = absurd m
+means-answer s (Refused (NoEdition n)) m = absurd m
 
 answer-means : (s : List ℕ) → CheckMeans s (checkOf s)
 unfolding checkOf

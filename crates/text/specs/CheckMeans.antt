@@ -6,7 +6,7 @@ use mathlib.Core.List.{List}
 use lib.ListN.{length, take}
 use Rattle.text.specs.Refusals.{limit}
 use Rattle.text.specs.Utf8.{Utf8}
-use Rattle.text.specs.declared.refusal.Refusal.the-variants.{NotUtf8, TooLong, FewTokens, ShortOutput, FewErrors, OutOfPlace, NoKind}
+use Rattle.text.specs.declared.refusal.Refusal.the-variants.{NotUtf8, TooLong, FewTokens, ShortOutput, FewErrors, OutOfPlace, NoKind, NoEdition}
 use Rattle.text.specs.declared.utf8.Utf8Check.{Utf8Check}
 use Rattle.text.specs.declared.utf8.Utf8Check.the-variants.{Valid, Refused}
 
@@ -25,3 +25,4 @@ CheckMeans s (Refused (ShortOutput n)) = ⊥
 CheckMeans s (Refused (FewErrors n)) = ⊥
 CheckMeans s (Refused (OutOfPlace n)) = ⊥
 CheckMeans s (Refused (NoKind n)) = ⊥
+CheckMeans s (Refused (NoEdition n)) = ⊥

@@ -2,7 +2,7 @@
 -- Assumes nothing.
 use Prim.Native.Nat.{ℕ}
 use Rattle.text.specs.declared.refusal.Refusal.{Refusal}
-use Rattle.text.specs.declared.refusal.Refusal.the-variants.{NotUtf8, TooLong, FewTokens, ShortOutput, FewErrors, OutOfPlace, NoKind}
+use Rattle.text.specs.declared.refusal.Refusal.the-variants.{NotUtf8, TooLong, FewTokens, ShortOutput, FewErrors, OutOfPlace, NoKind, NoEdition}
 
 -- the most bytes that a document or a text may have
 abbrev pub limit : ℕ
@@ -17,6 +17,7 @@ refusalNumber (ShortOutput needed) = 4
 refusalNumber (FewErrors needed) = 5
 refusalNumber (OutOfPlace length) = 6
 refusalNumber (NoKind number) = 7
+refusalNumber (NoEdition number) = 9
 
 -- the number returned with it
 abbrev pub refusalValue : Refusal → ℕ
@@ -27,3 +28,4 @@ refusalValue (ShortOutput needed) = needed
 refusalValue (FewErrors needed) = needed
 refusalValue (OutOfPlace length) = length
 refusalValue (NoKind number) = number
+refusalValue (NoEdition number) = number

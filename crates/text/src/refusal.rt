@@ -22,10 +22,12 @@ pub enum Refusal {
     OutOfPlace { length: usize },
     // 7: a number that is no kind; that number
     NoKind { number: usize },
+    // 9: a number that is no edition of TOML; that number
+    NoEdition { number: usize },
 }
 
 impl Refusal {
-    // The refusal's own number, 1 to 7.
+    // The refusal's own number.
     pub fn number(self) -> usize
         ensures { λ r. ⌜ r ≡ refusalNumber self ⌝ }
     {
@@ -37,6 +39,7 @@ impl Refusal {
             Refusal::FewErrors { needed: _ } => 5,
             Refusal::OutOfPlace { length: _ } => 6,
             Refusal::NoKind { number: _ } => 7,
+            Refusal::NoEdition { number: _ } => 9,
         }
     }
 
@@ -52,6 +55,7 @@ impl Refusal {
             Refusal::FewErrors { needed } => needed,
             Refusal::OutOfPlace { length } => length,
             Refusal::NoKind { number } => number,
+            Refusal::NoEdition { number } => number,
         }
     }
 }

@@ -14,8 +14,8 @@ use Rattle.lexer.specs.Steps.{startAnswer, stepOf, cursorOf}
 use Rattle.lexer.specs.Whole.{lexAnswer, lexMemory}
 use Rattle.place.specs.Spans.{spanAnswer}
 use Rattle.place.specs.Positions.{positionAnswer}
-use Rattle.strings.specs.Encodings.{encodingOf as decoderOf}
-use Rattle.strings.specs.Decoding.{decodeOf, bytesBy, errorsBy, after}
+use Rattle.strings.specs.Encodings.{encodingBy as decoderBy}
+use Rattle.strings.specs.Decoding.{decodeIn, bytesBy, errorsBy, after}
 use Rattle.toml.specs.Numbers.{flag, checkNumbers, startNumbers, stepNumbers, lexNumbers, spanNumbers, partOf}
 use Rattle.toml.specs.Numbers.{positionNumbers, decodeNumbers, describedNumbers, encodedNumbers}
 use Rattle.toml.specs.declared.Answered.{Answered}
@@ -52,15 +52,22 @@ pub toml-position : (doc : List ℕ) (offset : ℕ) → Only (λ (r : Positioned
 toml-position doc offset = only-equal (positionNumbers (positionAnswer doc offset))
 
 -- the answer, the output and the error records afterwards
-pub toml-decode : (text : List ℕ) (kind : ℕ) (output : List ℕ) (errors : List (List ℕ))
-    → Only (λ (r : DecodedText). r ≡ decodeNumbers (decodeOf text kind (length output) (length errors)))
-    × (Only (λ (new : List ℕ). new ≡ after (decodeOf text kind (length output) (length errors)) (bytesBy (decoderOf kind) text) output)
-    × Only (λ (new : List (List ℕ)). new ≡ after (decodeOf text kind (length output) (length errors)) (errorsBy (decoderOf kind) text) errors))
-toml-decode text kind output errors =
-    let d = decodeOf text kind (length output) (length errors) in (
+pub toml-decode-in : (text : List ℕ) (edition kind : ℕ) (output : List ℕ) (errors : List (List ℕ))
+    → Only (λ (r : DecodedText). r ≡ decodeNumbers (decodeIn text edition kind (length output) (length errors)))
+    × (Only (λ (new : List ℕ). new ≡ after (decodeIn text edition kind (length output) (length errors)) (bytesBy (decoderBy edition kind) text) output)
+    × Only (λ (new : List (List ℕ)). new ≡ after (decodeIn text edition kind (length output) (length errors)) (errorsBy (decoderBy edition kind) text) errors))
+toml-decode-in text edition kind output errors =
+    let d = decodeIn text edition kind (length output) (length errors) in (
       only-equal (decodeNumbers d),
-      (only-equal (after d (bytesBy (decoderOf kind) text) output), only-equal (after d (errorsBy (decoderOf kind) text) errors)),
+      (only-equal (after d (bytesBy (decoderBy edition kind) text) output), only-equal (after d (errorsBy (decoderBy edition kind) text) errors)),
     )
+
+-- the same for a call that names no edition, which reads TOML 1.0
+pub toml-decode : (text : List ℕ) (kind : ℕ) (output : List ℕ) (errors : List (List ℕ))
+    → Only (λ (r : DecodedText). r ≡ decodeNumbers (decodeIn text 10 kind (length output) (length errors)))
+    × (Only (λ (new : List ℕ). new ≡ after (decodeIn text 10 kind (length output) (length errors)) (bytesBy (decoderBy 10 kind) text) output)
+    × Only (λ (new : List (List ℕ)). new ≡ after (decodeIn text 10 kind (length output) (length errors)) (errorsBy (decoderBy 10 kind) text) errors))
+toml-decode text kind output errors = toml-decode-in text 10 kind output errors
 
 pub toml-description : (kind : ℕ) → Only (λ (r : Described). r ≡ describedNumbers (descriptionOf kind))
 toml-description kind = only-equal (describedNumbers (descriptionOf kind))

@@ -11,8 +11,8 @@ ghost use Rattle.lexer.specs.Steps.{startAnswer, stepOf, cursorOf};
 ghost use Rattle.lexer.specs.Whole.{lexAnswer, lexMemory};
 ghost use Rattle.place.specs.Spans.{spanAnswer, spanText};
 ghost use Rattle.place.specs.Positions.{positionAnswer};
-ghost use Rattle.strings.specs.Encodings.{encodingOf as decoderOf};
-ghost use Rattle.strings.specs.Decoding.{decodeOf, bytesBy, errorsBy, after};
+ghost use Rattle.strings.specs.Encodings.{encodingOf as decoderOf, encodingBy as decoderBy};
+ghost use Rattle.strings.specs.Decoding.{decodeOf, decodeIn, bytesBy, errorsBy, after};
 ghost use Rattle.toml.specs.Numbers.{bitOf, flag, answered, cursorNumbers, noToken, partFrom};
 ghost use Rattle.toml.specs.Numbers.{checkNumbers, startNumbers, stepNumbers, lexNumbers, spanNumbers, partOf};
 ghost use Rattle.toml.specs.Numbers.{positionNumbers, decodeNumbers, describedNumbers, encodedNumbers};
@@ -218,7 +218,26 @@ pub extern "C" fn toml_decode(
     ensures bytes { λ _. ⌜ now (output .exit) ≡ after (decodeOf (now (text .entry)) kind (length (now (output .entry))) (length (now (errors .entry)))) (bytesBy (decoderOf kind) (now (text .entry))) (now (output .entry)) ⌝ }
     ensures records { λ _. ⌜ now (errors .exit) ≡ after (decodeOf (now (text .entry)) kind (length (now (output .entry))) (length (now (errors .entry)))) (errorsBy (decoderOf kind) (now (text .entry))) (now (errors .entry)) ⌝ }
 {
-    match decoder::decode(text, kind, output, errors) {
+    toml_decode_in(text, TOML_10, kind, output, errors)
+}
+
+// The number of TOML 1.0.
+const TOML_10: usize = 10;
+
+// The same in the edition of TOML that a number names: 10 for TOML 1.0, 11 for TOML 1.1.
+#[no_mangle]
+pub extern "C" fn toml_decode_in(
+    text: &[u8],
+    edition: usize,
+    kind: usize,
+    output: &mut [u8],
+    errors: &mut [[usize; 3]],
+) -> DecodedText
+    ensures answer { λ r. ⌜ r ≡ decodeNumbers (decodeIn (now (text .entry)) edition kind (length (now (output .entry))) (length (now (errors .entry)))) ⌝ }
+    ensures bytes { λ _. ⌜ now (output .exit) ≡ after (decodeIn (now (text .entry)) edition kind (length (now (output .entry))) (length (now (errors .entry)))) (bytesBy (decoderBy edition kind) (now (text .entry))) (now (output .entry)) ⌝ }
+    ensures records { λ _. ⌜ now (errors .exit) ≡ after (decodeIn (now (text .entry)) edition kind (length (now (output .entry))) (length (now (errors .entry)))) (errorsBy (decoderBy edition kind) (now (text .entry))) (now (errors .entry)) ⌝ }
+{
+    match decoder::decode_in(text, edition, kind, output, errors) {
         Decoded::Written { bytes, errors } => DecodedText {
             answer: answer_of(bytes),
             errors,

@@ -43,20 +43,20 @@ enum-told-2 c = search needs
 decode-ml-literal-string-requires : tie.Need-decode-ml-literal-string-requires
 decode-ml-literal-string-requires c κs = search needs
 
-enum-told-3 : tie.Need-enum-told-3
-enum-told-3 c = search needs
+enum-known-e : tie.Need-enum-known-e
+enum-known-e c = search needs
 
 decode-basic-string-requires : tie.Need-decode-basic-string-requires
 decode-basic-string-requires c κs = search needs
 
-enum-told-4 : tie.Need-enum-told-4
-enum-told-4 c = search needs
+enum-known-e-2 : tie.Need-enum-known-e-2
+enum-known-e-2 c = search needs
 
 decode-ml-basic-string-requires : tie.Need-decode-ml-basic-string-requires
 decode-ml-basic-string-requires c κs = search needs
 
-enum-told-5 : tie.Need-enum-told-5
-enum-told-5 c = search needs
+enum-told-3 : tie.Need-enum-told-3
+enum-told-3 c = search needs
 
 decode-unquoted-key-requires : tie.Need-decode-unquoted-key-requires
 decode-unquoted-key-requires c κs = search needs
@@ -85,34 +85,30 @@ returns-5 c =
 
 returns-6 : tie.Need-returns-6
 returns-6 c =
-    let args = c .before .before .before .before .before .before .before .args in
-    let if2 = c .before .before .before .before .if2 in
-    let if3 = c .before .before .before .if3 in
-    let enum-told3 = c .before .enum-told3 in
-    let a = args in
+    let a = c .before .before .before .before .before .before .before .before .args in
+    let if2 = c .before .before .before .before .before .if2 in
+    let if3 = c .before .before .before .before .if3 in
+    let is = c .before .before .e .given .1 in
     let rule = piece-is (a .e) (a .dropping) (a .at) (a .s .now) (omega arith) (if2 .left) (if3 .left) in
-    rw (enum-told3 .given .1) (c .decode-basic-string .ensures ∙ rw (enum-told3 .given .1) at rule)
+    rw is (c .decode-basic-string .ensures ∙ rw is at rule)
 
 returns-7 : tie.Need-returns-7
 returns-7 c =
-    let args = c .before .before .before .before .before .before .before .args in
-    let if2 = c .before .before .before .before .if2 in
-    let if3 = c .before .before .before .if3 in
-    let enum-told4 = c .before .enum-told4 in
-    let decode-ml-basic-string = c .decode-ml-basic-string in
-    let a = args in
+    let a = c .before .before .before .before .before .before .before .before .args in
+    let if2 = c .before .before .before .before .before .if2 in
+    let if3 = c .before .before .before .before .if3 in
+    let is = c .before .before .e2 .given .1 in
     let rule = piece-is (a .e) (a .dropping) (a .at) (a .s .now) (omega arith) (if2 .left) (if3 .left) in
-    rw (enum-told4 .given .1) (decode-ml-basic-string .ensures ∙ rw (enum-told4 .given .1) at rule)
+    rw is (c .decode-ml-basic-string .ensures ∙ rw is at rule)
 
 returns-8 : tie.Need-returns-8
 returns-8 c =
-    let args = c .before .before .before .before .before .before .before .args in
+    let a = c .before .before .before .before .before .before .before .args in
     let if2 = c .before .before .before .before .if2 in
     let if3 = c .before .before .before .if3 in
-    let enum-told5 = c .before .enum-told5 in
-    let a = args in
+    let is = c .before .enum-told3 .given .1 in
     let rule = piece-is (a .e) (a .dropping) (a .at) (a .s .now) (omega arith) (if2 .left) (if3 .left) in
-    rw (enum-told5 .given .1) (c .decode-unquoted-key .ensures ∙ rw (enum-told5 .given .1) at rule)
+    rw is (c .decode-unquoted-key .ensures ∙ rw is at rule)
 
 pub piece-at-spec : {M : Type 1} → statement M
 piece-at-spec =
@@ -128,11 +124,11 @@ piece-at-spec =
     decode-literal-string-requires
     enum-told-2
     decode-ml-literal-string-requires
-    enum-told-3
+    enum-known-e
     decode-basic-string-requires
-    enum-told-4
+    enum-known-e-2
     decode-ml-basic-string-requires
-    enum-told-5
+    enum-told-3
     decode-unquoted-key-requires
     returns-4
     returns-5

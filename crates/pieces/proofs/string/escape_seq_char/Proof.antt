@@ -17,12 +17,12 @@ hex-length-requires c κs = search needs
 
 sub-hexescape : tie.Need-sub-hexescape
 sub-hexescape c =
-    let letter = hex-letter _ (rw (c .before .hex-length .ensures) at (c .if1 .taken)) in
+    let letter = hex-letter _ _ (rw (c .before .hex-length .ensures) at (c .if1 .taken)) in
     there (c .before .before .before .before .args .s .now) 0 (omega (arith, c .before .before .peek .ensures))
 
 part-hexescape-start : tie.Need-part-hexescape-start
 part-hexescape-start c =
-    let letter = hex-letter _ (rw (c .before .hex-length .ensures) at (c .if1 .taken)) in
+    let letter = hex-letter _ _ (rw (c .before .hex-length .ensures) at (c .if1 .taken)) in
     there (c .before .before .before .before .args .s .now) 0 (omega (arith, c .before .before .peek .ensures))
 
 part-hexescape-end : tie.Need-part-hexescape-end
@@ -32,7 +32,7 @@ hexescape-requires : tie.Need-hexescape-requires
 hexescape-requires c κs =
     let hex-length = c .before .before .hex-length in
     let pre = c .before .before .before .before .before .pre in
-    (omega (arith, hex-length .ensures, hex-letter _ (rw (hex-length .ensures) at (c .before .if1 .taken)) .3), pre)
+    (omega (arith, hex-length .ensures, hex-letter _ _ (rw (hex-length .ensures) at (c .before .if1 .taken)) .3), pre)
 
 returns : tie.Need-returns
 returns c =
@@ -40,7 +40,7 @@ returns c =
     let peek = c .before .before .before .before .peek in
     let hex-length = c .before .before .before .hex-length in
     rw rest-is at (c .hexescape .ensures)
-    ∙ escape-hex (args .at) (args .s .now) _ (rw (peek .ensures) at (hex-length .ensures)) (c .before .before .if1 .taken)
+    ∙ escape-hex (args .v) (args .at) (args .s .now) _ (rw (peek .ensures) at (hex-length .ensures)) (c .before .before .if1 .taken)
 
 simple-escape-requires : tie.Need-simple-escape-requires
 simple-escape-requires c κs = search needs
@@ -56,7 +56,7 @@ returns-2 c =
     let hex-length = c .before .before .before .before .hex-length in
     let if1 = c .before .before .before .if1 in
     let simple = rw (peek .ensures) at (simple-escape .ensures) in
-    c .char-piece .ensures ∙ escape-simple (args .at) (args .s .now) _ _ (rw (peek .ensures) at (hex-length .ensures)) (if1 .left) simple (c .before .if2 .taken)
+    c .char-piece .ensures ∙ escape-simple (args .v) (args .at) (args .s .now) _ _ (rw (peek .ensures) at (hex-length .ensures)) (if1 .left) simple (c .before .if2 .taken)
 
 add-char-piece : tie.Need-add-char-piece
 add-char-piece c = search needs
@@ -72,7 +72,7 @@ returns-3 c =
     let hex-length = c .before .before .before .before .hex-length in
     let if1 = c .before .before .before .if1 in
     let simple = rw (peek .ensures) at (simple-escape .ensures) in
-    c .char-piece2 .ensures ∙ escape-none (args .at) (args .s .now) _ _ (rw (peek .ensures) at (hex-length .ensures)) (if1 .left) simple (c .before .if2 .left)
+    c .char-piece2 .ensures ∙ escape-none (args .v) (args .at) (args .s .now) _ _ (rw (peek .ensures) at (hex-length .ensures)) (if1 .left) simple (c .before .if2 .left)
 
 pub escape-seq-char-spec : {M : Type 1} → statement M
 escape-seq-char-spec =

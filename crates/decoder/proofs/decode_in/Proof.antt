@@ -1,12 +1,12 @@
--- `decode` is right because it asks in the order of the refusals: the check, then the kind, then the lent memory.
+-- `decode_in` is right because it asks in the order of the refusals: the check, then kind and edition, then the lent memory.
 -- Assumes nothing.
 use mathlib.Core.Path.{refl, sym, _∙_}
 use borrow.Author.Needs.{needs}
 use lib.ListN.{length}
 use Rattle.text.proofs.AnswerLaws.{checked}
 use Rattle.strings.proofs.DecodeLaws.{decode-invalid, decode-valid}
-use Rattle.decoder.proofs.decode.Statement.{statement}
-use Rattle.decoder.proofs.decode.Tie as tie
+use Rattle.decoder.proofs.decode_in.Statement.{statement}
+use Rattle.decoder.proofs.decode_in.Tie as tie
 
 check-utf8-requires : tie.Need-check-utf8-requires
 check-utf8-requires c κs = search needs
@@ -17,8 +17,8 @@ enum-known-check c = search needs
 enum-told : tie.Need-enum-told
 enum-told c = search needs
 
-encoding-of-requires : tie.Need-encoding-of-requires
-encoding-of-requires c κs = search needs
+encoding-by-requires : tie.Need-encoding-by-requires
+encoding-by-requires c κs = search needs
 
 decode-by-requires : tie.Need-decode-by-requires
 decode-by-requires c κs =
@@ -31,7 +31,7 @@ returns : tie.Need-returns
 returns c =
     let a = c .before .before .before .before .before .before .args in
     let refused = sym (c .before .check .given .1) ∙ c .before .before .before .check-utf8 .ensures in
-    (decode-invalid (a .text .now) (a .kind) (length (a .output .now)) (length (a .errors .now)) _ refused, (refl, refl))
+    (decode-invalid (a .text .now) (a .edition) (a .kind) (length (a .output .now)) (length (a .errors .now)) _ refused, (refl, refl))
 
 same-length : tie.Need-same-length
 same-length c = search needs
@@ -45,22 +45,22 @@ returns-2 c =
     let enum-told = c .before .before .before .before .before .before .before .enum-told in
     let check-utf8 = c .before .before .before .before .before .before .before .before .before .check-utf8 in
     let decode-by = c .before .before .before .decode-by in
-    let encoding-of = c .before .before .before .before .before .before .encoding-of in
+    let encoding-by = c .before .before .before .before .before .before .encoding-by in
     let a = args in
     let valid = sym (enum-told .given .1) ∙ check-utf8 .ensures in
     let d = decode-by in
-    let answer = decode-valid (a .text .now) (a .kind) (length (a .output .now)) (length (a .errors .now)) valid in
-    let e = encoding-of .ensures in
+    let answer = decode-valid (a .text .now) (a .edition) (a .kind) (length (a .output .now)) (length (a .errors .now)) valid in
+    let e = encoding-by .ensures in
     (rw e at (d .ensures .0) ∙ answer, (rw e at (d .ensures .1 .0), rw e at (d .ensures .1 .1)))
 
-pub decode-spec : {M : Type 1} → statement M
-decode-spec =
+pub decode-in-spec : {M : Type 1} → statement M
+decode-in-spec =
     tie.close
     (tie.spec
     check-utf8-requires
     enum-known-check
     enum-told
-    encoding-of-requires
+    encoding-by-requires
     decode-by-requires
     returns
     same-length

@@ -1,0 +1,221 @@
+-- A text that is free of error in TOML 1.0 is free of error in TOML 1.1, with the same value. Not the other way round: an
+-- example stands at the end.
+-- Assumes nothing.
+use Prim.Native.Nat.{ℕ, zero, suc, pred, _<_}
+use mathlib.Core.Path.{_≡_, refl, sym, ap, _∙_}
+use mathlib.Core.Bool.{Bool, true, false, cond, _&&_}
+use mathlib.Core.List.{List, [], _∷_, _++_}
+use native.Mathlib.Omega.{arith}
+use lib.Dec.{eqb, ltb}
+use lib.ListN.{length, drop, getD, length-append}
+use borrow.Author.Tests.{lt-ltb}
+use Rattle.classes.specs.Classes.{basicUnescaped, hexdig}
+use Rattle.classes.specs.Runs.{run}
+use Rattle.classes.proofs.Conds.{cond-case, by-lt, by-eq}
+use Rattle.text.specs.Utf8.{encodeScalar}
+use Rattle.text.specs.declared.refusal.Refusal.{Refusal}
+use Rattle.text.specs.declared.refusal.Refusal.the-variants.{NoKind}
+use Rattle.strings.specs.declared.Edition.{Edition}
+use Rattle.strings.specs.declared.Edition.the-variants.{Toml10, Toml11}
+use Rattle.strings.specs.declared.Encoding.{Encoding}
+use Rattle.strings.specs.declared.Encoding.the-variants.{LiteralString, BasicString, MlLiteralString, MlBasicString, UnquotedKey}
+use Rattle.strings.specs.declared.Choice.{Choice}
+use Rattle.strings.specs.declared.Choice.the-variants.{Known, Unknown}
+use Rattle.strings.specs.declared.Piece.{Piece}
+use Rattle.strings.specs.Encodings.{mlbPlain, basicInvalid, encodingIn, encodingBy, markError}
+use Rattle.strings.specs.Pieces.{gives, notes, notesAt, Pieces, collect, charPiece, copyPiece}
+use Rattle.strings.specs.Escapes.{newEscape, simpleEscape, newHexLength, hexLength, hexValue, hexFrom, hexPiece, escapePiece}
+use Rattle.strings.specs.Bodies.{basicPiece, skips, escapedNl, escapedMore, mlbContent, mlBasicPiece, pieceOf}
+use Rattle.strings.specs.Marks.{lineEnds, endsOf, bodyOf}
+use Rattle.strings.specs.Decoding.{bytesOf, missing, errorsOf, bytesBy, errorsBy}
+use Rattle.strings.proofs.Bounds.{notes-clean}
+
+-- ---- letters: those of 1.0 mean the same in 1.1
+
+module _ (b : ℕ) where
+  hex-same : 0 < hexLength Toml10 b → hexLength Toml11 b ≡ hexLength Toml10 b
+  unfolding hexLength
+  hex-same h = go (eqb b 0x75) (eqb b 0x55) h
+    where
+      go : (x y : Bool) → 0 < cond x 4 (cond y 8 0) → cond x 4 (cond y 8 (newHexLength Toml11 b)) ≡ cond x 4 (cond y 8 0)
+      go true y h = refl
+      go false true h = refl
+      go false false h = absurd (omega arith)
+
+  -- a letter with a character asks for no digits
+  hex-none : 0 < simpleEscape Toml10 b → hexLength Toml11 b ≡ 0
+  unfolding simpleEscape hexLength
+  hex-none =
+      let C : ℕ → Type 0 = λ (c : ℕ). 0 < c → hexLength Toml11 b ≡ 0 in
+      by-eq C b 0x22 (λ e z. rw e)
+      λ e. by-eq C b 0x5C (λ e z. rw e)
+      λ e. by-eq C b 0x62 (λ e z. rw e)
+      λ e. by-eq C b 0x66 (λ e z. rw e)
+      λ e. by-eq C b 0x6E (λ e z. rw e)
+      λ e. by-eq C b 0x72 (λ e z. rw e)
+      λ e. by-eq C b 0x74 (λ e z. rw e) (λ e z. absurd (omega arith))
+
+  simple-same : 0 < simpleEscape Toml10 b → simpleEscape Toml11 b ≡ simpleEscape Toml10 b
+  unfolding simpleEscape
+  simple-same h =
+      go (eqb b 0x22) (eqb b 0x5C) (eqb b 0x62) (eqb b 0x66) (eqb b 0x6E) (eqb b 0x72) (eqb b 0x74) h
+    where
+      letters : (p q r s t u v : Bool) → ℕ → ℕ
+      letters p q r s t u v n =
+          cond p 0x22 (cond q 0x5C (cond r 0x08 (cond s 0x0C (cond t 0x0A (cond u 0x0D (cond v 0x09 n))))))
+
+      go : (p q r s t u v : Bool) → 0 < letters p q r s t u v 0
+          → letters p q r s t u v (newEscape Toml11 b) ≡ letters p q r s t u v 0
+      go true q r s t u v h = refl
+      go false true r s t u v h = refl
+      go false false true s t u v h = refl
+      go false false false true t u v h = refl
+      go false false false false true u v h = refl
+      go false false false false false true v h = refl
+      go false false false false false false true h = refl
+      go false false false false false false false h = absurd (omega arith)
+
+-- ---- pieces: one without an error under 1.0 is the same under 1.1
+
+-- the piece r is p, unless p has an error
+abbrev Stays : Piece → Piece → Type 0
+Stays r p = p .err ≡ 0 → r ≡ p
+
+escape-same : (at : ℕ) (s : List ℕ) → Stays (escapePiece Toml11 at s) (escapePiece Toml10 at s)
+unfolding escapePiece
+escape-same at s =
+    let b = getD s 0 0 in
+    by-lt (Stays (escapePiece Toml11 at s)) 0 (hexLength Toml10 b)
+    (λ h e. rw (hex-same b h, lt-ltb _ _ h))
+    λ h. by-lt (Stays (escapePiece Toml11 at s)) 0 (simpleEscape Toml10 b)
+    (λ l e. rw (hex-none b l, simple-same b l, lt-ltb _ _ l))
+    (λ l e. absurd (omega (arith, e)))
+
+stays-self : (p : Piece) → Stays p p
+stays-self p e = refl
+
+stays-cond : (x : Bool) {p q r s : Piece} → Stays p r → Stays q s → Stays (cond x p q) (cond x r s)
+stays-cond true f g = f
+stays-cond false f g = g
+
+basic-same : (at : ℕ) (s : List ℕ) → Stays (basicPiece Toml11 at s) (basicPiece Toml10 at s)
+unfolding basicPiece
+basic-same at s =
+    stays-cond (basicUnescaped (getD s 0 0)) (stays-self _)
+    (stays-cond (eqb (getD s 0 0) 0x5C) (escape-same at (drop 1 s)) (stays-self _))
+
+content-same : (at : ℕ) (s : List ℕ) → Stays (mlbContent Toml11 at s) (mlbContent Toml10 at s)
+unfolding mlbContent
+content-same at s =
+    stays-cond (mlbPlain (getD s 0 0)) (stays-self _)
+    (stays-cond (eqb (getD s 0 0) 0x5C) (stays-cond (skips (getD s 1 0)) (stays-self _) (escape-same at (drop 1 s))) (stays-self _))
+
+ml-basic-same : (d : Bool) (at : ℕ) (s : List ℕ) → Stays (mlBasicPiece Toml11 d at s) (mlBasicPiece Toml10 d at s)
+unfolding mlBasicPiece
+ml-basic-same d at s = stays-cond (d && skips (getD s 0 0)) (stays-self _) (content-same at s)
+
+-- the same encoding in TOML 1.1
+abbrev pub later : Encoding → Encoding
+later LiteralString = LiteralString
+later (BasicString v) = BasicString Toml11
+later MlLiteralString = MlLiteralString
+later (MlBasicString v) = MlBasicString Toml11
+later UnquotedKey = UnquotedKey
+
+piece-same : (e : Encoding) (d : Bool) (at : ℕ) (s : List ℕ) → Stays (pieceOf (later e) d at s) (pieceOf e d at s)
+piece-same LiteralString d at s = stays-self _
+piece-same (BasicString Toml10) d at s = basic-same at s
+piece-same (BasicString Toml11) d at s = stays-self _
+piece-same MlLiteralString d at s = stays-self _
+piece-same (MlBasicString Toml10) d at s = ml-basic-same d at s
+piece-same (MlBasicString Toml11) d at s = stays-self _
+piece-same UnquotedKey d at s = stays-self _
+
+-- ---- bodies and texts
+
+module _ {A : Type 0} (e : Encoding) (g : Piece → List ℕ → List A) where
+  collect-same : (k : ℕ) (d : Bool) (at : ℕ) (s : List ℕ) → length (collect (pieceOf e) notesAt k d at s) ≡ 0
+      → collect (pieceOf (later e)) g k d at s ≡ collect (pieceOf e) g k d at s
+  collect-same k d at [] h = refl
+  collect-same zero d at (b ∷ r) h =
+      let p = pieceOf e d at (b ∷ r) in
+      let n = rw length-append at h in
+      rw (piece-same e d at (b ∷ r) (notes-clean p (omega (arith, n))))
+      (ap (λ (l : List A). g p (b ∷ r) ++ l) (collect-same (pred (p .take)) (p .dropping) (suc at) r (omega (arith, n))))
+  collect-same (suc k) d at (b ∷ r) h = collect-same k d (suc at) r h
+
+ends-same : (e : Encoding) (t : List ℕ) → endsOf (later e) t ≡ endsOf e t
+ends-same LiteralString t = refl
+ends-same (BasicString v) t = refl
+ends-same MlLiteralString t = refl
+ends-same (MlBasicString v) t = refl
+ends-same UnquotedKey t = refl
+
+mark-same : (e : Encoding) → markError (later e) ≡ markError e
+mark-same LiteralString = refl
+mark-same (BasicString v) = refl
+mark-same MlLiteralString = refl
+mark-same (MlBasicString v) = refl
+mark-same UnquotedKey = refl
+
+module _ (e : Encoding) (t : List ℕ) (free : errorsOf e t ≡ []) where
+  -- a text without errors has none in its body
+  body-free : length (collect (pieceOf e) notesAt 0 false (endsOf e t .start) (bodyOf (endsOf e t) t)) ≡ 0
+  unfolding errorsOf
+  body-free = let n = rw (length-append, length-append) at (ap length free) in omega (arith, n)
+
+  pub same-bytes : bytesOf (later e) t ≡ bytesOf e t
+  unfolding bytesOf
+  same-bytes = rw (ends-same e t) (collect-same e gives 0 false (endsOf e t .start) (bodyOf (endsOf e t) t) body-free)
+
+  pub same-errors : errorsOf (later e) t ≡ []
+  unfolding errorsOf
+  same-errors = rw (ends-same e t, mark-same e, collect-same e notesAt 0 false (endsOf e t .start) (bodyOf (endsOf e t) t) body-free) free
+
+-- ---- the call
+
+abbrev laterChoice : Choice → Choice
+laterChoice (Known e) = Known (later e)
+laterChoice (Unknown r) = Unknown r
+
+chosen-later : (kind : ℕ) → encodingIn Toml11 kind ≡ laterChoice (encodingIn Toml10 kind)
+unfolding encodingIn
+chosen-later kind = go (eqb kind 39) (eqb kind 34) (eqb kind 1) (eqb kind 2) (eqb kind 3) (NoKind kind)
+  where
+    pick : Edition → (p q r s t : Bool) → Refusal → Choice
+    pick v p q r s t n =
+        cond p (Known LiteralString)
+        (cond q (Known (BasicString v)) (cond r (Known MlLiteralString) (cond s (Known (MlBasicString v)) (cond t (Known UnquotedKey) (Unknown n)))))
+
+    go : (p q r s t : Bool) (n : Refusal) → pick Toml11 p q r s t n ≡ laterChoice (pick Toml10 p q r s t n)
+    go true q r s t n = refl
+    go false true r s t n = refl
+    go false false true s t n = refl
+    go false false false true t n = refl
+    go false false false false true n = refl
+    go false false false false false n = refl
+
+-- what the call makes of a text, its errors and its bytes, in the edition of that number
+pub record SameIn (t : List ℕ) (kind : ℕ) : Type 0 where
+  pub errors : errorsBy (encodingBy 11 kind) t ≡ []
+  pub bytes : bytesBy (encodingBy 11 kind) t ≡ bytesBy (encodingBy 10 kind) t
+
+pub same-value : (t : List ℕ) (kind : ℕ) → errorsBy (encodingBy 10 kind) t ≡ [] → SameIn t kind
+unfolding encodingBy
+same-value t kind free =
+    let s = go (encodingIn Toml10 kind) free in
+    record { errors = rw (chosen-later kind) (s .0); bytes = rw (chosen-later kind) (s .1) }
+  where
+    go : (c : Choice) → errorsBy c t ≡ [] → (errorsBy (laterChoice c) t ≡ []) × (bytesBy (laterChoice c) t ≡ bytesBy c t)
+    go (Known e) h = (same-errors e t h, same-bytes e t h)
+    go (Unknown r) h = (refl, refl)
+
+-- ---- not the other way round: "\e" and "\x41" are strings of TOML 1.1 alone
+
+abbrev escape-e : List ℕ
+escape-e = 0x22 ∷ 0x5C ∷ 0x65 ∷ 0x22 ∷ []
+
+pub later-only : (errorsBy (encodingBy 11 34) escape-e ≡ []) × (bytesBy (encodingBy 11 34) escape-e ≡ 0x1B ∷ [])
+    × (errorsBy (encodingBy 10 34) escape-e ≡ (8 ∷ 2 ∷ 2 ∷ []) ∷ [])
+unfolding encodingBy encodingIn errorsOf bytesOf lineEnds notes gives basicPiece run basicUnescaped escapePiece simpleEscape hexLength encodeScalar
+later-only = (refl, refl, refl)
