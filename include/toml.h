@@ -4,7 +4,8 @@
  * The caller's part: a pointer stands for as many elements as the length behind it says, it is not null
  * even where that length is 0, and lent memory does not overlap what is read or lent besides.
  *
- * An answer has `refusal`, 0 where the call answered and else the refusal's number, and `value`:
+ * An answer has `refusal`, 0 where the call answered and else the refusal's number; `value`; and `length`, which
+ * is 0 but with refusal 1:
  *
  *   refusal  given exactly when                                      value
  *   0        answered                                                tokens, bytes, or 0: see the call
@@ -17,6 +18,10 @@
  *            after the end, or an end at a byte 80 to BF
  *   7        a number that is no kind of the call's                  that number
  *   9        a number that is no edition of TOML                     that number
+ *
+ * With refusal 1 `length` is that of the faulty sequence behind the valid prefix: the bytes, 1 to 3, that begin no
+ * character with what follows them; or 0 where the bytes end inside a character, which further bytes could mend.
+ * It is what Rust's core::str::Utf8Error tells as error_len, with 0 for none.
  *
  * A refused call has written nothing, and its other results are 0. Where several refusals fit, the
  * order beside the call says which is given.
@@ -53,10 +58,11 @@ enum {
     TOML_EOF = 4
 };
 
-/* Which refusal, 0 for none, and the number returned with it. */
+/* Which refusal, 0 for none, the number returned with it, and with refusal 1 the faulty sequence's length. */
 typedef struct {
     size_t refusal;
     size_t value;
+    size_t length;
 } toml_answer;
 
 /* Where the next token begins, and whether Eof was given: 0 or 1. */

@@ -216,6 +216,16 @@ def editions():
     return by_reference(*both, *rest, *bytes_of, *numbers)
 
 
+def faults():
+    """Each first byte beyond ASCII, with good and wrong bytes behind it and with none; and the calls that hand a fault on."""
+    behind = [b'', b'x', b'\x80', b'\x80x', b'\x9f', b'\xa0', b'\xa0x', b'\x90\x80', b'\x90\x80x', b'\xa0\x80x', b'\x80\x80\x80', b'\xbf\xbf\xc0']
+    docs = [b'a' + bytes([lead]) + tail for lead in range(0x80, 0x100) for tail in behind]
+    some = [b'\xff', b'a\xc3', b'a\xe2\x82', b'a\xe2\x82=', b'\xed\xa0\x80', b'\xf0\x90\x80', b'\xf0\x90\x80z', b'']
+    return by_reference(*[call('fault', doc) for doc in docs + some], *[call('lex', doc) for doc in some],
+                        *[call('dec', 34, doc) for doc in some], *[call('decin', 11, 2, doc) for doc in some],
+                        *[call('lexcap', 0, doc) for doc in some], *[call('deccap', 34, 0, 0, doc) for doc in some])
+
+
 def every_byte():
     """Each byte as a whole document, and between the marks of each kind."""
     marks = {39: b"'", 34: b'"', 1: b"'''", 2: b'"""', 3: b'a'}
@@ -250,7 +260,7 @@ def wrong_lines():
 
 
 SECTIONS = [scope, valid_cases, left_out_cases, later_cases, invalid_utf8, invalid_strings, vectors, lent_records, lent_output, sizes, cursors, spans,
-            positions, kinds, editions, every_byte, short_texts, wrong_lines]
+            positions, kinds, editions, faults, every_byte, short_texts, wrong_lines]
 
 
 def main():

@@ -243,13 +243,22 @@ def records(rows):
     return '; '.join(' '.join(map(str, row)) for row in rows) or '-'
 
 
-def refused(refusal):
-    return 'refused %d %d' % refusal
+def refused(refusal, doc=b''):
+    return 'refused %d %d' % refusal + (' %d' % fault_length(doc) if refusal[0] == 1 else '')
+
+
+def fault_length(doc):
+    """The bytes behind the valid prefix that are at fault, 0 where the text ends inside a character: by Python's own decoder."""
+    try:
+        doc.decode()
+    except UnicodeDecodeError as e:
+        return 0 if e.reason == 'unexpected end of data' else e.end - e.start
+    return 0
 
 
 def lex(doc):
     refusal = check(doc)
-    return refused(refusal) if refusal else records(tokens(doc))
+    return refused(refusal, doc) if refusal else records(tokens(doc))
 
 
 def lexcap(cap, doc):
@@ -263,7 +272,7 @@ def lexcap(cap, doc):
 def dec(kind, text):
     refusal = decode_refusal(kind, text)
     if refusal:
-        return refused(refusal)
+        return refused(refusal, text)
     out, errors = decode(kind, text)
     return hexed(out) + ' | ' + records(errors)
 
@@ -272,7 +281,7 @@ def decin(edition, kind, text):
     """As `dec`, in an edition: 10 for TOML 1.0, 11 for TOML 1.1."""
     refusal = decode_refusal(kind, text) or (None if edition in (10, 11) else (9, edition))
     if refusal:
-        return refused(refusal)
+        return refused(refusal, text)
     out, errors = decode(kind, text, edition)
     return hexed(out) + ' | ' + records(errors)
 
@@ -341,9 +350,14 @@ def utf8(doc):
     return '%d %d' % (check(doc) or (0, 0))
 
 
+def fault(doc):
+    no, number = check(doc) or (0, 0)
+    return '%d %d %d' % (no, number, fault_length(doc) if no == 1 else 0)
+
+
 # The name, and what stands behind it: n a number, b a flag, r records lent, o output lent, x bytes in hex.
 CALLS = {b'lex': (lex, 'x'), b'lexcap': (lexcap, 'rx'), b'dec': (dec, 'nx'), b'deccap': (deccap, 'norx'),
-         b'decin': (decin, 'nnx'), b'utf8': (utf8, 'x'),
+         b'decin': (decin, 'nnx'), b'utf8': (utf8, 'x'), b'fault': (fault, 'x'),
          b'start': (start, 'x'), b'step': (step, 'nbx'), b'span': (span, 'nnx'), b'text': (text, 'nnx'), b'pos': (pos, 'nx'),
          b'desc': (desc, 'n')}
 

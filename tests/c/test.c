@@ -61,7 +61,7 @@ static int steps_nowhere(toml_stepped s, size_t refusal, size_t value)
 {
     static const toml_stepped nothing;
     toml_stepped expected = nothing;
-    expected.answer = (toml_answer){refusal, value};
+    expected.answer = (toml_answer){refusal, value, 0};
     return memcmp(&s, &expected, sizeof s) == 0;
 }
 
@@ -307,6 +307,26 @@ static void past_the_limit(struct memory m, size_t len)
     EXPECT(m.out[0] == 0xA5 && m.records[0][0] == 7);
 }
 
+/* With refusal 1 the length of the faulty sequence, from every call that gives it. */
+static int broken(toml_answer a, size_t value, size_t length)
+{
+    return a.refusal == 1 && a.value == value && a.length == length;
+}
+
+static void faults(void)
+{
+    uint8_t out[16];
+    size_t records[4][3];
+    FROM("core::str::Utf8Error: error_len is none, here 0, at an unexpected end, and else 1 to 3");
+    EXPECT(broken(toml_check_utf8(BYTES("a\xE2\x82")), 1, 0));
+    EXPECT(broken(toml_check_utf8(BYTES("a\xE2\x82" "b")), 1, 2));
+    EXPECT(broken(toml_lex(BYTES("\xF0\x90\x80" "b"), records, 4), 0, 3));
+    EXPECT(broken(toml_decode(BYTES("\xED\xA0\x80"), 34, out, 16, records, 4).answer, 0, 1));
+    EXPECT(broken(toml_decode_in(BYTES("\xFF"), 12, 5, out, 16, records, 4).answer, 0, 1));
+    FROM("docs/RULES.md, the refusals: only 1 has a second number");
+    EXPECT(toml_check_utf8(BYTES("a")).length == 0 && toml_lex(BYTES("a"), records, 0).length == 0);
+}
+
 /* The editions: 10 is toml_decode's own, 11 adds two escapes, and another number is refused behind a kind's. */
 static void editions(void)
 {
@@ -356,6 +376,7 @@ int main(void)
     places();
     kinds();
     editions();
+    faults();
     long_documents();
     printf("C: %d passed, %d failed\n", passed, failed);
     return failed != 0;

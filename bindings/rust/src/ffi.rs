@@ -9,6 +9,7 @@
 pub(crate) struct Answer {
     pub refusal: usize,
     pub value: usize,
+    pub length: usize,
 }
 
 #[repr(C)]

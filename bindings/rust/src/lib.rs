@@ -32,10 +32,12 @@ pub const LIMIT: usize = 16_777_216;
 /// Why a call did not answer. A refused call has written nothing.
 #[derive(Copy, Clone, PartialEq, Eq, Debug)]
 pub enum Refusal {
-    /// 1: not UTF-8; `valid` is the length of the longest valid prefix.
+    /// 1: not UTF-8; the same two numbers as Rust's own [`core::str::Utf8Error`] tells.
     NotUtf8 {
         /// The length of the longest prefix that is UTF-8.
         valid: usize,
+        /// How many bytes behind it are the faulty sequence; none where the text ends inside a character.
+        error_len: Option<core::num::NonZeroUsize>,
     },
     /// 2: more than [`LIMIT`] bytes.
     TooLong,
@@ -77,7 +79,7 @@ impl Refusal {
         let value = answer.value;
         match answer.refusal {
             0 => Ok(value),
-            1 => Err(Self::NotUtf8 { valid: value }),
+            1 => Err(Self::NotUtf8 { valid: value, error_len: core::num::NonZeroUsize::new(answer.length) }),
             2 => Err(Self::TooLong),
             3 => Err(Self::FewTokens { needed: value }),
             4 => Err(Self::ShortOutput { needed: value }),
@@ -92,7 +94,8 @@ impl Refusal {
 impl core::fmt::Display for Refusal {
     fn fmt(&self, f: &mut core::fmt::Formatter<'_>) -> core::fmt::Result {
         match self {
-            Self::NotUtf8 { valid } => write!(f, "refused 1: not UTF-8 from byte {valid} on"),
+            Self::NotUtf8 { valid, error_len: Some(n) } => write!(f, "refused 1: {n} bytes from byte {valid} on are not UTF-8"),
+            Self::NotUtf8 { valid, error_len: None } => write!(f, "refused 1: the text ends inside the character at byte {valid}"),
             Self::TooLong => write!(f, "refused 2: more than {LIMIT} bytes"),
             Self::FewTokens { needed } => write!(f, "refused 3: {needed} token records are needed"),
             Self::ShortOutput { needed } => write!(f, "refused 4: {needed} bytes of output are needed"),

@@ -34,8 +34,9 @@ fn a_cursor_made_by_hand_answers() {
 
 #[test]
 fn refusals() {
-    assert_eq!(check_utf8(b"a\xFF"), Err(Refusal::NotUtf8 { valid: 1 }));
-    assert_eq!(lex(b"\xFF"), Err(Refusal::NotUtf8 { valid: 0 }));
+    let broken = |valid, len| Err(Refusal::NotUtf8 { valid, error_len: core::num::NonZeroUsize::new(len) });
+    assert_eq!(check_utf8(b"a\xFF"), broken(1, 1));
+    assert_eq!(lex(b"\xFF").map(|_| ()), broken(0, 1));
     assert_eq!(lex_into(b"a.b", &mut [[0; 3]; 2]), Err(Refusal::FewTokens { needed: 4 }));
     assert_eq!(lex(&vec![b'.'; LIMIT + 1]), Err(Refusal::TooLong));
     assert_eq!(text("é=1".as_bytes(), Span::new(1, 2)), Err(Refusal::OutOfPlace { length: 4 }));
@@ -139,4 +140,17 @@ fn toml_11_has_two_more_escapes() {
     assert_eq!(error.expected()[8..], [Expected::Literal("e"), Expected::Literal("x")]);
     let error = decode_in(br#""\x4""#, Encoding::BasicString, Edition::Toml11).expect("decoded").errors[0];
     assert_eq!((error.number(), error.unexpected()), (9, Span::new(4, 4)));
+}
+
+/// Rust's own check is the source of these: `valid_up_to` and `error_len`.
+#[test]
+fn broken_characters_as_rust_tells_them() {
+    let texts: [&[u8]; 8] =
+        [b"\x80", b"a\xC3", b"\xC3(", b"\xE2\x82", b"\xE2\x82A", b"\xED\xA0\x80", b"\xF0\x90\x80", b"\xF0\x90\x80A"];
+    for text in texts {
+        let error = core::str::from_utf8(text).expect_err("not UTF-8");
+        let (valid, error_len) = (error.valid_up_to(), error.error_len().and_then(core::num::NonZeroUsize::new));
+        assert_eq!(check_utf8(text), Err(Refusal::NotUtf8 { valid, error_len }));
+        assert_eq!(decode(text, Encoding::UnquotedKey), Err(Refusal::NotUtf8 { valid, error_len }));
+    }
 }

@@ -30,6 +30,7 @@ pub(crate) fn make(
 fn make_plain(call: Call, numbers: [usize; 3], doc: &[u8]) -> Answer {
     match call {
         Call::Utf8 => utf8(doc),
+        Call::Fault => fault(doc),
         Call::Start => start(doc),
         Call::Step => step(numbers, doc),
         Call::Span => span(numbers, doc),
@@ -73,6 +74,10 @@ fn deccap(numbers: [usize; 3], doc: &[u8], bytes: &mut [u8], records: &mut [[usi
 
 fn utf8(doc: &[u8]) -> Answer {
     forms::checked(text::check_utf8(doc))
+}
+
+fn fault(doc: &[u8]) -> Answer {
+    forms::faulted(text::check_utf8(doc))
 }
 
 fn start(doc: &[u8]) -> Answer {

@@ -29,7 +29,6 @@ fn answer_all(input: &mut [u8], line: &mut [u8], bytes: &mut [u8], records: &mut
         at: 0,
         end: 0,
         len: 0,
-        long: false,
         open: false,
         more: true,
     };
@@ -52,10 +51,11 @@ fn answer(request: Request, line: &[u8], bytes: &mut [u8], records: &mut [[usize
 fn answer_to(request: Request, line: &[u8], bytes: &mut [u8], records: &mut [[usize; 3]]) -> Answer
     requires { ⌜ request .len ≤ length (now line) ⌝ }
 {
-    let fault = request.fault;
-    let call = request.call;
-    let numbers = request.numbers;
     let len = request.len;
+    let asked = request.asked;
+    let fault = asked.fault;
+    let call = asked.call;
+    let numbers = asked.numbers;
     if let Fault::Nothing = fault {
         return calls::make(call, numbers, &line[..len], bytes, records);
     }

@@ -1,8 +1,9 @@
 // What a line asks for: the call that its first word names, the numbers behind it, and the bytes
 // that its last word spells; or why it is no call.
 ghost use Prim.Native.Nat.{_≤_};
+use crate::lines;
+use crate::lines::Reading;
 use crate::words;
-use crate::words::Number;
 use crate::words::Word;
 
 // The longest document that is taken.
@@ -24,6 +25,7 @@ pub enum Call {
     DecCap,
     DecIn,
     Utf8,
+    Fault,
     Start,
     Step,
     Span,
@@ -64,16 +66,16 @@ struct Numbers {
     last: Word,
 }
 
-pub(crate) fn read(memory: &[u8], len: usize) -> Asked {
-    let line = words::front(memory, len);
+pub(crate) fn read(reading: Reading, memory: &[u8]) -> Asked {
+    let line = words::front(memory, reading.len);
     let name = words::word_at(line, 0);
     let call = call_of(words::name_key(words::text_of(line, name)));
     let numbers = read_numbers(line, name, numbers_of(call));
     let document = words::word_after(line, numbers.last);
-    let fault = fault_of(line, call, numbers, document);
+    let in_line = fault_of(line, call, numbers, document);
     let values = numbers.values;
     Asked {
-        fault,
+        fault: first_of(lines::fault_of(reading), in_line),
         call,
         numbers: values,
         document,
@@ -90,14 +92,9 @@ fn read_numbers(line: &[u8], name: Word, count: usize) -> Numbers
     let mut i = 0;
     while i < count {
         last = words::word_after(line, last);
-        match words::read_number(words::text_of(line, last)) {
-            Number::Value(value) => {
-                values[i] = value;
-            }
-            Number::Bad => {
-                good = false;
-            }
-        }
+        let number = words::read_number(words::text_of(line, last));
+        values[i] = number.value;
+        good = good && number.good;
         i += 1;
     }
     Numbers { good, values, last }
@@ -112,6 +109,7 @@ fn call_of(key: usize) -> Call {
         0x64_65_63_63_61_70 => Call::DecCap,
         0x64_65_63_69_6E => Call::DecIn,
         0x75_74_66_38 => Call::Utf8,
+        0x66_61_75_6C_74 => Call::Fault,
         0x73_74_61_72_74 => Call::Start,
         0x73_74_65_70 => Call::Step,
         0x73_70_61_6E => Call::Span,
@@ -160,7 +158,7 @@ fn fault_of(line: &[u8], call: Call, numbers: Numbers, document: Word) -> Fault 
     first_of(in_words, first_of(in_bytes, number_fault(call, values)))
 }
 
-pub(crate) fn first_of(fault: Fault, other: Fault) -> Fault {
+fn first_of(fault: Fault, other: Fault) -> Fault {
     if let Fault::Nothing = fault {
         return other;
     }

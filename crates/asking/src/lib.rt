@@ -4,6 +4,7 @@ mod asked;
 mod lines;
 mod words;
 
+pub use asked::Asked;
 pub use asked::Call;
 pub use asked::Fault;
 pub use asked::OUTPUT;
@@ -16,9 +17,7 @@ ghost use lib.ListN.{length};
 // memory, `len` bytes of it.
 pub struct Request {
     pub reading: Reading,
-    pub fault: Fault,
-    pub call: Call,
-    pub numbers: [usize; 3],
+    pub asked: Asked,
     pub len: usize,
 }
 
@@ -28,18 +27,18 @@ pub fn next_request(start: Reading, input: &mut [u8], line: &mut [u8]) -> Reques
     ensures { λ r. ⌜ r .len ≤ length (now (line .exit)) ⌝ }
 {
     let reading = lines::next_line(start, input, line);
-    let asked = asked::read(line, reading.len);
-    let in_line = asked.fault;
-    let fault = asked::first_of(lines::fault_of(reading), in_line);
-    let call = asked.call;
-    let numbers = asked.numbers;
+    request_of(reading, line)
+}
+
+fn request_of(reading: Reading, line: &mut [u8]) -> Request
+    ensures { λ r. ⌜ r .len ≤ length (now (line .exit)) ⌝ }
+{
+    let asked = asked::read(reading, line);
     let document = asked.document;
     let len = words::read_bytes(line, document);
     Request {
         reading,
-        fault,
-        call,
-        numbers,
+        asked,
         len,
     }
 }

@@ -8,16 +8,18 @@ use crate::words::Word;
 use libc::STDIN_FILENO;
 use libc::STDOUT_FILENO;
 
-// What of the input's memory is not yet taken, from `at` up to `end`; how much of the line is kept,
-// and whether it is too long for that; whether the line goes on; whether there may be more input.
+// What of the input's memory is not yet taken, from `at` up to `end`; how much of the line is kept;
+// whether the line goes on; whether there may be more input.
 pub struct Reading {
     pub at: usize,
     pub end: usize,
     pub len: usize,
-    pub long: bool,
     pub open: bool,
     pub more: bool,
 }
+
+// The length of a line that is too long to be kept: no memory has as much.
+const TOO_LONG: usize = usize::MAX;
 
 // Reads up to an LF or the input's end, and writes the line. A proved loop has to end, and nothing
 // says that the input does: so it counts down from a number that no run uses up.
@@ -36,7 +38,6 @@ pub(crate) fn next_line(start: Reading, input: &mut [u8], line: &mut [u8]) -> Re
 fn begin(reading: Reading) -> Reading {
     let mut begun = reading;
     begun.len = 0;
-    begun.long = false;
     begun.open = true;
     begun
 }
@@ -63,7 +64,7 @@ fn take(reading: Reading, input: &[u8], line: &mut [u8]) -> Reading {
     let unread = words::front(input, reading.end);
     let start = reading.at;
     let end = words::until(unread, start, b'\n');
-    let mut taken = pass(reading, words::text_of(unread, Word { start, end }), line);
+    let mut taken = keep(reading, words::text_of(unread, Word { start, end }), line);
     taken.at = end;
     if end < unread.len() {
         taken.at = end + 1;
@@ -72,15 +73,7 @@ fn take(reading: Reading, input: &[u8], line: &mut [u8]) -> Reading {
     taken
 }
 
-// More of the line. What follows a part that was too much is too much too.
-fn pass(reading: Reading, part: &[u8], line: &mut [u8]) -> Reading {
-    if reading.long {
-        return spill(reading, part, line);
-    }
-    keep(reading, part, line)
-}
-
-// Keeps a part, where there is room for it.
+// More of the line, kept where there is room for it.
 fn keep(reading: Reading, part: &[u8], line: &mut [u8]) -> Reading {
     let len = reading.len;
     if line.len() < len {
@@ -97,12 +90,10 @@ fn keep(reading: Reading, part: &[u8], line: &mut [u8]) -> Reading {
 
 // A part for which there is no room: the first brings all that was kept before it.
 fn spill(reading: Reading, part: &[u8], line: &[u8]) -> Reading {
-    let mut spilt = reading;
-    if !spilt.long {
-        io::write_all(STDOUT_FILENO, words::front(line, spilt.len));
-    }
+    io::write_all(STDOUT_FILENO, words::front(line, reading.len));
     io::write_all(STDOUT_FILENO, part);
-    spilt.long = true;
+    let mut spilt = reading;
+    spilt.len = TOO_LONG;
     spilt
 }
 
@@ -116,20 +107,18 @@ fn copy(part: &[u8], line: &mut [u8], to: usize)
     }
 }
 
-// The line, as far as it is not yet written, and what stands between it and its answer.
+// The line, unless it was written as it came, and what stands between it and its answer.
 fn echo(reading: Reading, line: &[u8]) {
     if let Fault::NoLine = fault_of(reading) {
         return;
     }
-    if !reading.long {
-        io::write_all(STDOUT_FILENO, words::front(line, reading.len));
-    }
+    io::write_all(STDOUT_FILENO, words::front(line, reading.len));
     io::write_all(STDOUT_FILENO, b" => ");
 }
 
 // The input's end begins no line.
 pub(crate) fn fault_of(reading: Reading) -> Fault {
-    if reading.long {
+    if reading.len == TOO_LONG {
         return Fault::TooLong;
     }
     if reading.more || 0 < reading.len {

@@ -8,9 +8,10 @@ pub struct Word {
     pub end: usize,
 }
 
-pub enum Number {
-    Value(usize),
-    Bad,
+// What a word spells as a number, if it is a good one.
+pub struct Number {
+    pub good: bool,
+    pub value: usize,
 }
 
 // How many words the line has: one, and one for each space.
@@ -95,38 +96,42 @@ fn with_byte(key: usize, b: u8) -> usize {
 
 // A number in decimal digits, one at least, that 64 bits hold.
 pub(crate) fn read_number(text: &[u8]) -> Number {
-    if text.len() == 0 {
-        return Number::Bad;
-    }
-    let mut value: usize = 0;
+    let mut number = Number {
+        good: 0 < text.len(),
+        value: 0,
+    };
     let mut i = 0;
     while i < text.len() {
-        match with_digit(value, text[i]) {
-            Number::Value(v) => {
-                value = v;
-            }
-            Number::Bad => {
-                return Number::Bad;
-            }
-        }
+        number = with_digit(number, text[i]);
         i += 1;
     }
-    Number::Value(value)
+    number
 }
 
-// The number with one digit more behind it.
-fn with_digit(value: usize, b: u8) -> Number {
+// The number with one digit more behind it. What is bad stays so.
+fn with_digit(number: Number, b: u8) -> Number {
     let d = hex_value(b);
+    let value = number.value;
     if d > 9 {
-        return Number::Bad;
+        return bad();
     }
     if value > usize::MAX / 10 {
-        return Number::Bad;
+        return bad();
     }
     if value * 10 > usize::MAX - d {
-        return Number::Bad;
+        return bad();
     }
-    Number::Value(value * 10 + d)
+    Number {
+        good: number.good,
+        value: value * 10 + d,
+    }
+}
+
+fn bad() -> Number {
+    Number {
+        good: false,
+        value: 0,
+    }
 }
 
 // Does the text spell bytes: `-` for none, or pairs of lower-case hex digits, one pair at least?

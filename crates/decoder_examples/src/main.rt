@@ -53,6 +53,9 @@ fn print_answer(answer: Decoded) {
             number(r.number());
             number(r.value());
             number(0);
+            if r.number() == 1 {
+                number(r.length());
+            }
         }
     }
     line();

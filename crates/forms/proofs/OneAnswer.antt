@@ -14,7 +14,7 @@ use Rattle.place.specs.declared.Position.{Position}
 use Rattle.strings.specs.declared.Decoded.{Decoded}
 use Rattle.asking.specs.declared.asked.Fault.{Fault}
 use Rattle.spelling.specs.declared.Answer.{Answer}
-use Rattle.forms.specs.Answers.{tokensAs, tokenCountAs, decodedAs, decodedCountAs, checkedAs, spanCheckedAs, startedAs, positionedAs, steppedAs, hexAs, describedAs, faultAs}
+use Rattle.forms.specs.Answers.{tokensAs, tokenCountAs, decodedAs, decodedCountAs, checkedAs, faultedAs, spanCheckedAs, startedAs, positionedAs, steppedAs, hexAs, describedAs, faultAs}
 
 pub tokens : (lexed : Lexed) → Only (λ (r : Answer). r ≡ tokensAs lexed)
 tokens lexed = only-equal (tokensAs lexed)
@@ -30,6 +30,9 @@ decoded-count result = only-equal (decodedCountAs result)
 
 pub checked : (check : Utf8Check) → Only (λ (r : Answer). r ≡ checkedAs check)
 checked check = only-equal (checkedAs check)
+
+pub faulted : (check : Utf8Check) → Only (λ (r : Answer). r ≡ faultedAs check)
+faulted check = only-equal (faultedAs check)
 
 pub span-checked : (check : SpanCheck) → Only (λ (r : Answer). r ≡ spanCheckedAs check)
 span-checked check = only-equal (spanCheckedAs check)

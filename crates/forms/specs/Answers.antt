@@ -1,10 +1,11 @@
 -- What the result of each call, and a line's fault, come to as an answer: a form and the numbers that fill it.
 -- Assumes nothing.
 use Prim.Native.Nat.{ℕ}
-use mathlib.Core.Bool.{Bool, true, false}
+use mathlib.Core.Bool.{Bool, true, false, cond}
 use mathlib.Core.List.{List, [], _∷_, _++_}
+use lib.Dec.{eqb}
 use Rattle.text.specs.declared.refusal.Refusal.{Refusal}
-use Rattle.text.specs.Refusals.{refusalNumber, refusalValue}
+use Rattle.text.specs.Refusals.{refusalNumber, refusalValue, refusalLength}
 use Rattle.text.specs.declared.utf8.Utf8Check.{Utf8Check}
 use Rattle.text.specs.declared.utf8.Utf8Check.the-variants.{Valid, Refused as Unchecked}
 use Rattle.token.specs.declared.Token.{Token}
@@ -42,6 +43,15 @@ answeredBy f a b = record { form = f; numbers = 0 ∷ 0 ∷ a ∷ b ∷ 0 ∷ 0 
 abbrev pub refusedAs : Form → Refusal → Answer
 refusedAs f r = filledBy f (refusalNumber r) (refusalValue r)
 
+-- three numbers, and zeros behind them
+abbrev pub threeBy : Form → ℕ → ℕ → ℕ → Answer
+threeBy f a b c = record { form = f; numbers = a ∷ b ∷ c ∷ 0 ∷ 0 ∷ 0 ∷ 0 ∷ 0 ∷ [] }
+
+-- a refusal in a line of its own: with 1 the length of the faulty sequence too
+abbrev pub refusedWhole : Refusal → Answer
+refusedWhole r =
+    cond (eqb (refusalNumber r) 1) (threeBy form.Broken 1 (refusalValue r) (refusalLength r)) (refusedAs form.Refused r)
+
 abbrev pub flagOf : Bool → ℕ
 flagOf true = 1
 flagOf false = 0
@@ -49,7 +59,7 @@ flagOf false = 0
 -- lex: the records; lexcap: 0 and their count
 abbrev pub tokensAs : Lexed → Answer
 tokensAs (Tokens n) = filledBy form.Tokens n 0
-tokensAs (Unlexed r) = refusedAs form.Refused r
+tokensAs (Unlexed r) = refusedWhole r
 
 abbrev pub tokenCountAs : Lexed → Answer
 tokenCountAs (Tokens n) = filledBy form.Two 0 n
@@ -58,19 +68,21 @@ tokenCountAs (Unlexed r) = refusedAs form.Two r
 -- dec: the bytes and the errors; deccap: 0 and both counts
 abbrev pub decodedAs : Decoded → Answer
 decodedAs (Written b e) = filledBy form.Decoded b e
-decodedAs (Undecoded r) = refusedAs form.Refused r
-
-abbrev pub countedAs : ℕ → ℕ → Answer
-countedAs b e = record { form = form.Three; numbers = 0 ∷ b ∷ e ∷ 0 ∷ 0 ∷ 0 ∷ 0 ∷ 0 ∷ [] }
+decodedAs (Undecoded r) = refusedWhole r
 
 abbrev pub decodedCountAs : Decoded → Answer
-decodedCountAs (Written b e) = countedAs b e
+decodedCountAs (Written b e) = threeBy form.Three 0 b e
 decodedCountAs (Undecoded r) = refusedAs form.Three r
 
 -- utf8 and span: 0 and 0
 abbrev pub checkedAs : Utf8Check → Answer
 checkedAs Valid = filledBy form.Two 0 0
 checkedAs (Unchecked r) = refusedAs form.Two r
+
+-- fault: the check's number, and both numbers returned
+abbrev pub faultedAs : Utf8Check → Answer
+faultedAs Valid = threeBy form.Three 0 0 0
+faultedAs (Unchecked r) = threeBy form.Three (refusalNumber r) (refusalValue r) (refusalLength r)
 
 abbrev pub spanCheckedAs : SpanCheck → Answer
 spanCheckedAs Whole = filledBy form.Two 0 0

@@ -1,7 +1,7 @@
 // What the result of each call, and a line's fault, come to as an answer: a form and the numbers that
 // fill it. Definitions: specs/Answers.antt.
 ghost use mathlib.Core.Path.{_≡_};
-ghost use Rattle.forms.specs.Answers.{filledBy, answeredBy, refusedAs, tokensAs, tokenCountAs, decodedAs, decodedCountAs, countedAs, checkedAs, spanCheckedAs, startedAs, positionedAs, steppedAs, nextAs, hexAs, describedAs, faultAs, faultForm, flagOf};
+ghost use Rattle.forms.specs.Answers.{filledBy, answeredBy, threeBy, refusedAs, refusedWhole, tokensAs, tokenCountAs, decodedAs, decodedCountAs, checkedAs, faultedAs, spanCheckedAs, startedAs, positionedAs, steppedAs, nextAs, hexAs, describedAs, faultAs, faultForm, flagOf};
 use asking::Fault;
 use lexer::Cursor;
 use lexer::Lexed;
@@ -44,12 +44,31 @@ fn refused(form: Form, why: Refusal) -> Answer
     filled(form, why.number(), why.value())
 }
 
+// The same in a line of its own, where refusal 1 tells the length of the faulty sequence too.
+fn refused_whole(why: Refusal) -> Answer
+    ensures { λ r. ⌜ r ≡ refusedWhole why ⌝ }
+{
+    if why.number() == 1 {
+        return three(Form::Broken, 1, why.value(), why.length());
+    }
+    refused(Form::Refused, why)
+}
+
+fn three(form: Form, a: usize, b: usize, c: usize) -> Answer
+    ensures { λ r. ⌜ r ≡ threeBy form a b c ⌝ }
+{
+    Answer {
+        form,
+        numbers: [a, b, c, 0, 0, 0, 0, 0],
+    }
+}
+
 pub fn tokens(lexed: Lexed) -> Answer
     ensures { λ r. ⌜ r ≡ tokensAs lexed ⌝ }
 {
     match lexed {
         Lexed::Tokens(count) => filled(Form::Tokens, count, 0),
-        Lexed::Refused(why) => refused(Form::Refused, why),
+        Lexed::Refused(why) => refused_whole(why),
     }
 }
 
@@ -68,7 +87,7 @@ pub fn decoded(result: Decoded) -> Answer
 {
     match result {
         Decoded::Written { bytes, errors } => filled(Form::Decoded, bytes, errors),
-        Decoded::Refused(why) => refused(Form::Refused, why),
+        Decoded::Refused(why) => refused_whole(why),
     }
 }
 
@@ -77,17 +96,8 @@ pub fn decoded_count(result: Decoded) -> Answer
     ensures { λ r. ⌜ r ≡ decodedCountAs result ⌝ }
 {
     match result {
-        Decoded::Written { bytes, errors } => counted(bytes, errors),
+        Decoded::Written { bytes, errors } => three(Form::Three, 0, bytes, errors),
         Decoded::Refused(why) => refused(Form::Three, why),
-    }
-}
-
-fn counted(bytes: usize, errors: usize) -> Answer
-    ensures { λ r. ⌜ r ≡ countedAs bytes errors ⌝ }
-{
-    Answer {
-        form: Form::Three,
-        numbers: [0, bytes, errors, 0, 0, 0, 0, 0],
     }
 }
 
@@ -97,6 +107,16 @@ pub fn checked(check: Utf8Check) -> Answer
     match check {
         Utf8Check::Valid => filled(Form::Two, 0, 0),
         Utf8Check::Refused(why) => refused(Form::Two, why),
+    }
+}
+
+// What part of a character is broken.
+pub fn faulted(check: Utf8Check) -> Answer
+    ensures { λ r. ⌜ r ≡ faultedAs check ⌝ }
+{
+    match check {
+        Utf8Check::Valid => three(Form::Three, 0, 0, 0),
+        Utf8Check::Refused(why) => three(Form::Three, why.number(), why.value(), why.length()),
     }
 }
 

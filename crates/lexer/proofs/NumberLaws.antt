@@ -14,7 +14,8 @@ use Rattle.text.specs.declared.utf8.Utf8Check.the-variants.{Valid}
 use Rattle.token.proofs.ChoiceLaws.{of-choice}
 use Rattle.lexer.specs.Steps.{startAnswer, startNumber, startValue, startRefusal, startReturned}
 use Rattle.lexer.specs.Steps.{stepWithin, stepOf, stepNumber, stepValue, stepRefusal, stepReturned}
-use Rattle.lexer.specs.Whole.{tokenCount, lexChecked, lexAnswer, lexMemory, lexedNumber, lexedValue, lexRefusal, lexReturned}
+use Rattle.lexer.specs.Whole.{tokenCount, lexChecked, lexAnswer, lexMemory}
+use Rattle.lexer.specs.Whole.{lexedNumber, lexedValue, lexedLength, lexRefusal, lexReturned, lexFault}
 use Rattle.lexer.specs.declared.Cursor.{Cursor}
 use Rattle.lexer.specs.declared.Start.{Start}
 use Rattle.lexer.specs.declared.Step.{Step}
@@ -48,7 +49,7 @@ stepped doc c r e =
     )
 
 lexed-numbers : (doc : List ℕ) (room : ℕ) (r : Lexed) → r ≡ lexAnswer doc room
-    → (lexedNumber r ≡ lexRefusal doc room) × (lexedValue r ≡ lexReturned doc)
+    → (lexedNumber r ≡ lexRefusal doc room) × ((lexedValue r ≡ lexReturned doc) × (lexedLength r ≡ lexFault doc))
 unfolding lexAnswer checkOf
 lexed-numbers doc room r e =
     let long = ltb limit (length doc) in
@@ -56,13 +57,20 @@ lexed-numbers doc room r e =
     let few = ltb room (tokenCount doc) in
     let number : Utf8Check → ℕ = λ u. lexedNumber (lexChecked u doc room) in
     let value : Utf8Check → ℕ = λ u. lexedValue (lexChecked u doc room) in
+    let fault : Utf8Check → ℕ = λ u. lexedLength (lexChecked u doc room) in
     let same : lexedValue (lexChecked Valid doc room) ≡ tokenCount doc =
-    cond-case (λ (x : Lexed). lexedValue x ≡ tokenCount doc) few (λ _. refl) (λ _. refl) in (
+    cond-case (λ (x : Lexed). lexedValue x ≡ tokenCount doc) few (λ _. refl) (λ _. refl) in
+    let no-fault : lexedLength (lexChecked Valid doc room) ≡ 0 =
+    cond-case (λ (x : Lexed). lexedLength x ≡ 0) few (λ _. refl) (λ _. refl) in (
       ap lexedNumber e ∙ of-choice number long refl (of-choice number whole (of-choice lexedNumber few refl refl) refl),
-      ap lexedValue e ∙ of-choice value long refl (of-choice value whole same refl),
+      (
+        ap lexedValue e ∙ of-choice value long refl (of-choice value whole same refl),
+        ap lexedLength e ∙ of-choice fault long refl (of-choice fault whole no-fault refl),
+      ),
     )
 
--- the four promises of whole lexing, from the answer and the memory
+-- the five promises of whole lexing, from the answer and the memory
 pub lexed : (doc : List ℕ) (old : List (List ℕ)) (r : Lexed) (new : List (List ℕ)) → (r ≡ lexAnswer doc (length old)) → (new ≡ lexMemory doc old)
-    → (r ≡ lexAnswer doc (length old)) × ((lexedNumber r ≡ lexRefusal doc (length old)) × ((lexedValue r ≡ lexReturned doc) × (new ≡ lexMemory doc old)))
-lexed doc old r new e m = let n = lexed-numbers doc (length old) r e in (e, (n .0, (n .1, m)))
+    → (r ≡ lexAnswer doc (length old)) × ((lexedNumber r ≡ lexRefusal doc (length old)) × ((lexedValue r ≡ lexReturned doc)
+    × ((lexedLength r ≡ lexFault doc) × (new ≡ lexMemory doc old))))
+lexed doc old r new e m = let n = lexed-numbers doc (length old) r e in (e, (n .0, (n .1 .0, (n .1 .1, m))))

@@ -5,8 +5,9 @@ use mathlib.Core.Bool.{cond}
 use mathlib.Core.List.{List, _++_, map}
 use lib.ListN.{length, drop}
 use lib.Dec.{ltb, eqb}
-use Rattle.text.specs.Refusals.{limit, refusalNumber, refusalValue}
+use Rattle.text.specs.Refusals.{limit, refusalNumber, refusalValue, refusalLength}
 use Rattle.text.specs.Utf8Read.{validPrefix}
+use Rattle.text.specs.Lead.{faultLen}
 use Rattle.text.specs.Answers.{checkOf}
 use Rattle.text.specs.declared.refusal.Refusal.the-variants.{FewTokens}
 use Rattle.text.specs.declared.utf8.Utf8Check.{Utf8Check}
@@ -50,11 +51,20 @@ abbrev pub lexedValue : Lexed → ℕ
 lexedValue (Tokens n) = n
 lexedValue (Refused r) = refusalValue r
 
--- these are, by the document and the records lent: 2 with the limit, 1 with the length of the longest valid prefix, 3 with
--- the tokens needed, else 0 with the tokens
+-- the second number, which only refusal 1 returns
+abbrev pub lexedLength : Lexed → ℕ
+lexedLength (Tokens n) = 0
+lexedLength (Refused r) = refusalLength r
+
+-- these are, by the document and the records lent: 2 with the limit, 1 with the lengths of the longest valid prefix and of
+-- the faulty sequence, 3 with the tokens needed, else 0 with the tokens
 abbrev pub lexRefusal : List ℕ → ℕ → ℕ
 lexRefusal doc room =
     cond (ltb limit (length doc)) 2 (cond (eqb (validPrefix doc) (length doc)) (cond (ltb room (tokenCount doc)) 3 0) 1)
 
 abbrev pub lexReturned : List ℕ → ℕ
 lexReturned doc = cond (ltb limit (length doc)) limit (cond (eqb (validPrefix doc) (length doc)) (tokenCount doc) (validPrefix doc))
+
+abbrev pub lexFault : List ℕ → ℕ
+lexFault doc =
+    cond (ltb limit (length doc)) 0 (cond (eqb (validPrefix doc) (length doc)) 0 (faultLen (drop (validPrefix doc) doc)))

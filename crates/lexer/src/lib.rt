@@ -12,7 +12,7 @@ ghost use Rattle.lexer.specs.Tokens.{hasBom, startOf, tokenBy, tokenAt};
 ghost use Rattle.lexer.specs.Steps.{startAnswer, startNumber, startValue, startRefusal, startReturned};
 ghost use Rattle.lexer.specs.Steps.{stepOf, stepNumber, stepValue, stepRefusal, stepReturned};
 ghost use Rattle.lexer.specs.Whole.{recordsOf, tokenCount, lexAnswer, lexMemory};
-ghost use Rattle.lexer.specs.Whole.{lexedNumber, lexedValue, lexRefusal, lexReturned};
+ghost use Rattle.lexer.specs.Whole.{lexedNumber, lexedValue, lexedLength, lexRefusal, lexReturned, lexFault};
 ghost use Rattle.lexer.specs.Scans.{tokensUntil};
 use text::LIMIT;
 use text::Refusal;
@@ -95,6 +95,7 @@ pub fn lex(doc: &[u8], records: &mut [[usize; 3]]) -> Lexed
     ensures answer { λ r. ⌜ r ≡ lexAnswer (now (doc .entry)) (length (now (records .entry))) ⌝ }
     ensures number { λ r. ⌜ lexedNumber r ≡ lexRefusal (now (doc .entry)) (length (now (records .entry))) ⌝ }
     ensures value { λ r. ⌜ lexedValue r ≡ lexReturned (now (doc .entry)) ⌝ }
+    ensures length { λ r. ⌜ lexedLength r ≡ lexFault (now (doc .entry)) ⌝ }
     ensures memory { λ _. ⌜ now (records .exit) ≡ lexMemory (now (doc .entry)) (now (records .entry)) ⌝ }
 {
     if let Utf8Check::Refused(refusal) = text::check_utf8(doc) {

@@ -1,5 +1,6 @@
 // The lister's work: the tokens of standard input, a line for each: kind, start, end, in decimal,
-// one space between, LF after; on refusal the one line `refused`, number, returned number.
+// one space between, LF after; on refusal the one line `refused`, number, returned number, and with
+// number 1 the second one that it returns.
 // What a program prints is tested, not proved; proved is that this ends and stays in its buffers.
 ghost use mathlib.Core.Path.{_≡_};
 ghost use Prim.Native.Nat.{_+_, _≤_};
@@ -29,14 +30,18 @@ pub fn list_input()
 
 fn list(doc: &[u8]) {
     if MOST < doc.len() {
-        print_refused(2, MOST);
+        print_refused(2, MOST, 0);
         return;
     }
     // As many records as bytes and one: enough for every document that comes here.
     let mut records = [[0usize; 3]; 65537];
     match lexer::lex(doc, &mut records) {
         Lexed::Tokens(count) => print_records(&records, count),
-        Lexed::Refused(refusal) => print_refused(refusal.number(), refusal.value()),
+        Lexed::Refused(refusal) => print_refused(
+            refusal.number(),
+            refusal.value(),
+            refusal.length(),
+        ),
     }
 }
 
@@ -75,11 +80,15 @@ fn write_lines(lines: &[u8], at: usize)
     io::write_all(STDOUT_FILENO, &lines[..at]);
 }
 
-fn print_refused(number: usize, value: usize) {
+fn print_refused(number: usize, value: usize, length: usize) {
     io::write_all(STDOUT_FILENO, b"refused ");
     io::print_decimal(STDOUT_FILENO, number as u64);
     io::write_all(STDOUT_FILENO, b" ");
     io::print_decimal(STDOUT_FILENO, value as u64);
+    if number == 1 {
+        io::write_all(STDOUT_FILENO, b" ");
+        io::print_decimal(STDOUT_FILENO, length as u64);
+    }
     io::write_all(STDOUT_FILENO, b"\n");
 }
 

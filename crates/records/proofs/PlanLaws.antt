@@ -5,10 +5,11 @@ use mathlib.Core.Path.{_≡_, refl, sym, ap, _∙_}
 use mathlib.Core.List.{List}
 use native.Mathlib.Omega.{arith}
 use lib.Dec.{ltb, eqb}
-use lib.ListN.{length}
+use lib.ListN.{length, drop}
 use Rattle.classes.proofs.Conds.{cond-case}
 use Rattle.text.specs.Refusals.{limit}
 use Rattle.text.specs.Utf8Read.{validPrefix}
+use Rattle.text.specs.Lead.{faultLen}
 use Rattle.text.specs.Answers.{checkOf}
 use Rattle.text.specs.declared.refusal.Refusal.{Refusal}
 use Rattle.text.specs.declared.refusal.Refusal.the-variants.{TooLong, NotUtf8, FewTokens}
@@ -34,7 +35,7 @@ check-not-few doc n =
     valid : Valid ≡ Broken (FewTokens n) → ⊥
     valid e = let z : _≡_ {A = ℕ} 0 1 = cc in omega arith
 
-    broken : Broken (NotUtf8 (validPrefix doc)) ≡ Broken (FewTokens n) → ⊥
+    broken : Broken (NotUtf8 (validPrefix doc) (faultLen (drop (validPrefix doc) doc))) ≡ Broken (FewTokens n) → ⊥
     broken e = let z : _≡_ {A = ℕ} 0 1 = cc in omega arith
 
 module _ (doc : List ℕ) (k room : ℕ) where

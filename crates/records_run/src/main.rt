@@ -57,5 +57,9 @@ fn refused(r: Refusal) {
     io::print_decimal(STDOUT_FILENO, r.number() as u64);
     io::write_all(STDOUT_FILENO, b" ");
     io::print_decimal(STDOUT_FILENO, r.value() as u64);
+    if r.number() == 1 {
+        io::write_all(STDOUT_FILENO, b" ");
+        io::print_decimal(STDOUT_FILENO, r.length() as u64);
+    }
     io::write_all(STDOUT_FILENO, b"\n");
 }

@@ -8,6 +8,7 @@ pub enum Form {
     Tokens,
     Decoded,
     Refused,
+    Broken,
     Two,
     Three,
     Four,
@@ -43,6 +44,9 @@ const TOKENS: Text = *b"%\n______________________";
 const DECODED: Text = *b"$ | %\n__________________";
 
 const REFUSED: Text = *b"refused # #\n____________";
+
+// a refusal with a second number
+const BROKEN: Text = *b"refused # # #\n__________";
 
 const TWO: Text = *b"# #\n____________________";
 
@@ -94,6 +98,7 @@ fn text_of(form: Form) -> Text {
         Form::Tokens => TOKENS,
         Form::Decoded => DECODED,
         Form::Refused => REFUSED,
+        Form::Broken => BROKEN,
         Form::Two => TWO,
         Form::Three => THREE,
         Form::Four => FOUR,

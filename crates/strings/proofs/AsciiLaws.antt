@@ -15,6 +15,7 @@ use Rattle.classes.specs.Classes.{among, wschar, basicUnescaped, mlbUnescaped, 
 use Rattle.classes.specs.Runs.{run}
 use Rattle.classes.proofs.Conds.{not-both, both-right}
 use Rattle.text.specs.Utf8.{Scalar, encodeScalar, Utf8}
+use Rattle.text.proofs.MendLaws.{scalar-utf8}
 use Rattle.text.proofs.EncodeLaws.{encode-1}
 use Rattle.text.proofs.ReadLaws.{valid-append, utf8-iff}
 use Rattle.text.proofs.CutLaws.{utf8-append, cut-at}
@@ -95,13 +96,6 @@ skips-low b e =
 
 pub nil-utf8 : Utf8 []
 nil-utf8 = ([], tt, refl)
-
-pub scalar-utf8 : (c : ℕ) → Scalar c → Utf8 (encodeScalar c)
-scalar-utf8 c h = (c ∷ [], (h, tt), append-none (encodeScalar c))
-  where
-    append-none : (l : List ℕ) → l ++ [] ≡ l
-    append-none [] = refl
-    append-none (x ∷ l) = ap (λ (r : List ℕ). x ∷ r) (append-none l)
 
 one-utf8 : (b : ℕ) → b < 0x80 → Utf8 (b ∷ [])
 one-utf8 b h = subst Utf8 (encode-1 b h) (scalar-utf8 b (inl (omega arith)))

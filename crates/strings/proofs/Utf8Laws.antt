@@ -17,6 +17,7 @@ use Rattle.classes.specs.Runs.{run}
 use Rattle.classes.proofs.Conds.{cond-case, by-lt, by-eq, both-left, both-right}
 use Rattle.text.specs.Utf8.{Scalar, Utf8}
 use Rattle.text.specs.Utf8Read.{isScalar}
+use Rattle.text.proofs.MendLaws.{scalar-utf8}
 use Rattle.text.proofs.EncodeLaws.{true-scalar}
 use Rattle.text.proofs.CutLaws.{utf8-append, cut-at}
 use Rattle.strings.specs.declared.Piece.{Piece}
@@ -37,7 +38,7 @@ use Rattle.strings.proofs.Fine.{Fine}
 use Rattle.strings.proofs.EscapeLaws.{hex-letter, simple-ascii}
 use Rattle.strings.proofs.BodyLaws.{piece-fine}
 use Rattle.strings.proofs.MarkLaws.{ends-within, threes-long, closed-long, closed-threes}
-use Rattle.strings.proofs.AsciiLaws.{basic-high, mlb-high, basic-invalid-low, mlb-invalid-low, wschar-low, hexdig-low, skips-low, nil-utf8, scalar-utf8, front-one, front-add, front-low, front-high, behind-at, between}
+use Rattle.strings.proofs.AsciiLaws.{basic-high, mlb-high, basic-invalid-low, mlb-invalid-low, wschar-low, hexdig-low, skips-low, nil-utf8, front-one, front-add, front-low, front-high, behind-at, between}
 
 -- ---- bodies that are given as they stand
 

@@ -6,7 +6,7 @@ use mathlib.Core.Bool.{Bool, true, false, cond}
 use mathlib.Core.List.{List, [], _++_}
 use lib.Dec.{ltb}
 use lib.ListN.{length, drop}
-use Rattle.text.specs.Refusals.{refusalNumber, refusalValue}
+use Rattle.text.specs.Refusals.{refusalNumber, refusalValue, refusalLength}
 use Rattle.text.specs.Answers.{checkOf}
 use Rattle.text.specs.declared.refusal.Refusal.the-variants.{ShortOutput, FewErrors}
 use Rattle.text.specs.declared.utf8.Utf8Check.{Utf8Check}
@@ -75,7 +75,7 @@ abbrev pub after : {A : Type 0} → Decoded → List A → List A → List A
 after (Written bytes errors) new old = new ++ drop (length new) old
 after (Refused r) new old = old
 
--- ---- an answer as numbers: which, and the two that go with it
+-- ---- an answer as numbers: which, and those that go with it
 
 abbrev pub decodedNumber : Decoded → ℕ
 decodedNumber (Written bytes errors) = 0
@@ -90,3 +90,8 @@ decodedValue (Refused r) = refusalValue r
 abbrev pub decodedErrors : Decoded → ℕ
 decodedErrors (Written bytes errors) = errors
 decodedErrors (Refused r) = 0
+
+-- the second number returned with refusal 1, the length of the faulty sequence; else zero
+abbrev pub decodedLength : Decoded → ℕ
+decodedLength (Written bytes errors) = 0
+decodedLength (Refused r) = refusalLength r

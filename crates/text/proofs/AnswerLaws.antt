@@ -5,12 +5,13 @@ use mathlib.Core.Path.{_≡_, sym, _∙_}
 use mathlib.Core.Logic.{_↔_}
 use mathlib.Core.List.{List}
 use native.Mathlib.Omega.{arith}
-use lib.ListN.{length}
+use lib.ListN.{length, drop, length-drop}
 use lib.Dec.{eqb}
 use borrow.Author.Tests.{eqb-true, eqb-false, lt-ltb, le-ltb, eq-eqb, ne-eqb}
 use Rattle.text.specs.Refusals.{limit}
 use Rattle.text.specs.Utf8.{Utf8}
 use Rattle.text.specs.Utf8Read.{validPrefix}
+use Rattle.text.specs.Lead.{faultLen}
 use Rattle.text.specs.Answers.{checkOf}
 use Rattle.text.specs.CheckMeans.{Longest, CheckMeans}
 use Rattle.text.specs.declared.refusal.Refusal.the-variants.{NotUtf8, TooLong, FewTokens, ShortOutput, FewErrors, OutOfPlace, NoKind, NoEdition}
@@ -18,6 +19,7 @@ use Rattle.text.specs.declared.utf8.Utf8Check.{Utf8Check}
 use Rattle.text.specs.declared.utf8.Utf8Check.the-variants.{Valid, Refused}
 use Rattle.classes.proofs.Conds.{by-lt, cond-case}
 use Rattle.text.proofs.ReadLaws.{utf8-iff, valid-is, valid-le, valid-longest}
+use Rattle.text.proofs.FaultLaws.{fault-is, fault-one}
 
 -- ---- from the bytes to the answer
 
@@ -30,28 +32,30 @@ module _ (s : List ℕ) where
   unfolding checkOf
   answer-valid h e = simp (le-ltb _ _ h, eq-eqb _ _ e)
 
-  pub answer-broken : (at : ℕ) → length s ≤ limit → validPrefix s ≡ at → at < length s → Refused (NotUtf8 at) ≡ checkOf s
+  pub answer-broken : (at r : ℕ) → length s ≤ limit → validPrefix s ≡ at → at < length s → r ≡ faultLen (drop at s)
+      → Refused (NotUtf8 at r) ≡ checkOf s
   unfolding checkOf
-  answer-broken at h e k =
+  answer-broken at r h e k f =
       let d : at ≡ length s → ⊥ = omega arith in
-      simp (le-ltb _ _ h, e, ne-eqb _ _ d)
+      rw f (simp (le-ltb _ _ h, e, ne-eqb _ _ d))
 
 -- ---- from the answer to the bytes: what the check promises, without a computed definition in it
 
 pub longest-is : (s : List ℕ) → Longest s (validPrefix s)
 longest-is s = record { within = valid-le s; valid = valid-is s; longest = valid-longest s }
 
-longest-one : (s : List ℕ) (n : ℕ) → Longest s n → validPrefix s ≡ n
+pub longest-one : (s : List ℕ) (n : ℕ) → Longest s n → validPrefix s ≡ n
 longest-one s n l =
     omega (arith, valid-longest s n (l .within) (l .valid), l .longest (validPrefix s) (valid-le s) (valid-is s))
 
 means-answer : (s : List ℕ) (r : Utf8Check) → CheckMeans s r → r ≡ checkOf s
 means-answer s Valid (h, u) = answer-valid s h (utf8-iff s .1 u)
 means-answer s (Refused TooLong) h = answer-long s h
-means-answer s (Refused (NotUtf8 n)) (h, broken, l) =
+means-answer s (Refused (NotUtf8 n r)) (h, broken, l, f) =
     let e = longest-one s n l in
     let d : n ≡ length s → ⊥ = λ same. broken (utf8-iff s .0 (e ∙ same)) in
-    answer-broken s n h e (omega (arith, l .within))
+    let k : n < length s = omega (arith, l .within) in
+    answer-broken s n r h e k (fault-one (drop n s) r (faultLen (drop n s)) f (fault-is (drop n s) (omega (arith, length-drop n s))))
 means-answer s (Refused (FewTokens n)) m = absurd m
 means-answer s (Refused (ShortOutput n)) m = absurd m
 means-answer s (Refused (FewErrors n)) m = absurd m
@@ -65,7 +69,10 @@ answer-means s =
     by-lt (CheckMeans s) limit (length s) (λ h. h)
     λ h. cond-case (CheckMeans s) (eqb (validPrefix s) (length s))
     (λ e. (h, utf8-iff s .0 (eqb-true _ _ e)))
-    (λ e. (h, (λ u. eqb-false _ _ e (utf8-iff s .1 u)), longest-is s))
+    (λ e.
+    let d = eqb-false _ _ e in
+    let k : 1 ≤ length (drop (validPrefix s) s) = omega (arith, valid-le s, length-drop (validPrefix s) s) in
+    (h, (λ u. d (utf8-iff s .1 u)), longest-is s, fault-is (drop (validPrefix s) s) k))
 
 pub check-means : (s : List ℕ) (r : Utf8Check) → (r ≡ checkOf s) ↔ CheckMeans s r
 check-means s r = (λ e. rw e (answer-means s), means-answer s r)

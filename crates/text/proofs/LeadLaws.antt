@@ -67,18 +67,21 @@ rows a =
     λ l. by-lt (Row a) a 0xF4 (λ h. rf1 l h)
     λ l. by-lt (Row a) a 0xF5 (λ h. rf4 l h) (λ l. rf5 l)
 
-row-le : {a : ℕ} {l : Lead} → Row a l → l .0 ≤ 4
-row-le (r00 h) = omega arith
-row-le (r80 l h) = omega arith
-row-le (rc2 l h) = omega arith
-row-le (re0 l h) = omega arith
-row-le (re1 l h) = omega arith
-row-le (red l h) = omega arith
-row-le (ree l h) = omega arith
-row-le (rf0 l h) = omega arith
-row-le (rf1 l h) = omega arith
-row-le (rf4 l h) = omega arith
-row-le (rf5 l) = omega arith
+row-fits : {a : ℕ} {l : Lead} → Row a l → (l .0 ≤ 4) × (l .1 ≤ l .2)
+row-fits (r00 h) = omega arith
+row-fits (r80 l h) = omega arith
+row-fits (rc2 l h) = omega arith
+row-fits (re0 l h) = omega arith
+row-fits (re1 l h) = omega arith
+row-fits (red l h) = omega arith
+row-fits (ree l h) = omega arith
+row-fits (rf0 l h) = omega arith
+row-fits (rf1 l h) = omega arith
+row-fits (rf4 l h) = omega arith
+row-fits (rf5 l) = omega arith
+
+pub lead-fits : (a : ℕ) → (leadOf a .0 ≤ 4) × (leadOf a .1 ≤ leadOf a .2)
+lead-fits a = row-fits (rows a)
 
 -- ---- what the table asks of a character of n bytes: `left` bytes are there, and b, c, d are the second to the fourth
 
@@ -89,13 +92,13 @@ pub record Seen (l : Lead) (left b c d n : ℕ) : Type 0 where
   pub third : 3 ≤ n → (0x80 ≤ c) × (c ≤ 0xBF)
   pub fourth : 4 ≤ n → (0x80 ≤ d) × (d ≤ 0xBF)
 
-abbrev SeenIn : List ℕ → ℕ → Type 0
+abbrev pub SeenIn : List ℕ → ℕ → Type 0
 SeenIn x n = Seen (leadOf (getD x 0 0)) (length x) (getD x 1 0) (getD x 2 0) (getD x 3 0) n
 
 -- ---- each encoding passes
 
 module _ (v : ℕ) (t : List ℕ) where
-  encode-seen : Size v → SeenIn (encodeScalar v ++ t) (length (encodeScalar v))
+  pub encode-seen : Size v → SeenIn (encodeScalar v ++ t) (length (encodeScalar v))
   unfolding leadOf
   encode-seen (one h) = rw (encode-1 v h, ← row-is (row 1 0 0) 0 0x80 tt v (omega arith) h) (omega arith)
   encode-seen (two l h) =
@@ -231,6 +234,9 @@ module _ (x : List ℕ) (n : ℕ) where
       four-bytes s refl (omega arith) (omega arith) (omega arith) (λ hb hc hd lo hi. (omega arith, omega arith))
   seen-row p (rf5 l) s = absurd (omega (arith, s .len))
 
+pub seen-char : (x : List ℕ) (n : ℕ) → 0 < n → SeenIn x n → charLen x ≡ n
+seen-char x n p s = seen-row x n p (rows (getD x 0 0)) s
+
 -- ---- the same at a place of a list, over the numbers that the code reads
 
 module _ (s : List ℕ) (at : ℕ) (l : Lead) (e : l ≡ leadOf (getD s at 0)) where
@@ -238,12 +244,12 @@ module _ (s : List ℕ) (at : ℕ) (l : Lead) (e : l ≡ leadOf (getD s at 0)) w
   SeenAt n = Seen l (length s - at) (getD s (at + 1) 0) (getD s (at + 2) 0) (getD s (at + 3) 0) n
 
   lead-le : l .0 ≤ 4
-  lead-le = rw e (row-le (rows (getD s at 0)))
+  lead-le = rw e (lead-fits (getD s at 0) .0)
 
   -- a character
   char-here : (n : ℕ) → 0 < n → SeenAt n → n ≡ charLen (drop at s)
   char-here n p h =
-      sym (seen-row (drop at s) n p (rows (getD (drop at s) 0 0)) (simp (getD-drop, length-drop, add-zero) (rw e at h)))
+      sym (seen-char (drop at s) n p (simp (getD-drop, length-drop, add-zero) (rw e at h)))
 
   seen-at : (n : ℕ) → charLen (drop at s) ≡ suc n → SeenAt (suc n)
   seen-at n h = rw e (simp (getD-drop, length-drop, add-zero) at (char-seen (drop at s) n h))

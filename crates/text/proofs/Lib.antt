@@ -2,6 +2,9 @@ pub mod FieldLaws
 pub mod EncodeLaws
 pub mod ReadLaws
 pub mod LeadLaws
+pub mod BegunLaws
+pub mod FaultLaws
 pub mod CutLaws
 pub mod AnswerLaws
+pub mod MendLaws
 pub mod OneAnswer

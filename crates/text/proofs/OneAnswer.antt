@@ -9,7 +9,7 @@ use Rattle.classes.proofs.OneAnswer.{Only, only-equal}
 use Rattle.text.specs.declared.refusal.Refusal.{Refusal}
 use Rattle.text.specs.declared.utf8.Utf8Check.{Utf8Check}
 use Rattle.text.specs.declared.utf8.Encoded.{Encoded}
-use Rattle.text.specs.Refusals.{refusalNumber, refusalValue}
+use Rattle.text.specs.Refusals.{refusalNumber, refusalValue, refusalLength}
 use Rattle.text.specs.Utf8Read.{isScalar}
 use Rattle.text.specs.Answers.{checkOf, encodedOf}
 
@@ -18,6 +18,9 @@ number self = only-equal (refusalNumber self)
 
 pub value : (self : Refusal) → Only (λ (r : ℕ). r ≡ refusalValue self)
 value self = only-equal (refusalValue self)
+
+pub length : (self : Refusal) → Only (λ (r : ℕ). r ≡ refusalLength self)
+length self = only-equal (refusalLength self)
 
 pub is-scalar : (c : ℕ) → Only (λ (r : Bool). r ≡ isScalar c)
 is-scalar c = only-equal (isScalar c)

@@ -3,21 +3,22 @@
 use Prim.Native.Nat.{ℕ, _-_}
 use mathlib.Core.Bool.{cond}
 use mathlib.Core.List.{List, [], _∷_, _++_}
-use lib.ListN.{length, replicate}
+use lib.ListN.{length, drop, replicate}
 use lib.Dec.{ltb, eqb}
 use Rattle.text.specs.Refusals.{limit}
 use Rattle.text.specs.Utf8.{encodeScalar}
 use Rattle.text.specs.Utf8Read.{isScalar, validPrefix}
+use Rattle.text.specs.Lead.{faultLen}
 use Rattle.text.specs.declared.utf8.Encoded.{Encoded}
 use Rattle.text.specs.declared.refusal.Refusal.the-variants.{NotUtf8, TooLong}
 use Rattle.text.specs.declared.utf8.Utf8Check.{Utf8Check}
 use Rattle.text.specs.declared.utf8.Utf8Check.the-variants.{Valid, Refused}
 
--- the UTF-8 check: refusal 2 before 1, and with 1 the length of the longest valid prefix
+-- the UTF-8 check: refusal 2 before 1, and with 1 the lengths of the longest valid prefix and of the faulty sequence
 unfoldable pub checkOf : List ℕ → Utf8Check
 checkOf s =
     cond (ltb limit (length s)) (Refused TooLong)
-    (cond (eqb (validPrefix s) (length s)) Valid (Refused (NotUtf8 (validPrefix s))))
+    (cond (eqb (validPrefix s) (length s)) Valid (Refused (NotUtf8 (validPrefix s) (faultLen (drop (validPrefix s) s)))))
 
 -- bytes in a run of four, zeros behind them
 abbrev pub padded : List ℕ → Encoded

@@ -3,9 +3,9 @@
 -- Assumes nothing.
 use Prim.Native.Nat.{ℕ, _+_, _-_, _≤_}
 use mathlib.Core.Path.{_≡_}
-use mathlib.Core.Bool.{cond}
+use mathlib.Core.Bool.{Bool, cond, _&&_}
 use mathlib.Core.List.{List}
-use lib.Dec.{ltb}
+use lib.Dec.{ltb, leb, eqb}
 use lib.ListN.{length, getD}
 use Rattle.text.specs.declared.utf8.Lead.{Lead}
 
@@ -44,3 +44,20 @@ pub record Begun (l : Lead) (left b c d r : ℕ) : Type 0 where
 
 abbrev pub BegunAt : List ℕ → ℕ → Lead → ℕ → Type 0
 BegunAt s at l r = Begun l (length s - at) (getD s (at + 1) 0) (getD s (at + 2) 0) (getD s (at + 3) 0) r
+
+-- `Begun` computed: the n-th byte is asked for, is there, and is in its range
+abbrev pub goesOn : Lead → ℕ → ℕ → ℕ → ℕ → ℕ → Bool
+goesOn l left n low high b = (leb n (l .0) && leb n left) && (leb low b && leb b high)
+
+unfoldable pub begunBy : Lead → ℕ → ℕ → ℕ → ℕ → ℕ
+begunBy l left b c d =
+    cond (goesOn l left 2 (l .1) (l .2) b)
+    (cond (goesOn l left 3 0x80 0xBF c)
+    (cond (goesOn l left 4 0x80 0xBF d) 4 3) 2) 1
+
+abbrev pub begunLen : List ℕ → ℕ
+begunLen t = begunBy (leadOf (getD t 0 0)) (length t) (getD t 1 0) (getD t 2 0) (getD t 3 0)
+
+-- the length of the faulty sequence that t begins with: proofs/FaultLaws.antt shows that it is `Fault`'s
+unfoldable pub faultLen : List ℕ → ℕ
+faultLen t = cond (eqb (leadOf (getD t 0 0) .0) 0) 1 (cond (eqb (begunLen t) (length t)) 0 (begunLen t))

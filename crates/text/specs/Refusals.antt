@@ -10,7 +10,7 @@ limit = 16777216
 
 -- which refusal it is
 abbrev pub refusalNumber : Refusal → ℕ
-refusalNumber (NotUtf8 valid) = 1
+refusalNumber (NotUtf8 valid length) = 1
 refusalNumber TooLong = 2
 refusalNumber (FewTokens needed) = 3
 refusalNumber (ShortOutput needed) = 4
@@ -21,7 +21,7 @@ refusalNumber (NoEdition number) = 9
 
 -- the number returned with it
 abbrev pub refusalValue : Refusal → ℕ
-refusalValue (NotUtf8 valid) = valid
+refusalValue (NotUtf8 valid length) = valid
 refusalValue TooLong = limit
 refusalValue (FewTokens needed) = needed
 refusalValue (ShortOutput needed) = needed
@@ -29,3 +29,14 @@ refusalValue (FewErrors needed) = needed
 refusalValue (OutOfPlace length) = length
 refusalValue (NoKind number) = number
 refusalValue (NoEdition number) = number
+
+-- the second number, which only 1 returns: the length of the faulty sequence
+abbrev pub refusalLength : Refusal → ℕ
+refusalLength (NotUtf8 valid length) = length
+refusalLength TooLong = 0
+refusalLength (FewTokens needed) = 0
+refusalLength (ShortOutput needed) = 0
+refusalLength (FewErrors needed) = 0
+refusalLength (OutOfPlace length) = 0
+refusalLength (NoKind number) = 0
+refusalLength (NoEdition number) = 0

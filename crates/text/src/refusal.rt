@@ -1,15 +1,17 @@
 // The numbered refusals: what a call answers where its arguments cannot be served.
 // Rule: specs/Refusals.antt.
 ghost use mathlib.Core.Path.{_≡_};
-ghost use Rattle.text.specs.Refusals.{refusalNumber, refusalValue};
+ghost use Rattle.text.specs.Refusals.{refusalNumber, refusalValue, refusalLength};
 
 // The most bytes that a document or a text may have.
 pub const LIMIT: usize = 16777216;
 
-// Why a call did not answer; beside each, its number and what the number returned says.
+// Why a call did not answer; beside each, its number and what the number returned says. Only the
+// first returns a second one.
 pub enum Refusal {
-    // 1: not UTF-8; the length of the longest valid prefix
-    NotUtf8 { valid: usize },
+    // 1: not UTF-8; the length of the longest valid prefix, and that of the faulty sequence behind it,
+    // 0 where the text ends inside a character
+    NotUtf8 { valid: usize, length: usize },
     // 2: more bytes than the limit; the limit
     TooLong,
     // 3: fewer token records than tokens; the tokens, `Eof` counted
@@ -32,7 +34,10 @@ impl Refusal {
         ensures { λ r. ⌜ r ≡ refusalNumber self ⌝ }
     {
         match self {
-            Refusal::NotUtf8 { valid: _ } => 1,
+            Refusal::NotUtf8 {
+                valid: _,
+                length: _,
+            } => 1,
             Refusal::TooLong => 2,
             Refusal::FewTokens { needed: _ } => 3,
             Refusal::ShortOutput { needed: _ } => 4,
@@ -48,7 +53,7 @@ impl Refusal {
         ensures { λ r. ⌜ r ≡ refusalValue self ⌝ }
     {
         match self {
-            Refusal::NotUtf8 { valid } => valid,
+            Refusal::NotUtf8 { valid, length: _ } => valid,
             Refusal::TooLong => LIMIT,
             Refusal::FewTokens { needed } => needed,
             Refusal::ShortOutput { needed } => needed,
@@ -56,6 +61,22 @@ impl Refusal {
             Refusal::OutOfPlace { length } => length,
             Refusal::NoKind { number } => number,
             Refusal::NoEdition { number } => number,
+        }
+    }
+
+    // The second number returned with 1: the length of the faulty sequence. 0 with every other.
+    pub fn length(self) -> usize
+        ensures { λ r. ⌜ r ≡ refusalLength self ⌝ }
+    {
+        match self {
+            Refusal::NotUtf8 { valid: _, length } => length,
+            Refusal::TooLong => 0,
+            Refusal::FewTokens { needed: _ } => 0,
+            Refusal::ShortOutput { needed: _ } => 0,
+            Refusal::FewErrors { needed: _ } => 0,
+            Refusal::OutOfPlace { length: _ } => 0,
+            Refusal::NoKind { number: _ } => 0,
+            Refusal::NoEdition { number: _ } => 0,
         }
     }
 }

@@ -7,7 +7,7 @@ ghost use lib.ListN.{length, drop};
 ghost use Rattle.classes.specs.Runs.{run};
 ghost use Rattle.text.specs.Utf8.{encodeScalar};
 ghost use Rattle.text.specs.Utf8Read.{isScalar, ascii, charLen, Passed};
-ghost use Rattle.text.specs.Lead.{leadOf, Among, BegunAt};
+ghost use Rattle.text.specs.Lead.{leadOf, Among, BegunAt, faultLen};
 ghost use Rattle.text.specs.Answers.{padded, encodedOf, checkOf};
 use crate::refusal::LIMIT;
 use crate::refusal::Refusal;
@@ -29,7 +29,8 @@ pub fn check_utf8(s: &[u8]) -> Utf8Check
     while at < s.len() {
         let next = passed(s, at);
         if next == at {
-            return Utf8Check::Refused(Refusal::NotUtf8 { valid: at });
+            let length = fault_at(s, at);
+            return Utf8Check::Refused(Refusal::NotUtf8 { valid: at, length });
         }
         at = next;
     }
@@ -105,6 +106,20 @@ fn char_at(s: &[u8], at: usize) -> usize
         return 0;
     }
     n
+}
+
+// The length of the faulty sequence at `at`, where no character begins: as many bytes as begin one,
+// and at least one; 0 where the text ends before it is known whether they do.
+fn fault_at(s: &[u8], at: usize) -> usize
+    requires { ⌜ at < length (now s) ⌝ }
+    ensures { λ r. ⌜ r ≡ faultLen (drop at (now (s .entry))) ⌝ }
+{
+    let lead = lead_of(s[at]);
+    if lead.0 == 0 {
+        return 1;
+    }
+    let found = begun(s, at, lead);
+    if found == s.len() - at { 0 } else { found }
 }
 
 // How many bytes from `at` on begin a character as its first byte asks. They are tested strictly in

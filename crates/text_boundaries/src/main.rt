@@ -1,5 +1,6 @@
 // The UTF-8 check and the encoding at every boundary. The expected lines, in the file stdout, follow
-// the Unicode standard, section 3.9: table 3-6 for encodings, table 3-7 for well-formed sequences.
+// the Unicode standard, section 3.9: table 3-6 for encodings, table 3-7 for well-formed sequences; the
+// last number of a refusal is Rust's error_len, as core::str::Utf8Error documents it, 0 for none.
 use libc::STDOUT_FILENO;
 use text::Refusal;
 use text::Utf8Check;
@@ -155,6 +156,8 @@ fn refused(r: Refusal) {
     io::print_decimal(STDOUT_FILENO, r.number() as u64);
     io::write_all(STDOUT_FILENO, b" ");
     io::print_decimal(STDOUT_FILENO, r.value() as u64);
+    io::write_all(STDOUT_FILENO, b" ");
+    io::print_decimal(STDOUT_FILENO, r.length() as u64);
     io::write_all(STDOUT_FILENO, b"\n");
 }
 

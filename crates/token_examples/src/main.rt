@@ -25,6 +25,11 @@ fn number(n: usize, last: &[u8]) {
 fn refused(r: Refusal) {
     say(b"refused ");
     number(r.number(), b" ");
+    if r.number() == 1 {
+        number(r.value(), b" ");
+        number(r.length(), b"\n");
+        return;
+    }
     number(r.value(), b"\n");
 }
 

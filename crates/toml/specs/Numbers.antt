@@ -1,30 +1,32 @@
--- RULE. Each call's answer as the numbers that are exported: the refusal's number, 0 where answered; the number returned;
--- and the call's own results, zero where refused.
+-- RULE. Each call's answer as the numbers that are exported: the refusal's number, 0 where answered; the number returned; with
+-- refusal 1 the length of the faulty sequence; and the call's own results, zero where refused.
 -- Assumes nothing.
 use Prim.Native.Nat.{ℕ, _-_}
 use mathlib.Core.Bool.{Bool, true, false, not}
 use lib.Dec.{eqb}
-use Rattle.text.specs.Refusals.{refusalNumber, refusalValue}
+use Rattle.text.specs.Refusals.{refusalNumber, refusalValue, refusalLength}
+use Rattle.text.specs.declared.refusal.Refusal.{Refusal}
 use Rattle.text.specs.declared.utf8.Utf8Check.{Utf8Check}
 use Rattle.text.specs.declared.utf8.Utf8Check.the-variants.{Valid, Refused as Broken}
 use Rattle.token.specs.KindNumbers.{kindNumber}
-use Rattle.token.specs.Descriptions.{answerNumber, answerValue}
+use Rattle.token.specs.declared.Answer.{Answer}
+use Rattle.token.specs.declared.Answer.the-variants.{Given as Told, Refused as Untold}
 use Rattle.token.specs.declared.Description.{Description}
 use Rattle.token.specs.declared.Encoding.{Encoding}
-use Rattle.lexer.specs.Steps.{startNumber, startValue, startCursor, cursorOf}
-use Rattle.lexer.specs.Whole.{lexedNumber, lexedValue}
+use Rattle.lexer.specs.Steps.{cursorOf}
 use Rattle.lexer.specs.declared.Cursor.{Cursor}
 use Rattle.lexer.specs.declared.Start.{Start}
+use Rattle.lexer.specs.declared.Start.the-variants.{At, Refused as Unstarted}
 use Rattle.lexer.specs.declared.Step.{Step}
 use Rattle.lexer.specs.declared.Step.the-variants.{Token, End, Refused as Unstepped}
 use Rattle.lexer.specs.declared.Lexed.{Lexed}
-use Rattle.place.specs.Spans.{spanNumber, spanValue}
-use Rattle.place.specs.Positions.{positionNumber, positionValue, positionLine, positionColumn}
+use Rattle.lexer.specs.declared.Lexed.the-variants.{Tokens, Refused as Unlexed}
 use Rattle.place.specs.declared.SpanCheck.{SpanCheck}
 use Rattle.place.specs.declared.SpanCheck.the-variants.{Whole, Refused as Misplaced}
 use Rattle.place.specs.declared.Position.{Position}
-use Rattle.strings.specs.Decoding.{decodedNumber, decodedValue, decodedErrors}
+use Rattle.place.specs.declared.Position.the-variants.{At as Placed, Refused as Unplaced}
 use Rattle.strings.specs.declared.Decoded.{Decoded}
+use Rattle.strings.specs.declared.Decoded.the-variants.{Written, Refused as Undecoded}
 use Rattle.toml.specs.declared.Answered.{Answered}
 use Rattle.toml.specs.declared.CursorNumbers.{CursorNumbers}
 use Rattle.toml.specs.declared.Started.{Started}
@@ -43,27 +45,32 @@ bitOf false = 0
 abbrev pub flag : ℕ → Bool
 flag n = not (eqb n 0)
 
--- which refusal, 0 for none, and the number returned
-abbrev pub answered : ℕ → ℕ → Answered
-answered refusal value = record { refusal = refusal; value = value }
+-- an answer with its number
+abbrev pub given : ℕ → Answered
+given value = record { refusal = 0; value = value; length = 0 }
+
+-- a refusal with its numbers
+abbrev pub refusedBy : Refusal → Answered
+refusedBy r = record { refusal = refusalNumber r; value = refusalValue r; length = refusalLength r }
 
 -- the UTF-8 check
 abbrev pub checkNumbers : Utf8Check → Answered
-checkNumbers Valid = answered 0 0
-checkNumbers (Broken r) = answered (refusalNumber r) (refusalValue r)
+checkNumbers Valid = given 0
+checkNumbers (Broken r) = refusedBy r
 
 -- start
 abbrev pub cursorNumbers : Cursor → CursorNumbers
 cursorNumbers c = record { place = c .place; ended = bitOf (c .ended) }
 
 abbrev pub startNumbers : Start → Started
-startNumbers s = record { answer = answered (startNumber s) (startValue s); cursor = cursorNumbers (startCursor s) }
+startNumbers (At c) = record { answer = given 0; cursor = cursorNumbers c }
+startNumbers (Unstarted r) = record { answer = refusedBy r; cursor = cursorNumbers (cursorOf 0 false) }
 
 -- a step: `given` is 1 with a token, and all behind it zero without one
-abbrev pub noToken : ℕ → ℕ → Stepped
-noToken refusal value =
+abbrev pub noToken : Answered → Stepped
+noToken answer =
     record {
-      answer = answered refusal value;
+      answer = answer;
       given = 0;
       token = record { kind = 0; start = 0; end = 0 };
       cursor = cursorNumbers (cursorOf 0 false);
@@ -72,21 +79,23 @@ noToken refusal value =
 abbrev pub stepNumbers : Step → Stepped
 stepNumbers (Token t c) =
     record {
-      answer = answered 0 0;
+      answer = given 0;
       given = 1;
       token = record { kind = kindNumber (t .kind); start = t .span .start; end = t .span .end };
       cursor = cursorNumbers c;
     }
-stepNumbers End = noToken 0 0
-stepNumbers (Unstepped r) = noToken (refusalNumber r) (refusalValue r)
+stepNumbers End = noToken (given 0)
+stepNumbers (Unstepped r) = noToken (refusedBy r)
 
 -- whole lexing: the tokens
 abbrev pub lexNumbers : Lexed → Answered
-lexNumbers l = answered (lexedNumber l) (lexedValue l)
+lexNumbers (Tokens n) = given n
+lexNumbers (Unlexed r) = refusedBy r
 
 -- the span check
 abbrev pub spanNumbers : SpanCheck → Answered
-spanNumbers s = answered (spanNumber s) (spanValue s)
+spanNumbers Whole = given 0
+spanNumbers (Misplaced r) = refusedBy r
 
 -- the text of a span, by its start and length: 0 and 0 where the check refuses it
 abbrev pub partFrom : ℕ → ℕ → Part
@@ -98,17 +107,21 @@ partOf (Misplaced r) start end = record { start = 0; length = 0 }
 
 -- line and column
 abbrev pub positionNumbers : Position → Positioned
-positionNumbers p =
-    record { answer = answered (positionNumber p) (positionValue p); line = positionLine p; column = positionColumn p }
+positionNumbers (Placed line column) = record { answer = given 0; line = line; column = column }
+positionNumbers (Unplaced r) = record { answer = refusedBy r; line = 0; column = 0 }
 
 -- decode: the bytes, and the errors
 abbrev pub decodeNumbers : Decoded → DecodedText
-decodeNumbers d = record { answer = answered (decodedNumber d) (decodedValue d); errors = decodedErrors d }
+decodeNumbers (Written bytes errors) = record { answer = given bytes; errors = errors }
+decodeNumbers (Undecoded r) = record { answer = refusedBy r; errors = 0 }
 
 -- description and encoding of a kind
+abbrev pub toldBy : Answer → Answered
+toldBy Told = given 0
+toldBy (Untold r) = refusedBy r
+
 abbrev pub describedNumbers : Description → Described
-describedNumbers d =
-    record { answer = answered (answerNumber (d .answer)) (answerValue (d .answer)); length = d .len; bytes = d .bytes }
+describedNumbers d = record { answer = toldBy (d .answer); length = d .len; bytes = d .bytes }
 
 abbrev pub encodedNumbers : Encoding → EncodedKind
-encodedNumbers e = record { answer = answered (answerNumber (e .answer)) (answerValue (e .answer)); encoding = e .number }
+encodedNumbers e = record { answer = toldBy (e .answer); encoding = e .number }

@@ -3,8 +3,7 @@
 ghost use mathlib.Core.Path.{_≡_};
 ghost use lib.ListN.{length, take, drop};
 ghost use Rattle.text.specs.Answers.{checkOf};
-ghost use Rattle.text.specs.Refusals.{refusalNumber, refusalValue};
-ghost use Rattle.token.specs.Descriptions.{descriptionOf, answerNumber, answerValue};
+ghost use Rattle.token.specs.Descriptions.{descriptionOf};
 ghost use Rattle.token.specs.Encodings.{encodingOf};
 ghost use Rattle.token.specs.Records.{spanOf};
 ghost use Rattle.lexer.specs.Steps.{startAnswer, stepOf, cursorOf};
@@ -13,7 +12,7 @@ ghost use Rattle.place.specs.Spans.{spanAnswer, spanText};
 ghost use Rattle.place.specs.Positions.{positionAnswer};
 ghost use Rattle.strings.specs.Encodings.{encodingOf as decoderOf, encodingBy as decoderBy};
 ghost use Rattle.strings.specs.Decoding.{decodeOf, decodeIn, bytesBy, errorsBy, after};
-ghost use Rattle.toml.specs.Numbers.{bitOf, flag, answered, cursorNumbers, noToken, partFrom};
+ghost use Rattle.toml.specs.Numbers.{bitOf, flag, given, refusedBy, toldBy, cursorNumbers, noToken, partFrom};
 ghost use Rattle.toml.specs.Numbers.{checkNumbers, startNumbers, stepNumbers, lexNumbers, spanNumbers, partOf};
 ghost use Rattle.toml.specs.Numbers.{positionNumbers, decodeNumbers, describedNumbers, encodedNumbers};
 use lexer::Cursor;
@@ -29,11 +28,13 @@ use token::Answer;
 use token::Span;
 use token::TokenKind;
 
-// 0 where the call answered and else its refusal's number, and the number returned with it.
+// 0 where the call answered and else its refusal's number, the number returned with it, and the length
+// of the faulty sequence, which only refusal 1 has.
 #[repr(C)]
 pub struct Answered {
     pub refusal: usize,
     pub value: usize,
+    pub length: usize,
 }
 
 // A cursor; `ended` is 0 or 1.
@@ -276,22 +277,27 @@ pub extern "C" fn toml_encoding(kind: usize) -> EncodedKind
 }
 
 fn answer_of(value: usize) -> Answered
-    ensures { λ r. ⌜ r ≡ answered 0 value ⌝ }
+    ensures { λ r. ⌜ r ≡ given value ⌝ }
 {
-    Answered { refusal: 0, value }
+    Answered {
+        refusal: 0,
+        value,
+        length: 0,
+    }
 }
 
 fn refused(r: Refusal) -> Answered
-    ensures { λ a. ⌜ a ≡ answered (refusalNumber r) (refusalValue r) ⌝ }
+    ensures { λ a. ⌜ a ≡ refusedBy r ⌝ }
 {
     Answered {
         refusal: r.number(),
         value: r.value(),
+        length: r.length(),
     }
 }
 
 fn told(a: Answer) -> Answered
-    ensures { λ r. ⌜ r ≡ answered (answerNumber a) (answerValue a) ⌝ }
+    ensures { λ r. ⌜ r ≡ toldBy a ⌝ }
 {
     match a {
         Answer::Given => answer_of(0),
@@ -309,7 +315,7 @@ fn cursor_numbers(place: usize, ended: bool) -> CursorNumbers
 }
 
 fn no_token(answer: Answered) -> Stepped
-    ensures { λ r. ⌜ r ≡ noToken (answer .refusal) (answer .value) ⌝ }
+    ensures { λ r. ⌜ r ≡ noToken answer ⌝ }
 {
     Stepped {
         answer,

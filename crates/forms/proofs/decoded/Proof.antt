@@ -15,14 +15,14 @@ filled-requires c κs = search needs
 enum-known-result-2 : tie.Need-enum-known-result-2
 enum-known-result-2 c = search needs
 
-refused-requires : tie.Need-refused-requires
-refused-requires c κs = search needs
+refused-whole-requires : tie.Need-refused-whole-requires
+refused-whole-requires c κs = search needs
 
 returns : tie.Need-returns
 returns c = c .filled .ensures ∙ ap decodedAs (sym (c .before .before .result .given .1))
 
 returns-2 : tie.Need-returns-2
-returns-2 c = c .refused .ensures ∙ ap decodedAs (sym (c .before .before .result2 .given .1))
+returns-2 c = c .refused-whole .ensures ∙ ap decodedAs (sym (c .before .before .result2 .given .1))
 
 pub decoded-spec : {M : Type 1} → statement M
 decoded-spec =
@@ -31,6 +31,6 @@ decoded-spec =
     enum-known-result
     filled-requires
     enum-known-result-2
-    refused-requires
+    refused-whole-requires
     returns
     returns-2)

@@ -9,8 +9,8 @@ use Rattle.forms.proofs.decoded_count.Tie as tie
 enum-known-result : tie.Need-enum-known-result
 enum-known-result c = search needs
 
-counted-requires : tie.Need-counted-requires
-counted-requires c κs = search needs
+three-requires : tie.Need-three-requires
+three-requires c κs = search needs
 
 enum-known-result-2 : tie.Need-enum-known-result-2
 enum-known-result-2 c = search needs
@@ -19,7 +19,7 @@ refused-requires : tie.Need-refused-requires
 refused-requires c κs = search needs
 
 returns : tie.Need-returns
-returns c = c .counted .ensures ∙ ap decodedCountAs (sym (c .before .before .result .given .1))
+returns c = c .three .ensures ∙ ap decodedCountAs (sym (c .before .before .result .given .1))
 
 returns-2 : tie.Need-returns-2
 returns-2 c = c .refused .ensures ∙ ap decodedCountAs (sym (c .before .before .result2 .given .1))
@@ -29,7 +29,7 @@ decoded-count-spec =
     tie.close
     (tie.spec
     enum-known-result
-    counted-requires
+    three-requires
     enum-known-result-2
     refused-requires
     returns

@@ -15,14 +15,14 @@ filled-requires c κs = search needs
 enum-known-lexed-2 : tie.Need-enum-known-lexed-2
 enum-known-lexed-2 c = search needs
 
-refused-requires : tie.Need-refused-requires
-refused-requires c κs = search needs
+refused-whole-requires : tie.Need-refused-whole-requires
+refused-whole-requires c κs = search needs
 
 returns : tie.Need-returns
 returns c = c .filled .ensures ∙ ap tokensAs (sym (c .before .before .lexed .given .1))
 
 returns-2 : tie.Need-returns-2
-returns-2 c = c .refused .ensures ∙ ap tokensAs (sym (c .before .before .lexed2 .given .1))
+returns-2 c = c .refused-whole .ensures ∙ ap tokensAs (sym (c .before .before .lexed2 .given .1))
 
 pub tokens-spec : {M : Type 1} → statement M
 tokens-spec =
@@ -31,6 +31,6 @@ tokens-spec =
     enum-known-lexed
     filled-requires
     enum-known-lexed-2
-    refused-requires
+    refused-whole-requires
     returns
     returns-2)

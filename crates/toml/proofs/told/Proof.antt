@@ -1,9 +1,7 @@
 -- `told` is right because each case is spelled as the definition has it.
 -- Assumes nothing.
 use mathlib.Core.Path.{sym, ap, _∙_}
-use Rattle.token.specs.Descriptions.{answerNumber, answerValue}
-use Rattle.token.specs.declared.Answer.{Answer}
-use Rattle.toml.specs.Numbers.{answered}
+use Rattle.toml.specs.Numbers.{toldBy}
 use borrow.Author.Needs.{needs}
 use Rattle.toml.proofs.told.Statement.{statement}
 use Rattle.toml.proofs.told.Tie as tie
@@ -21,10 +19,10 @@ refused-requires : tie.Need-refused-requires
 refused-requires c κs = search needs
 
 returns : tie.Need-returns
-returns c = c .answer-of .ensures ∙ ap (λ (a : Answer). answered (answerNumber a) (answerValue a)) (sym (c .before .enum-told .given .1))
+returns c = c .answer-of .ensures ∙ ap toldBy (sym (c .before .enum-told .given .1))
 
 returns-2 : tie.Need-returns-2
-returns-2 c = c .refused .ensures ∙ ap (λ (a : Answer). answered (answerNumber a) (answerValue a)) (sym (c .before .before .a .given .1))
+returns-2 c = c .refused .ensures ∙ ap toldBy (sym (c .before .before .a .given .1))
 
 pub told-spec : {M : Type 1} → statement M
 told-spec =

@@ -23,17 +23,11 @@ text-of-requires c κs = search needs
 read-number-requires : tie.Need-read-number-requires Inv-loop μ-loop
 read-number-requires c κs = search needs
 
-enum-known-value : tie.Need-enum-known-value Inv-loop μ-loop
-enum-known-value c = search needs
-
 mul-values : tie.Need-mul-values Inv-loop μ-loop
 mul-values c = search needs
 
 array-write-values : tie.Need-array-write-values Inv-loop μ-loop
 array-write-values c = search needs
-
-enum-told : tie.Need-enum-told Inv-loop μ-loop
-enum-told c = search needs
 
 add-i : tie.Need-add-i Inv-loop μ-loop
 add-i c = search needs
@@ -57,10 +51,8 @@ read-numbers-spec =
     word-after-requires
     text-of-requires
     read-number-requires
-    enum-known-value
     mul-values
     array-write-values
-    enum-told
     add-i
     loop-less
     loop-again

@@ -1,4 +1,4 @@
--- `words::read_number` is safe and ends: it passes a digit each turn.
+-- `words::read_number` is safe and ends: it passes a byte each turn.
 -- Assumes nothing.
 use Prim.Native.Nat.{_-_, _≤_}
 use lib.ListN.{length}
@@ -7,13 +7,10 @@ use Rattle.asking.proofs.words.read_number.Statement.{statement}
 use Rattle.asking.proofs.words.read_number.Tie as tie
 
 abbrev Inv-loop : tie.InvT-loop
-Inv-loop text value₀ i₀ value i = i ≤ length text
+Inv-loop text number₀ i₀ number i = i ≤ length text
 
 abbrev μ-loop : tie.MeasureT-loop
-μ-loop text value₀ i₀ value i = length text - i
-
-returns : tie.Need-returns Inv-loop μ-loop
-returns c = search needs
+μ-loop text number₀ i₀ number i = length text - i
 
 loop-holds : tie.Need-loop-holds Inv-loop μ-loop
 loop-holds c = search needs
@@ -24,15 +21,6 @@ shared-slice-read-with-digit c = search needs
 with-digit-requires : tie.Need-with-digit-requires Inv-loop μ-loop
 with-digit-requires c κs = search needs
 
-enum-known-v : tie.Need-enum-known-v Inv-loop μ-loop
-enum-known-v c = search needs
-
-enum-told : tie.Need-enum-told Inv-loop μ-loop
-enum-told c = search needs
-
-returns-2 : tie.Need-returns-2 Inv-loop μ-loop
-returns-2 c = search needs
-
 add-i : tie.Need-add-i Inv-loop μ-loop
 add-i c = search needs
 
@@ -42,8 +30,8 @@ loop-less c = search needs
 loop-again : tie.Need-loop-again Inv-loop μ-loop
 loop-again c = search needs
 
-returns-3 : tie.Need-returns-3 Inv-loop μ-loop
-returns-3 c = search needs
+returns : tie.Need-returns Inv-loop μ-loop
+returns c = search needs
 
 pub read-number-spec : {M : Type 1} → statement M
 read-number-spec =
@@ -51,14 +39,10 @@ read-number-spec =
     (tie.spec
     Inv-loop
     μ-loop
-    returns
     loop-holds
     shared-slice-read-with-digit
     with-digit-requires
-    enum-known-v
-    enum-told
-    returns-2
     add-i
     loop-less
     loop-again
-    returns-3)
+    returns)

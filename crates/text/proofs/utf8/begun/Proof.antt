@@ -1,59 +1,14 @@
 -- `begun` is right because each return stands behind the tests of the bytes before it.
 -- Assumes nothing.
-use Prim.Native.Nat.{ℕ, _+_, _≤_}
+use Prim.Native.Nat.{ℕ, _+_}
 use lib.ListN.{getD}
 use native.Mathlib.Omega.{arith}
 use borrow.Author.Needs.{needs}
 use borrow.Author.Tests.{not-true, not-false}
-use Rattle.text.specs.declared.utf8.Lead.{Lead}
-use Rattle.text.specs.Lead.{Among, Begun}
+use Rattle.text.specs.Lead.{Among}
+use Rattle.text.proofs.BegunLaws.{begun-1, begun-2, begun-3, begun-4}
 use Rattle.text.proofs.utf8.begun.Statement.{statement}
 use Rattle.text.proofs.utf8.begun.Tie as tie
-
-module _ {l : Lead} {left b c d : ℕ} where
-  one : 1 ≤ left → (2 ≤ l .0 → 2 ≤ left → Among (l .1) (l .2) b → ⊥) → Begun l left b c d 1
-  one h f = record {
-    some = omega arith;
-    second = λ n. absurd (omega arith);
-    third = λ n. absurd (omega arith);
-    fourth = λ n. absurd (omega arith);
-    not-second = λ e. f;
-    not-third = λ e. absurd (omega arith);
-    not-fourth = λ e. absurd (omega arith);
-  }
-
-  two : 2 ≤ left → 2 ≤ l .0 → Among (l .1) (l .2) b → (3 ≤ l .0 → 3 ≤ left → Among 0x80 0xBF c → ⊥) → Begun l left b c d 2
-  two h k s f = record {
-    some = omega arith;
-    second = λ n. (k, s);
-    third = λ n. absurd (omega arith);
-    fourth = λ n. absurd (omega arith);
-    not-second = λ e. absurd (omega arith);
-    not-third = λ e. f;
-    not-fourth = λ e. absurd (omega arith);
-  }
-
-  three : 3 ≤ left → 3 ≤ l .0 → Among (l .1) (l .2) b → Among 0x80 0xBF c → (4 ≤ l .0 → 4 ≤ left → Among 0x80 0xBF d → ⊥) → Begun l left b c d 3
-  three h k s t f = record {
-    some = omega arith;
-    second = λ n. (omega arith, s);
-    third = λ n. (k, t);
-    fourth = λ n. absurd (omega arith);
-    not-second = λ e. absurd (omega arith);
-    not-third = λ e. absurd (omega arith);
-    not-fourth = λ e. f;
-  }
-
-  four : 4 ≤ left → 4 ≤ l .0 → Among (l .1) (l .2) b → Among 0x80 0xBF c → Among 0x80 0xBF d → Begun l left b c d 4
-  four h k s t u = record {
-    some = omega arith;
-    second = λ n. (omega arith, s);
-    third = λ n. (omega arith, t);
-    fourth = λ n. (k, u);
-    not-second = λ e. absurd (omega arith);
-    not-third = λ e. absurd (omega arith);
-    not-fourth = λ e. absurd (omega arith);
-  }
 
 -- what the function was given, seen from behind the test of the second byte
 abbrev given : (c : tie.Else3) → tie.Start
@@ -72,10 +27,10 @@ sub-left : tie.Need-sub-left
 sub-left c = search needs
 
 returns : tie.Need-returns
-returns c = one (omega arith) (λ h k a. omega arith)
+returns c = begun-1 (omega arith) (λ h k a. omega arith)
 
 returns-2 : tie.Need-returns-2
-returns-2 c = one (omega arith) (λ h k a. omega arith)
+returns-2 c = begun-1 (omega arith) (λ h k a. omega arith)
 
 add-is-among : tie.Need-add-is-among
 add-is-among c = search needs
@@ -87,13 +42,13 @@ is-among-requires : tie.Need-is-among-requires
 is-among-requires c κs = search needs
 
 returns-3 : tie.Need-returns-3
-returns-3 c = one (omega arith) (λ h k a. c .before .is-among .ensures .1 (not-true _ (c .if3 .taken)) a)
+returns-3 c = begun-1 (omega arith) (λ h k a. c .before .is-among .ensures .1 (not-true _ (c .if3 .taken)) a)
 
 returns-4 : tie.Need-returns-4
-returns-4 c = two (omega arith) (omega arith) (second (c .before)) (λ h k a. omega arith)
+returns-4 c = begun-2 (omega arith) (omega arith) (second (c .before)) (λ h k a. omega arith)
 
 returns-5 : tie.Need-returns-5
-returns-5 c = two (omega arith) (omega arith) (second (c .before .before)) (λ h k a. omega arith)
+returns-5 c = begun-2 (omega arith) (omega arith) (second (c .before .before)) (λ h k a. omega arith)
 
 add-is-among-2 : tie.Need-add-is-among-2
 add-is-among-2 c = search needs
@@ -105,13 +60,13 @@ is-among-requires-2 : tie.Need-is-among-requires-2
 is-among-requires-2 c κs = search needs
 
 returns-6 : tie.Need-returns-6
-returns-6 c = two (omega arith) (omega arith) (second (c .before .before .before .before .before)) (λ h k a. c .before .is-among2 .ensures .1 (not-true _ (c .if6 .taken)) a)
+returns-6 c = begun-2 (omega arith) (omega arith) (second (c .before .before .before .before .before)) (λ h k a. c .before .is-among2 .ensures .1 (not-true _ (c .if6 .taken)) a)
 
 returns-7 : tie.Need-returns-7
-returns-7 c = three (omega arith) (omega arith) (second (c .before .before .before .before .before .before)) (third (c .before)) (λ h k a. omega arith)
+returns-7 c = begun-3 (omega arith) (omega arith) (second (c .before .before .before .before .before .before)) (third (c .before)) (λ h k a. omega arith)
 
 returns-8 : tie.Need-returns-8
-returns-8 c = three (omega arith) (omega arith) (second (c .before .before .before .before .before .before .before)) (third (c .before .before)) (λ h k a. omega arith)
+returns-8 c = begun-3 (omega arith) (omega arith) (second (c .before .before .before .before .before .before .before)) (third (c .before .before)) (λ h k a. omega arith)
 
 add-is-among-3 : tie.Need-add-is-among-3
 add-is-among-3 c = search needs
@@ -123,10 +78,10 @@ is-among-requires-3 : tie.Need-is-among-requires-3
 is-among-requires-3 c κs = search needs
 
 returns-9 : tie.Need-returns-9
-returns-9 c = three (omega arith) (omega arith) (second (c .before .before .before .before .before .before .before .before .before .before)) (third (c .before .before .before .before .before)) (λ h k a. c .before .is-among3 .ensures .1 (not-true _ (c .if9 .taken)) a)
+returns-9 c = begun-3 (omega arith) (omega arith) (second (c .before .before .before .before .before .before .before .before .before .before)) (third (c .before .before .before .before .before)) (λ h k a. c .before .is-among3 .ensures .1 (not-true _ (c .if9 .taken)) a)
 
 returns-10 : tie.Need-returns-10
-returns-10 c = four (omega arith) (omega arith) (second (c .before .before .before .before .before .before .before .before .before .before)) (third (c .before .before .before .before .before)) (c .before .is-among3 .ensures .0 (not-false _ (c .if9 .left)))
+returns-10 c = begun-4 (omega arith) (omega arith) (second (c .before .before .before .before .before .before .before .before .before .before)) (third (c .before .before .before .before .before)) (c .before .is-among3 .ensures .0 (not-false _ (c .if9 .left)))
 
 pub begun-spec : {M : Type 1} → statement M
 begun-spec =

@@ -26,10 +26,13 @@ loop-holds c = omega arith
 passed-requires : tie.Need-passed-requires Inv-loop μ-loop
 passed-requires c κs = omega arith
 
+fault-at-requires : tie.Need-fault-at-requires Inv-loop μ-loop
+fault-at-requires c κs = omega arith
+
 returns-2 : tie.Need-returns-2 Inv-loop μ-loop
 returns-2 c =
-    let none = c .before .passed .ensures .stuck (c .if2 .taken) in
-    answer-broken (c .before .before .before .before .before .before .args .s .now) _ (omega arith) (omega arith) (omega arith)
+    let none = c .before .before .passed .ensures .stuck (c .before .if2 .taken) in
+    answer-broken (c .before .before .before .before .before .before .before .args .s .now) _ _ (omega arith) (omega arith) (omega arith) (c .fault-at .ensures)
 
 loop-less : tie.Need-loop-less Inv-loop μ-loop
 loop-less c = omega arith
@@ -51,6 +54,7 @@ check-utf8-spec =
     returns
     loop-holds
     passed-requires
+    fault-at-requires
     returns-2
     loop-less
     loop-again
