@@ -22,13 +22,13 @@ use Rattle.text.proofs.ReadLaws.{char-length, char-sound}
 
 -- ---- the table, row by row
 
-abbrev sameLead : Lead → Lead → Bool
+abbrev pub sameLead : Lead → Lead → Bool
 sameLead l m = eqb (l .0) (m .0) && (eqb (l .1) (m .1) && eqb (l .2) (m .2))
 
 lead-ext : (l m : Lead) → l .0 ≡ m .0 → l .1 ≡ m .1 → l .2 ≡ m .2 → l ≡ m
 lead-ext l m e f g = rw (e, f, g)
 
-same-lead : (l m : Lead) → T (sameLead l m) → l ≡ m
+pub same-lead : (l m : Lead) → T (sameLead l m) → l ≡ m
 same-lead l m t =
     let u = and-right (eqb (l .0) (m .0)) (eqb (l .1) (m .1) && eqb (l .2) (m .2)) t in
     lead-ext l m

@@ -2,6 +2,7 @@ pub mod FieldLaws
 pub mod EncodeLaws
 pub mod ReadLaws
 pub mod LeadLaws
+pub mod OnesLaws
 pub mod BegunLaws
 pub mod FaultLaws
 pub mod CutLaws

@@ -176,20 +176,29 @@ fn is_among(b: u8, low: u8, high: u8) -> bool
 // the second byte.
 struct Lead(usize, u8, u8);
 
-// The Unicode standard's table 3-7.
+// Beyond ASCII the length is the count of leading ones: the leading zeros of the complement. 80 to BF
+// have one, and F8 to FF more than four: none begins so. What table 3-7 of the Unicode standard
+// leaves out is taken out then: overlong forms, surrogates and values over 10FFFF.
 fn lead_of(a: u8) -> Lead
     ensures { λ r. ⌜ r ≡ leadOf a ⌝ }
 {
+    let ones = u8::leading_zeros(!a) as usize;
+    if ones == 0 {
+        return Lead(1, 0, 0);
+    }
+    if ones < 2 {
+        return Lead(0, 0, 0);
+    }
+    if 4 < ones {
+        return Lead(0, 0, 0);
+    }
     match a {
-        0x00..=0x7F => Lead(1, 0, 0),
-        0xC2..=0xDF => Lead(2, 0x80, 0xBF),
-        0xE0 => Lead(3, 0xA0, 0xBF),
-        0xE1..=0xEC | 0xEE..=0xEF => Lead(3, 0x80, 0xBF),
-        0xED => Lead(3, 0x80, 0x9F),
-        0xF0 => Lead(4, 0x90, 0xBF),
-        0xF1..=0xF3 => Lead(4, 0x80, 0xBF),
-        0xF4 => Lead(4, 0x80, 0x8F),
-        _ => Lead(0, 0, 0),
+        0xC0..=0xC1 | 0xF5..=0xF7 => Lead(0, 0, 0),
+        0xE0 => Lead(ones, 0xA0, 0xBF),
+        0xED => Lead(ones, 0x80, 0x9F),
+        0xF0 => Lead(ones, 0x90, 0xBF),
+        0xF4 => Lead(ones, 0x80, 0x8F),
+        _ => Lead(ones, 0x80, 0xBF),
     }
 }
 

@@ -1,0 +1,87 @@
+-- The leading ones of a first byte tell what table 3-7 says of it: one test, computed over all bytes.
+-- Assumes nothing.
+use Prim.Native.Nat.{ℕ, _-_, _≤_, _<_}
+use mathlib.Core.Path.{_≡_, refl, _∙_}
+use mathlib.Core.Bool.{cond}
+use native.Mathlib.Omega.{arith}
+use lib.Count.{leadingZeros}
+use lib.Dec.{ltb, eqb}
+use Rattle.text.specs.declared.utf8.Lead.{Lead}
+use Rattle.text.specs.Lead.{row, leadOf}
+use Rattle.classes.proofs.Conds.{by-lt, by-eq}
+use Rattle.classes.proofs.ByteTable.{at-each}
+use Rattle.text.proofs.LeadLaws.{sameLead, same-lead}
+
+-- they are the leading zeros of its complement
+abbrev pub onesOf : ℕ → ℕ
+onesOf a = leadingZeros 8 (255 - a)
+
+-- what a byte says that has n of them, two to four: n is its length, but for what the table leaves out
+abbrev beyond : ℕ → ℕ → Lead
+beyond n a =
+    cond (ltb a 0xC2) (cond (ltb a 0xC0) (row n 0x80 0xBF) (row 0 0 0))
+    (cond (eqb a 0xE0) (row n 0xA0 0xBF)
+    (cond (eqb a 0xED) (row n 0x80 0x9F)
+    (cond (eqb a 0xF0) (row n 0x90 0xBF)
+    (cond (eqb a 0xF4) (row n 0x80 0x8F)
+    (cond (ltb a 0xF5) (row n 0x80 0xBF)
+    (cond (ltb a 0xF8) (row 0 0 0) (row n 0x80 0xBF)))))))
+
+-- and what any byte says: none begins a character with one of them, nor with more than four
+abbrev byOnes : ℕ → ℕ → Lead
+byOnes n a = cond (eqb n 0) (row 1 0 0) (cond (ltb n 2) (row 0 0 0) (cond (ltb 4 n) (row 0 0 0) (beyond n a)))
+
+by-ones : (a : ℕ) → a < 256 → byOnes (onesOf a) a ≡ leadOf a
+unfolding leadOf leadingZeros
+by-ones a h = same-lead (byOnes (onesOf a) a) (leadOf a) (at-each (λ b. sameLead (byOnes (onesOf b) b) (leadOf b)) 0 256 tt a (omega arith) h)
+
+-- ---- the cases of the code
+
+-- not a byte that has an arm of its own
+abbrev pub Other : ℕ → Type 0
+Other a = (((Unit × (a ≡ 0xE0 → ⊥)) × (a ≡ 0xED → ⊥)) × (a ≡ 0xF0 → ⊥)) × (a ≡ 0xF4 → ⊥)
+
+-- one that has
+pub ones-key : (a k low high : ℕ) → row (onesOf k) low high ≡ leadOf k → a ≡ k → row (onesOf a) low high ≡ leadOf a
+ones-key a k low high f e = rw e f
+
+module _ (a : ℕ) (h : a < 256) where
+  pub ones-none : onesOf a ≡ 0 → row 1 0 0 ≡ leadOf a
+  ones-none e = by-eq (λ (x : Lead). row 1 0 0 ≡ x) (onesOf a) 0 (λ e. refl) (λ d. absurd (d e)) ∙ by-ones a h
+
+  pub ones-few : (onesOf a ≡ 0 → ⊥) → onesOf a < 2 → row 0 0 0 ≡ leadOf a
+  ones-few d l =
+      by-eq (λ (x : Lead). row 0 0 0 ≡ x) (onesOf a) 0 (λ e. absurd (d e))
+      (λ d. by-lt (λ (x : Lead). row 0 0 0 ≡ x) (onesOf a) 2 (λ l. refl) (λ g. absurd (omega arith)))
+      ∙ by-ones a h
+
+  pub ones-many : 4 < onesOf a → row 0 0 0 ≡ leadOf a
+  ones-many l =
+      by-eq (λ (x : Lead). row 0 0 0 ≡ x) (onesOf a) 0 (λ e. absurd (omega arith))
+      (λ d. by-lt (λ (x : Lead). row 0 0 0 ≡ x) (onesOf a) 2 (λ k. absurd (omega arith))
+      (λ g. by-lt (λ (x : Lead). row 0 0 0 ≡ x) 4 (onesOf a) (λ l. refl) (λ g. absurd (omega arith))))
+      ∙ by-ones a h
+
+  module _ (least : 2 ≤ onesOf a) (most : onesOf a ≤ 4) where
+    within : beyond (onesOf a) a ≡ leadOf a
+    within =
+        by-eq (λ (x : Lead). beyond (onesOf a) a ≡ x) (onesOf a) 0 (λ e. absurd (omega arith))
+        (λ d. by-lt (λ (x : Lead). beyond (onesOf a) a ≡ x) (onesOf a) 2 (λ k. absurd (omega arith))
+        (λ g. by-lt (λ (x : Lead). beyond (onesOf a) a ≡ x) 4 (onesOf a) (λ l. absurd (omega arith)) (λ g. refl)))
+        ∙ by-ones a h
+
+    -- any other byte
+    pub ones-rest : Other a → (0xC0 ≤ a → a < 0xC2 → ⊥) → (0xF5 ≤ a → a < 0xF8 → ⊥)
+        → row (onesOf a) 0x80 0xBF ≡ leadOf a
+    ones-rest k overlong large =
+        by-lt P a 0xC2 (λ l. by-lt P a 0xC0 (λ _. refl) (λ g. absurd (overlong g l)))
+        (λ _. by-eq P a 0xE0 (λ e. absurd (k .0 .0 .0 .1 e))
+        (λ _. by-eq P a 0xED (λ e. absurd (k .0 .0 .1 e))
+        (λ _. by-eq P a 0xF0 (λ e. absurd (k .0 .1 e))
+        (λ _. by-eq P a 0xF4 (λ e. absurd (k .1 e))
+        (λ _. by-lt P a 0xF5 (λ _. refl)
+        (λ g. by-lt P a 0xF8 (λ l. absurd (large g l)) (λ _. refl)))))))
+        ∙ within
+      where
+        P : Lead → Type 0
+        P x = row (onesOf a) 0x80 0xBF ≡ x
