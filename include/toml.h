@@ -116,8 +116,8 @@ typedef struct {
 
 toml_part toml_text(const uint8_t *doc, size_t doc_len, size_t start, size_t end);
 
-/* Line (1 plus the LFs before the offset) and column (1 plus the bytes since the last LF, or since byte
- * 0). Refusals 2, 6. */
+/* Line (1 plus the LFs before the offset) and column (1 plus the characters that begin on that line before the
+ * offset: each byte but 80 to BF, and not a byte order mark at byte 0). UTF-8 is not tested. Refusals 2, 6. */
 typedef struct {
     toml_answer answer;
     size_t line;

@@ -179,6 +179,9 @@ def every_call(doc):
 
 PLACES = [b'', b'a', '\u00e9=1'.encode(), BOM + b'a', b'a\nb\r\n\nc', 'a\u20ac\U0001f600'.encode(), b'\x80\xbf', b'"a\\"\n']
 
+# and what only a column can tell: a mark that stands elsewhere, half a mark, an accent behind a mark and behind an LF
+COLUMNS = [BOM + BOM + b'a', BOM[:2] + b'a', b'a' + BOM + b'b', BOM + '\u00e9\n\u00e9x'.encode(), b'\xc3\n\xa9\xa9z', BOM + b'\n']
+
 
 def cursors():
     starts = [call('start', doc) for doc in PLACES + [b'\xef', b'\xef\xbb', b'\xef\xbb\xbe', BOM, BOM + BOM, b'\xff']]
@@ -196,7 +199,7 @@ def spans():
 
 
 def positions():
-    return by_reference(*[call('pos', place, doc) for doc in PLACES for place in [*range(len(doc) + 2), MAX]])
+    return by_reference(*[call('pos', place, doc) for doc in PLACES + COLUMNS for place in [*range(len(doc) + 2), MAX]])
 
 
 def kinds():

@@ -336,7 +336,8 @@ def pos(offset, doc):
     if offset > len(doc):
         return '6 %d 0 0' % len(doc)
     before = doc[:offset]
-    return '0 0 %d %d' % (1 + before.count(b'\n'), 1 + len(before) - (before.rfind(b'\n') + 1))
+    on_line = (before[3:] if doc.startswith(BOM) else before).rpartition(b'\n')[2]
+    return '0 0 %d %d' % (1 + before.count(b'\n'), 1 + sum(not 0x80 <= b <= 0xBF for b in on_line))
 
 
 def desc(kind):

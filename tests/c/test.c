@@ -189,8 +189,13 @@ static void places(void)
     EXPECT(is_part(toml_text(BYTES("\xC3\xA9=1"), 1, 4), 0, 0));
     EXPECT(is_part(toml_text(BYTES("\xC3\xA9=1"), 3, 2), 0, 0));
     FROM("tests/scope.txt, pos");
-    EXPECT(is_position(toml_position(BYTES("\xC3\xA9=1"), 2), 0, 0, 1, 3));
+    EXPECT(is_position(toml_position(BYTES("\xC3\xA9=1"), 2), 0, 0, 1, 2));
     FROM("crates/place/specs/Positions.antt");
+    FROM("the request for columns of characters: offsets 0 to 3 of a document with a byte order mark are all column 1");
+    for (size_t i = 0; i <= 3; i++)
+        EXPECT(is_position(toml_position(BYTES("\xEF\xBB\xBF" "a"), i), 0, 0, 1, 1));
+    EXPECT(is_position(toml_position(BYTES("\xEF\xBB\xBF" "a"), 4), 0, 0, 1, 2));
+    FROM("docs/RULES.md, line and column");
     EXPECT(is_position(toml_position(BYTES("a\nb"), 1), 0, 0, 1, 2));
     EXPECT(is_position(toml_position(BYTES("a\nb"), 3), 0, 0, 2, 2));
     EXPECT(is_position(toml_position(BYTES("a\nb"), 4), 6, 3, 0, 0));

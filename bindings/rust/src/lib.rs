@@ -191,7 +191,7 @@ pub fn text(doc: &[u8], span: Span) -> Result<&[u8], Refusal> {
 pub struct Position {
     /// 1 plus the line feeds before the offset.
     pub line: usize,
-    /// 1 plus the bytes since the last line feed, or since byte 0.
+    /// 1 plus the characters that begin on the line before the offset; a byte order mark at byte 0 is none.
     pub column: usize,
 }
 

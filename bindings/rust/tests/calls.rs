@@ -122,7 +122,8 @@ fn kinds_have_their_numbers_words_and_encodings() {
 #[test]
 fn places_and_texts() {
     let doc = "é=1".as_bytes();
-    assert_eq!(position(doc, 2), Ok(Position { line: 1, column: 3 }));
+    assert_eq!(position(doc, 2), Ok(Position { line: 1, column: 2 }));
+    assert_eq!(position(b"\xEF\xBB\xBFa", 3), Ok(Position { line: 1, column: 1 }));
     assert_eq!(text(doc, Span::new(2, 4)), Ok(&b"=1"[..]));
     assert_eq!(check_span(doc, Span::new(0, 4)), Ok(()));
 }

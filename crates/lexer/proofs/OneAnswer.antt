@@ -11,6 +11,7 @@ use Rattle.lexer.specs.declared.Cursor.{Cursor}
 use Rattle.lexer.specs.declared.Start.{Start}
 use Rattle.lexer.specs.declared.Step.{Step}
 use Rattle.lexer.specs.declared.Lexed.{Lexed}
+use Rattle.lexer.specs.Tokens.{startOf}
 use Rattle.lexer.specs.Steps.{startAnswer, stepOf}
 use Rattle.lexer.specs.Whole.{lexAnswer, lexMemory}
 
@@ -24,3 +25,6 @@ step doc self = only-equal (stepOf doc self)
 pub lex : (doc : List ℕ) (old : List (List ℕ))
     → Only (λ (r : Lexed). r ≡ lexAnswer doc (length old)) × Only (λ (new : List (List ℕ)). new ≡ lexMemory doc old)
 lex doc old = (only-equal (lexAnswer doc (length old)), only-equal (lexMemory doc old))
+
+pub start-of : (doc : List ℕ) → Only (λ (r : ℕ). r ≡ startOf doc)
+start-of doc = only-equal (startOf doc)

@@ -165,8 +165,8 @@ fn lex_until(doc: &[u8], start: usize, stop: usize, records: &mut [[usize; 3]]) 
     n
 }
 
-// Where lexing starts.
-fn start_of(doc: &[u8]) -> usize
+// Where lexing starts: behind a byte order mark.
+pub fn start_of(doc: &[u8]) -> usize
     ensures { λ r. ⌜ r ≡ startOf (now (doc .entry)) ⌝ }
 {
     if has_bom(doc) { Span::BOM } else { 0 }

@@ -1,4 +1,5 @@
 pub mod SpanLaws
 pub mod PositionLaws
+pub mod ColumnLaws
 pub mod NumberLaws
 pub mod OneAnswer

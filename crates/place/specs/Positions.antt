@@ -3,10 +3,12 @@
 use Prim.Native.Nat.{ℕ, suc, _+_}
 use mathlib.Core.Bool.{cond}
 use mathlib.Core.List.{List, [], _∷_}
-use lib.ListN.{length, take}
+use lib.ListN.{length, take, drop}
 use lib.Dec.{ltb, eqb}
+use Rattle.classes.specs.Classes.{continuation}
 use Rattle.text.specs.Refusals.{limit, refusalNumber, refusalValue}
 use Rattle.text.specs.declared.refusal.Refusal.the-variants.{TooLong, OutOfPlace}
+use Rattle.lexer.specs.Tokens.{startOf}
 use Rattle.place.specs.declared.Position.{Position}
 use Rattle.place.specs.declared.Position.the-variants.{At, Refused}
 
@@ -15,18 +17,19 @@ unfoldable pub lineEnds : List ℕ → ℕ
 lineEnds [] = 0
 lineEnds (b ∷ s) = cond (eqb b 10) (suc (lineEnds s)) (lineEnds s)
 
--- the column behind some bytes, from the column c before them: an LF sets it to 1, and any other byte adds one
+-- the column behind some bytes, from the column c before them: an LF sets it to 1, a byte inside a character, 80 to BF,
+-- adds nothing, and any other byte, with which a character begins, adds one
 unfoldable pub columnBehind : ℕ → List ℕ → ℕ
 columnBehind c [] = c
-columnBehind c (b ∷ s) = columnBehind (cond (eqb b 10) 1 (c + 1)) s
+columnBehind c (b ∷ s) = columnBehind (cond (eqb b 10) 1 (cond (continuation b) c (c + 1))) s
 
 -- the line is 1 plus the LFs before the offset
 abbrev pub lineOf : List ℕ → ℕ → ℕ
 lineOf doc offset = 1 + lineEnds (take offset doc)
 
--- the column is 1 plus the bytes since the last LF before it, or since byte 0
+-- the column is 1 plus the characters that begin before it on its line; a byte order mark at byte 0 is not counted
 abbrev pub columnOf : List ℕ → ℕ → ℕ
-columnOf doc offset = columnBehind 1 (take offset doc)
+columnOf doc offset = columnBehind 1 (drop (startOf doc) (take offset doc))
 
 -- the position: refusal 2, then 6 with the document's length for an offset beyond it
 unfoldable pub positionAnswer : List ℕ → ℕ → Position

@@ -65,7 +65,7 @@ pub fn text_of(doc: &[u8], span: Span) -> &[u8]
     &doc[start..end]
 }
 
-// Line and column, both counted from 1.
+// Line and column, both counted from 1; a column counts characters.
 pub enum Position {
     At { line: usize, column: usize },
     Refused(Refusal),
@@ -85,12 +85,14 @@ pub fn position_of(doc: &[u8], offset: usize) -> Position
     }
     let mut line: usize = 1;
     let mut column: usize = 1;
-    let mut i = 0;
+    // A byte order mark has no column, and no LF.
+    let mut i = lexer::start_of(doc);
     while i < offset {
-        if doc[i] == b'\n' {
+        let b = doc[i];
+        if b == b'\n' {
             line += 1;
             column = 1;
-        } else {
+        } else if !classes::is_continuation(b) {
             column += 1;
         }
         i += 1;

@@ -164,7 +164,14 @@ fn main() {
     span(b"\xC3\xA9=1", 0, 1);
     span(b"\xC3\xA9=1", 3, 2);
     span(b"\xC3\xA9=1", 0, 5);
+    position(b"\xC3\xA9=1", 1);
     position(b"\xC3\xA9=1", 2);
+    position(b"\xEF\xBB\xBFa", 0);
+    position(b"\xEF\xBB\xBFa", 2);
+    position(b"\xEF\xBB\xBFa", 3);
+    position(b"\xEF\xBB\xBFa", 4);
+    position(b"\n\xEF\xBB\xBFa", 4);
+    position(b"\xFF\x80\x80a", 3);
     position(b"a\nb", 3);
     position(b"a\nb", 4);
     kind(1);
