@@ -20,16 +20,16 @@ namespace {
 struct Work {
     std::string doc;
     std::vector<uint8_t> out;
-    std::vector<size_t> records, errors; // three numbers each
+    std::vector<size_t> records, errors; // four numbers a token, three an error
     std::vector<toml_token> strings;
     size_t string_bytes = 0;
 
     explicit Work(std::string text)
-        : doc(std::move(text)), out(doc.size() * 3 / 2), records(3 * (doc.size() + 1)), errors(3 * (doc.size() + 2))
+        : doc(std::move(text)), out(doc.size() * 3 / 2), records(4 * (doc.size() + 1)), errors(3 * (doc.size() + 2))
     {
         size_t tokens = lex();
         for (size_t i = 0; i < tokens; i++) {
-            toml_token token = {records[3 * i], records[3 * i + 1], records[3 * i + 2]};
+            toml_token token = {records[4 * i], records[4 * i + 1], records[4 * i + 2], records[4 * i + 3]};
             if (toml_encoding(token.kind).encoding != 0) {
                 strings.push_back(token);
                 string_bytes += token.end - token.start;
@@ -38,19 +38,19 @@ struct Work {
     }
 
     const uint8_t *bytes() const { return reinterpret_cast<const uint8_t *>(doc.data()); }
-    static size_t (*rows(std::vector<size_t> &v))[3] { return reinterpret_cast<size_t(*)[3]>(v.data()); }
+    template <size_t n> static size_t (*rows(std::vector<size_t> &v))[n] { return reinterpret_cast<size_t(*)[n]>(v.data()); }
 
     size_t copy() { return std::memcpy(out.data(), doc.data(), doc.size()) == out.data(); }
     size_t rust_check() { return rust_from_utf8(bytes(), doc.size()); }
     size_t check() { return toml_check_utf8(bytes(), doc.size()).refusal; }
-    size_t lex() { return toml_lex(bytes(), doc.size(), rows(records), records.size() / 3).value; }
+    size_t lex() { return toml_lex(bytes(), doc.size(), rows<4>(records), records.size() / 4).value; }
     size_t parse() { return toml::parse(std::string_view(doc)).size(); }
 
     size_t decode()
     {
         size_t all = 0;
         for (const auto &s : strings) {
-            all += toml_decode(bytes() + s.start, s.end - s.start, s.kind, out.data(), out.size(), rows(errors), errors.size() / 3)
+            all += toml_decode(bytes() + s.start, s.end - s.start, s.kind, out.data(), out.size(), rows<3>(errors), errors.size() / 3)
                        .answer.value;
         }
         return all;

@@ -14,8 +14,9 @@
  *   3        fewer token records than tokens, Eof counted            tokens needed
  *   4        the output is shorter than the decoded bytes            bytes needed
  *   5        fewer error records than errors                         records needed
- *   6        a place beyond the document; for a span also a start    the document's length
- *            after the end, or an end at a byte 80 to BF
+ *   6        a place beyond the document; for a cursor also a line   the document's length
+ *            past its place plus 1; for a span also a start after
+ *            the end, or an end at a byte 80 to BF
  *   7        a number that is no kind of the call's                  that number
  *   9        a number that is no edition of TOML                     that number
  *
@@ -65,22 +66,24 @@ typedef struct {
     size_t length;
 } toml_answer;
 
-/* Where the next token begins, and whether Eof was given: 0 or 1. */
+/* Where the next token begins, whether Eof was given (0 or 1), and the line of that place, from 1 on. */
 typedef struct {
     size_t place;
     size_t ended;
+    size_t line;
 } toml_cursor;
 
 typedef struct {
     size_t kind;
     size_t start;
-    size_t end; /* the place behind it */
+    size_t end;  /* the place behind it */
+    size_t line; /* that of its first byte: 1 plus the LFs before it */
 } toml_token;
 
 /* Whether all of doc is UTF-8. Refusals 2, 1; value 0 where it is. */
 toml_answer toml_check_utf8(const uint8_t *doc, size_t doc_len);
 
-/* The starting cursor: past a byte order mark, not ended. Refusal 2, with place 0 and not ended. */
+/* The starting cursor: past a byte order mark, not ended, on line 1. Refusal 2, with a cursor of zeros. */
 typedef struct {
     toml_answer answer;
     toml_cursor cursor;
@@ -88,7 +91,8 @@ typedef struct {
 
 toml_started toml_start(const uint8_t *doc, size_t doc_len);
 
-/* One token at a cursor, which may be made by hand; ended is 0, or anything else for an ended one.
+/* One token at a cursor, which may be made by hand; ended is 0, or anything else for an ended one. The line is the
+ * token's, right or wrong, and the next cursor's is counted on from it.
  * given is 1 for a token, with the next cursor; 0 at the end, where an ended cursor stands at the document's
  * end, and all behind it is 0 then. A byte order mark is not skipped, and UTF-8 is not tested. Refusals 2, 6. */
 typedef struct {
@@ -98,12 +102,13 @@ typedef struct {
     toml_cursor cursor;
 } toml_stepped;
 
-toml_stepped toml_step(const uint8_t *doc, size_t doc_len, size_t place, size_t ended);
+toml_stepped toml_step(const uint8_t *doc, size_t doc_len, size_t place, size_t ended,
+                       size_t line);
 
-/* All tokens, Eof last, each as kind, start, end, into the lent records from the front; records behind
+/* All tokens, Eof last, each as kind, start, end, line, into the lent records from the front; records behind
  * them keep their contents. value is the tokens. Refusals 2, 1, 3. With more records than the document
  * has bytes nothing is counted first. */
-toml_answer toml_lex(const uint8_t *doc, size_t doc_len, size_t (*records)[3], size_t records_len);
+toml_answer toml_lex(const uint8_t *doc, size_t doc_len, size_t (*records)[4], size_t records_len);
 
 /* Whether start..end lies in the document and neither end is inside a character. Refusals 2, 6. */
 toml_answer toml_check_span(const uint8_t *doc, size_t doc_len, size_t start, size_t end);

@@ -190,6 +190,14 @@ def cursors():
     return by_reference(*starts, *steps)
 
 
+def lines():
+    """Lines: every document of the places, whole and by steps from right and wrong lines, and each LF and CR in each kind."""
+    docs = PLACES + COLUMNS + [b'a\r\nb\rc\n', b'"""\n\r\n\\\n"""\n', b"'''\n\n\r'''x\n", b'"a\n', b"'a\r\n", b'# a\n', BOM + b'\n\n', b'\n' * 5]
+    steps = [call('stepline', place, ended, line, doc) for doc in docs for place in range(len(doc) + 2) for ended in (0, 1)
+             for line in (0, 1, 2, place, place + 1, place + 2, MAX)]
+    return by_reference(*[call('lexline', doc) for doc in docs + [b'\xff', b'']], *steps)
+
+
 def spans():
     out = []
     for doc in PLACES:
@@ -249,7 +257,7 @@ def wrong_lines():
     return by_reference(
         b'', b' ', b'-', b'lexx -', b'Lex -', b'le', b'lex\t-', b'\x00', b'\xff\xfe', b' lex -', b'=> 4 0 0', b'span0 0 -',
         b'\x00lex -', b'lex\x00 -', b'xdeccap 39 0 0 -', b'deccapx 39 0 0 -', b'\x01lexcap 0 -', b'\x01\x6c\x65\x78 -',
-        b'lex', b'lex ', b'lex - ', b'lex  -', b'lex - -', b'lexcap -', b'dec 39', b'dec 39 - -', b'deccap 39 1 -', b'step 0 -',
+        b'lex', b'lex ', b'lex - ', b'lex  -', b'lex - -', b'lexcap -', b'dec 39', b'dec 39 - -', b'deccap 39 1 -', b'step 0 -', b'stepline 0 0 -', b'stepline 0 0 1', b'stepline 0 2 1 -', b'lexline', b'lexlines -',
         b'span 0 -', b'text 0 0', b'decin 11 -', b'decin 34 11', b'decinx 10 39 -', b'pos -', b'desc', b'desc 1 -', b'utf8 0 -', b'start 0 -',
         b'dec x -', b'dec  -', b'dec -1 -', b'dec +1 -', b'dec 0x1 -', b'dec 3\r -', b'dec 3. -', b'pos 18446744073709551616 -',
         b'pos 99999999999999999999 -', b'pos 100000000000000000000000000000000000000000 -', b'desc -', b'desc 1_0',
@@ -262,7 +270,7 @@ def wrong_lines():
         over, over + b'0', b'lex 6', b'lex ' + over, b'desc 4')
 
 
-SECTIONS = [scope, valid_cases, left_out_cases, later_cases, invalid_utf8, invalid_strings, vectors, lent_records, lent_output, sizes, cursors, spans,
+SECTIONS = [scope, valid_cases, left_out_cases, later_cases, invalid_utf8, invalid_strings, vectors, lent_records, lent_output, sizes, cursors, lines, spans,
             positions, kinds, editions, faults, every_byte, short_texts, wrong_lines]
 
 

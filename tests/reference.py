@@ -261,6 +261,15 @@ def lex(doc):
     return refused(refusal, doc) if refusal else records(tokens(doc))
 
 
+def line_of(doc, place):
+    return 1 + doc[:place].count(b'\n')
+
+
+def lexline(doc):
+    refusal = check(doc)
+    return refused(refusal, doc) if refusal else records((*t, line_of(doc, t[1])) for t in tokens(doc))
+
+
 def lexcap(cap, doc):
     refusal = check(doc)
     if not refusal:
@@ -304,15 +313,22 @@ def start(doc):
     return '0 0 %d 0' % (3 if doc.startswith(BOM) else 0)
 
 
-def step(place, ended, doc):
+def stepline(place, ended, line, doc):
     if len(doc) > LIMIT:
         return '2 %d | - | -' % LIMIT
-    if place > len(doc):
+    if place > len(doc) or line > place + 1:
         return '6 %d | - | -' % len(doc)
     if place == len(doc):
-        return '0 0 | end | -' if ended else '0 0 | 4 %d %d | %d 1' % (place, place, place)
+        return '0 0 | end | -' if ended else '0 0 | 4 %d %d %d | %d 1 %d' % (place, place, line, place, line)
     kind, end = token(doc, place)
-    return '0 0 | %d %d %d | %d %d' % (kind, place, end, end, ended)
+    return '0 0 | %d %d %d %d | %d %d %d' % (kind, place, end, line, end, ended, line + doc[place:end].count(b'\n'))
+
+
+def step(place, ended, doc):
+    """Without lines, from the line that the place has."""
+    parts = stepline(place, ended, line_of(doc, place) if place <= len(doc) else 1, doc).split(' | ')
+    without = [part if part in ('end', '-') or i == 0 else part.rpartition(' ')[0] for i, part in enumerate(parts)]
+    return ' | '.join(without)
 
 
 def span_refusal(first, last, doc):
@@ -357,9 +373,9 @@ def fault(doc):
 
 
 # The name, and what stands behind it: n a number, b a flag, r records lent, o output lent, x bytes in hex.
-CALLS = {b'lex': (lex, 'x'), b'lexcap': (lexcap, 'rx'), b'dec': (dec, 'nx'), b'deccap': (deccap, 'norx'),
+CALLS = {b'lex': (lex, 'x'), b'lexline': (lexline, 'x'), b'lexcap': (lexcap, 'rx'), b'dec': (dec, 'nx'), b'deccap': (deccap, 'norx'),
          b'decin': (decin, 'nnx'), b'utf8': (utf8, 'x'), b'fault': (fault, 'x'),
-         b'start': (start, 'x'), b'step': (step, 'nbx'), b'span': (span, 'nnx'), b'text': (text, 'nnx'), b'pos': (pos, 'nx'),
+         b'start': (start, 'x'), b'step': (step, 'nbx'), b'stepline': (stepline, 'nbnx'), b'span': (span, 'nnx'), b'text': (text, 'nnx'), b'pos': (pos, 'nx'),
          b'desc': (desc, 'n')}
 
 # What the program has: for a line, a document, output and records.

@@ -27,8 +27,9 @@ static void expect(int ok, const char *what, int line)
 /* A string literal as bytes and their number. */
 #define BYTES(text) (const uint8_t *)(text), sizeof(text) - 1
 
-/* A record of three numbers. */
+/* An error's record: three numbers. A token's: its line too. */
 #define R(a, b, c) {a, b, c}
+#define T(a, b, c, line) {a, b, c, line}
 
 static int answers(toml_answer a, size_t refusal, size_t value)
 {

@@ -9,9 +9,9 @@
 
 /* Lexed with records to spare: the tokens, and the record behind them kept. With as many as there are
  * tokens: the same. With one fewer, and with none: refusal 3, and nothing written. */
-static int lexes(const uint8_t *doc, size_t len, const size_t (*tokens)[3], size_t count)
+static int lexes(const uint8_t *doc, size_t len, const size_t (*tokens)[4], size_t count)
 {
-    size_t records[16][3], old[16][3];
+    size_t records[16][4], old[16][4];
     memset(old, 0xA5, sizeof old);
     for (size_t room = count; room <= count + 1; room++) {
         memcpy(records, old, sizeof old);
@@ -27,23 +27,23 @@ static int lexes(const uint8_t *doc, size_t len, const size_t (*tokens)[3], size
 
 #define LEXES(text, ...)                                                             \
     do {                                                                             \
-        static const size_t tokens[][3] = {__VA_ARGS__};                             \
+        static const size_t tokens[][4] = {__VA_ARGS__};                             \
         EXPECT(lexes(BYTES(text), tokens, sizeof tokens / sizeof *tokens) && #text); \
     } while (0)
 
 static void lexing(void)
 {
-    FROM("tests/scope.txt, lex");
-    LEXES("", R(4, 0, 0));
-    LEXES("\xEF\xBB\xBF", R(4, 3, 3));
-    LEXES("'''a'''''", R(1, 0, 9), R(4, 9, 9));
-    LEXES("'''a''''''", R(1, 0, 9), R(39, 9, 10), R(4, 10, 10));
-    LEXES("'a\r\n", R(39, 0, 3), R(10, 3, 4), R(4, 4, 4));
-    LEXES("#x\ry", R(35, 0, 2), R(10, 2, 3), R(3, 3, 4), R(4, 4, 4));
-    LEXES("a\"b c", R(3, 0, 3), R(32, 3, 4), R(3, 4, 5), R(4, 5, 5));
-    LEXES("a = \"b\"\n", R(3, 0, 1), R(32, 1, 2), R(61, 2, 3), R(32, 3, 4), R(34, 4, 7), R(10, 7, 8), R(4, 8, 8));
+    FROM("tests/scope.txt, lex; the line: docs/RULES.md, 1 plus the LFs before the first byte");
+    LEXES("", T(4, 0, 0, 1));
+    LEXES("\xEF\xBB\xBF", T(4, 3, 3, 1));
+    LEXES("'''a'''''", T(1, 0, 9, 1), T(4, 9, 9, 1));
+    LEXES("'''a''''''", T(1, 0, 9, 1), T(39, 9, 10, 1), T(4, 10, 10, 1));
+    LEXES("'a\r\n", T(39, 0, 3, 1), T(10, 3, 4, 1), T(4, 4, 4, 2));
+    LEXES("#x\ry", T(35, 0, 2, 1), T(10, 2, 3, 1), T(3, 3, 4, 1), T(4, 4, 4, 1));
+    LEXES("a\"b c", T(3, 0, 3, 1), T(32, 3, 4, 1), T(3, 4, 5, 1), T(4, 5, 5, 1));
+    LEXES("a = \"b\"\n", T(3, 0, 1, 1), T(32, 1, 2, 1), T(61, 2, 3, 1), T(32, 3, 4, 1), T(34, 4, 7, 1), T(10, 7, 8, 1), T(4, 8, 8, 2));
     FROM("docs/RULES.md, the refusals: 1 before 3, with the longest valid prefix");
-    size_t one[1][3] = {R(7, 8, 9)};
+    size_t one[1][4] = {T(7, 8, 9, 1)};
     EXPECT(answers(toml_lex(BYTES("a\xFF"), one, 0), 1, 1));
     EXPECT(is_record(one[0], 7, 8, 9));
     EXPECT(answers(toml_check_utf8(BYTES("")), 0, 0));
@@ -69,19 +69,23 @@ static void stepping(void)
 {
     FROM("tests/scope.txt, start and step");
     toml_started start = toml_start(BYTES("\xEF\xBB\xBF"));
-    EXPECT(answers(start.answer, 0, 0) && start.cursor.place == 3 && start.cursor.ended == 0);
+    EXPECT(answers(start.answer, 0, 0) && start.cursor.place == 3 && start.cursor.ended == 0 && start.cursor.line == 1);
     start = toml_start(BYTES(""));
     EXPECT(answers(start.answer, 0, 0) && start.cursor.place == 0 && start.cursor.ended == 0);
-    EXPECT(steps(toml_step(BYTES("\xEF\xBB\xBF"), 0, 0), (toml_token)R(3, 0, 3), (toml_cursor){3, 0}));
-    EXPECT(steps(toml_step(BYTES(""), 0, 0), (toml_token)R(4, 0, 0), (toml_cursor){0, 1}));
-    EXPECT(steps_nowhere(toml_step(BYTES(""), 0, 1), 0, 0));
+    EXPECT(steps(toml_step(BYTES("\xEF\xBB\xBF"), 0, 0, 1), (toml_token)T(3, 0, 3, 1), (toml_cursor){3, 0, 1}));
+    EXPECT(steps(toml_step(BYTES(""), 0, 0, 1), (toml_token)T(4, 0, 0, 1), (toml_cursor){0, 1, 1}));
+    EXPECT(steps_nowhere(toml_step(BYTES(""), 0, 1, 1), 0, 0));
     FROM("crates/lexer/specs/Steps.antt: before the end the flag is carried along");
-    EXPECT(steps(toml_step(BYTES("a"), 0, 1), (toml_token)R(3, 0, 1), (toml_cursor){1, 1}));
+    EXPECT(steps(toml_step(BYTES("a"), 0, 1, 1), (toml_token)T(3, 0, 1, 1), (toml_cursor){1, 1, 1}));
     FROM("crates/toml/specs/Numbers.antt: anything but 0 says that the cursor is ended");
-    EXPECT(steps_nowhere(toml_step(BYTES("a"), 1, SIZE_MAX), 0, 0));
+    EXPECT(steps_nowhere(toml_step(BYTES("a"), 1, SIZE_MAX, 1), 0, 0));
     FROM("docs/RULES.md, the refusals: 6 with the document's length");
-    EXPECT(steps_nowhere(toml_step(BYTES("a"), 2, 0), 6, 1));
-    EXPECT(steps_nowhere(toml_step(BYTES("a"), SIZE_MAX, 1), 6, 1));
+    EXPECT(steps_nowhere(toml_step(BYTES("a"), 2, 0, 1), 6, 1));
+    EXPECT(steps_nowhere(toml_step(BYTES("a"), SIZE_MAX, 1, 1), 6, 1));
+    FROM("the request for lines: a wrong line is counted on from; 6 for a line past the place plus 1");
+    EXPECT(steps(toml_step(BYTES("a\n\nb"), 2, 0, 3), (toml_token)T(10, 2, 3, 3), (toml_cursor){3, 0, 4}));
+    EXPECT(steps(toml_step(BYTES("a\n\nb"), 3, 0, 0), (toml_token)T(3, 3, 4, 0), (toml_cursor){4, 0, 0}));
+    EXPECT(steps_nowhere(toml_step(BYTES("a\n\nb"), 2, 0, 4), 6, 4));
 }
 
 /* ---- decoding */
@@ -250,6 +254,7 @@ static void kinds(void)
 struct memory {
     uint8_t *doc, *out;
     size_t (*records)[3];
+    size_t (*tokens)[4];
 };
 
 /* Accepted by every call. Each byte is a token or an error of its own, so the lent records are as many as
@@ -260,22 +265,22 @@ static void at_the_limit(struct memory m, size_t len)
     FROM("docs/RULES.md, the refusals: 16,777,216 bytes are not too many");
     EXPECT(answers(toml_check_utf8(m.doc, len), 0, 0));
     EXPECT(answers(toml_start(m.doc, len).answer, 0, 0));
-    EXPECT(steps(toml_step(m.doc, len, len - 1, 0), (toml_token)R(46, len - 1, len), (toml_cursor){len, 0}));
+    EXPECT(steps(toml_step(m.doc, len, len - 1, 0, 1), (toml_token)T(46, len - 1, len, 1), (toml_cursor){len, 0, 1}));
     EXPECT(answers(toml_check_span(m.doc, len, 0, len), 0, 0));
     EXPECT(is_part(toml_text(m.doc, len, 1, len), 1, len - 1));
     EXPECT(is_position(toml_position(m.doc, len, len), 0, 0, 1, len + 1));
     FROM("crates/lexer/specs/Table.antt: a token for each dot, and Eof");
-    EXPECT(answers(toml_lex(m.doc, len, m.records, len + 1), 0, len + 1));
+    EXPECT(answers(toml_lex(m.doc, len, m.tokens, len + 1), 0, len + 1));
     EXPECT(is_record(m.records[0], 46, 0, 1) && is_record(m.records[len], 4, len, len));
-    EXPECT(answers(toml_lex(m.doc, len, m.records, len), 3, len + 1));
-    EXPECT(answers(toml_lex(m.doc, len, m.records, 0), 3, len + 1));
+    EXPECT(answers(toml_lex(m.doc, len, m.tokens, len), 3, len + 1));
+    EXPECT(answers(toml_lex(m.doc, len, m.tokens, 0), 3, len + 1));
     FROM("crates/strings/specs/Bodies.antt: error 15 at each byte of a key of dots");
     toml_decoded d = toml_decode(m.doc, len, 3, m.out, len, m.records, len);
     EXPECT(answers(d.answer, 0, len) && d.errors == len && is_record(m.records[len - 1], 15, len - 1, len - 1));
     EXPECT(answers(toml_decode(m.doc, len, 3, m.out, len, m.records, len - 1).answer, 5, len));
     FROM("crates/strings/specs/Marks.antt: one string without its two marks");
     m.doc[0] = m.doc[len - 1] = '"';
-    EXPECT(answers(toml_lex(m.doc, len, m.records, 2), 0, 2) && is_record(m.records[0], 34, 0, len));
+    EXPECT(answers(toml_lex(m.doc, len, m.tokens, 2), 0, 2) && is_record(m.records[0], 34, 0, len));
     d = toml_decode(m.doc, len, 34, m.out, len + len / 2, m.records, len + 2);
     EXPECT(answers(d.answer, 0, len - 2) && d.errors == 0 && m.out[0] == '.' && m.out[len - 3] == '.');
     EXPECT(answers(toml_decode(m.doc, len, 34, m.out, len - 2, m.records, 0).answer, 0, len - 2));
@@ -283,7 +288,7 @@ static void at_the_limit(struct memory m, size_t len)
     FROM("docs/RULES.md, the refusals: 1 at the last byte");
     m.doc[len - 1] = 0xC3;
     EXPECT(answers(toml_check_utf8(m.doc, len), 1, len - 1));
-    EXPECT(answers(toml_lex(m.doc, len, m.records, 0), 1, len - 1));
+    EXPECT(answers(toml_lex(m.doc, len, m.tokens, 0), 1, len - 1));
     EXPECT(answers(toml_decode(m.doc, len, 5, m.out, 0, m.records, 0).answer, 1, len - 1));
 }
 
@@ -295,11 +300,11 @@ static void past_the_limit(struct memory m, size_t len)
     m.out[0] = 0xA5;
     m.records[0][0] = 7;
     EXPECT(answers(toml_check_utf8(m.doc, len), 2, TOML_LIMIT));
-    EXPECT(answers(toml_lex(m.doc, len, m.records, 0), 2, TOML_LIMIT));
-    EXPECT(answers(toml_lex(m.doc, len, m.records, len + 1), 2, TOML_LIMIT));
+    EXPECT(answers(toml_lex(m.doc, len, m.tokens, 0), 2, TOML_LIMIT));
+    EXPECT(answers(toml_lex(m.doc, len, m.tokens, len + 1), 2, TOML_LIMIT));
     toml_started start = toml_start(m.doc, len);
-    EXPECT(answers(start.answer, 2, TOML_LIMIT) && start.cursor.place == 0 && start.cursor.ended == 0);
-    EXPECT(steps_nowhere(toml_step(m.doc, len, SIZE_MAX, 1), 2, TOML_LIMIT));
+    EXPECT(answers(start.answer, 2, TOML_LIMIT) && start.cursor.place == 0 && start.cursor.ended == 0 && start.cursor.line == 0);
+    EXPECT(steps_nowhere(toml_step(m.doc, len, SIZE_MAX, 1, SIZE_MAX), 2, TOML_LIMIT));
     EXPECT(answers(toml_check_span(m.doc, len, 5, 4), 2, TOML_LIMIT));
     EXPECT(is_part(toml_text(m.doc, len, 1, 2), 0, 0));
     EXPECT(is_position(toml_position(m.doc, len, SIZE_MAX), 2, TOML_LIMIT, 0, 0));
@@ -325,11 +330,12 @@ static void faults(void)
     FROM("core::str::Utf8Error: error_len is none, here 0, at an unexpected end, and else 1 to 3");
     EXPECT(broken(toml_check_utf8(BYTES("a\xE2\x82")), 1, 0));
     EXPECT(broken(toml_check_utf8(BYTES("a\xE2\x82" "b")), 1, 2));
-    EXPECT(broken(toml_lex(BYTES("\xF0\x90\x80" "b"), records, 4), 0, 3));
+    size_t tokens[1][4];
+    EXPECT(broken(toml_lex(BYTES("\xF0\x90\x80" "b"), tokens, 1), 0, 3));
     EXPECT(broken(toml_decode(BYTES("\xED\xA0\x80"), 34, out, 16, records, 4).answer, 0, 1));
     EXPECT(broken(toml_decode_in(BYTES("\xFF"), 12, 5, out, 16, records, 4).answer, 0, 1));
     FROM("docs/RULES.md, the refusals: only 1 has a second number");
-    EXPECT(toml_check_utf8(BYTES("a")).length == 0 && toml_lex(BYTES("a"), records, 0).length == 0);
+    EXPECT(toml_check_utf8(BYTES("a")).length == 0 && toml_lex(BYTES("a"), tokens, 0).length == 0);
 }
 
 /* The editions: 10 is toml_decode's own, 11 adds two escapes, and another number is refused behind a kind's. */
@@ -359,8 +365,9 @@ static void long_documents(void)
 {
     size_t len = 16777216;
     EXPECT(TOML_LIMIT == len);
-    struct memory m = {malloc(len + 1), malloc(len + len / 2), malloc((len + 2) * sizeof(size_t[3]))};
-    if (!m.doc || !m.out || !m.records) {
+    struct memory m = {malloc(len + 1), malloc(len + len / 2), malloc((len + 2) * sizeof(size_t[3])),
+                       malloc((len + 2) * sizeof(size_t[4]))};
+    if (!m.doc || !m.out || !m.records || !m.tokens) {
         printf("FAILED: no memory for the long documents\n");
         failed++;
         return;
@@ -370,6 +377,7 @@ static void long_documents(void)
     free(m.doc);
     free(m.out);
     free(m.records);
+    free(m.tokens);
 }
 
 int main(void)

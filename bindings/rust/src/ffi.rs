@@ -16,6 +16,7 @@ pub(crate) struct Answer {
 pub(crate) struct Cursor {
     pub place: usize,
     pub ended: usize,
+    pub line: usize,
 }
 
 #[repr(C)]
@@ -29,6 +30,7 @@ pub(crate) struct Token {
     pub kind: usize,
     pub start: usize,
     pub end: usize,
+    pub line: usize,
 }
 
 #[repr(C)]
@@ -77,8 +79,8 @@ mod archive {
     extern "C" {
         pub fn toml_check_utf8(doc: *const u8, len: usize) -> Answer;
         pub fn toml_start(doc: *const u8, len: usize) -> Started;
-        pub fn toml_step(doc: *const u8, len: usize, place: usize, ended: usize) -> Stepped;
-        pub fn toml_lex(doc: *const u8, len: usize, records: *mut [usize; 3], records_len: usize) -> Answer;
+        pub fn toml_step(doc: *const u8, len: usize, place: usize, ended: usize, line: usize) -> Stepped;
+        pub fn toml_lex(doc: *const u8, len: usize, records: *mut [usize; 4], records_len: usize) -> Answer;
         pub fn toml_check_span(doc: *const u8, len: usize, start: usize, end: usize) -> Answer;
         pub fn toml_text(doc: *const u8, len: usize, start: usize, end: usize) -> Part;
         pub fn toml_position(doc: *const u8, len: usize, offset: usize) -> Positioned;
@@ -105,11 +107,11 @@ pub(crate) fn start(doc: &[u8]) -> Started {
     unsafe { archive::toml_start(doc.as_ptr(), doc.len()) }
 }
 
-pub(crate) fn step(doc: &[u8], place: usize, ended: bool) -> Stepped {
-    unsafe { archive::toml_step(doc.as_ptr(), doc.len(), place, ended.into()) }
+pub(crate) fn step(doc: &[u8], place: usize, ended: bool, line: usize) -> Stepped {
+    unsafe { archive::toml_step(doc.as_ptr(), doc.len(), place, ended.into(), line) }
 }
 
-pub(crate) fn lex(doc: &[u8], records: &mut [[usize; 3]]) -> Answer {
+pub(crate) fn lex(doc: &[u8], records: &mut [[usize; 4]]) -> Answer {
     unsafe { archive::toml_lex(doc.as_ptr(), doc.len(), records.as_mut_ptr(), records.len()) }
 }
 

@@ -119,14 +119,14 @@ pub fn check_utf8(doc: &[u8]) -> Result<(), Refusal> {
 /// All tokens of a document, `Eof` last.
 pub fn lex(doc: &[u8]) -> Result<Vec<Token>, Refusal> {
     // No document has more tokens than bytes and one, and with so many records nothing is counted first.
-    let mut records = vec![[0usize; 3]; doc.len().min(LIMIT) + 1];
+    let mut records = vec![[0usize; 4]; doc.len().min(LIMIT) + 1];
     let count = lex_into(doc, &mut records)?;
     records[..count].iter().map(|record| Token::from_record(*record)).collect()
 }
 
-/// The tokens of a document as records of kind number, start and end, in lent memory from its front.
+/// The tokens of a document as records of kind number, start, end and line, in lent memory from its front.
 /// Answers how many; records behind them keep their contents.
-pub fn lex_into(doc: &[u8], records: &mut [[usize; 3]]) -> Result<usize, Refusal> {
+pub fn lex_into(doc: &[u8], records: &mut [[usize; 4]]) -> Result<usize, Refusal> {
     Refusal::read(ffi::lex(doc, records))
 }
 
@@ -136,6 +136,7 @@ pub struct Lexer<'i> {
     doc: &'i [u8],
     place: usize,
     ended: bool,
+    line: usize,
 }
 
 impl<'i> Lexer<'i> {
@@ -143,12 +144,13 @@ impl<'i> Lexer<'i> {
     pub fn new(doc: &'i [u8]) -> Result<Self, Refusal> {
         let start = ffi::start(doc);
         Refusal::read(start.answer)?;
-        Ok(Self { doc, place: start.cursor.place, ended: start.cursor.ended != 0 })
+        Ok(Self { doc, place: start.cursor.place, ended: start.cursor.ended != 0, line: start.cursor.line })
     }
 
-    /// At any place of a document; a place beyond it is refused when a token is asked for.
-    pub fn at(doc: &'i [u8], place: usize, ended: bool) -> Self {
-        Self { doc, place, ended }
+    /// At any place of a document, on any line; lines are counted on from it. A place beyond the document, and a line past the
+    /// place plus 1, are refused when a token is asked for.
+    pub fn at(doc: &'i [u8], place: usize, ended: bool, line: usize) -> Self {
+        Self { doc, place, ended, line }
     }
 
     /// Where the next token begins.
@@ -161,7 +163,7 @@ impl Iterator for Lexer<'_> {
     type Item = Result<Token, Refusal>;
 
     fn next(&mut self) -> Option<Self::Item> {
-        let step = ffi::step(self.doc, self.place, self.ended);
+        let step = ffi::step(self.doc, self.place, self.ended, self.line);
         if let Err(refusal) = Refusal::read(step.answer) {
             return Some(Err(refusal));
         }
@@ -170,7 +172,8 @@ impl Iterator for Lexer<'_> {
         }
         self.place = step.cursor.place;
         self.ended = step.cursor.ended != 0;
-        Some(Token::from_record([step.token.kind, step.token.start, step.token.end]))
+        self.line = step.cursor.line;
+        Some(Token::from_record([step.token.kind, step.token.start, step.token.end, step.token.line]))
     }
 }
 

@@ -2,17 +2,18 @@
 
 use crate::{decode_in, ffi, text, Decoded, Refusal};
 
-/// A token: its kind and its span. Its text is not judged.
+/// A token: its kind, its span and the line of its first byte. Its text is not judged.
 #[derive(Copy, Clone, PartialEq, Eq, Hash, Debug)]
 pub struct Token {
     kind: TokenKind,
     span: Span,
+    line: usize,
 }
 
 impl Token {
-    pub(crate) fn from_record(record: [usize; 3]) -> Result<Self, Refusal> {
-        let [kind, start, end] = record;
-        Ok(Self { kind: TokenKind::from_number(kind)?, span: Span::new(start, end) })
+    pub(crate) fn from_record(record: [usize; 4]) -> Result<Self, Refusal> {
+        let [kind, start, end, line] = record;
+        Ok(Self { kind: TokenKind::from_number(kind)?, span: Span::new(start, end), line })
     }
 
     /// What kind of token it is.
@@ -23,6 +24,11 @@ impl Token {
     /// Where it stands in its document.
     pub fn span(&self) -> Span {
         self.span
+    }
+
+    /// The line of its first byte: 1 plus the line feeds before it.
+    pub fn line(&self) -> usize {
+        self.line
     }
 
     /// Its text in its document.

@@ -27,9 +27,9 @@ fn steps_give_the_tokens_of_whole_lexing() {
 
 #[test]
 fn a_cursor_made_by_hand_answers() {
-    let mut lexer = Lexer::at(b"a", 2, false);
+    let mut lexer = Lexer::at(b"a", 2, false, 1);
     assert_eq!(lexer.next(), Some(Err(Refusal::OutOfPlace { length: 1 })));
-    assert_eq!(Lexer::at(b"a", 1, true).next(), None);
+    assert_eq!(Lexer::at(b"a", 1, true, 1).next(), None);
 }
 
 #[test]
@@ -37,7 +37,7 @@ fn refusals() {
     let broken = |valid, len| Err(Refusal::NotUtf8 { valid, error_len: core::num::NonZeroUsize::new(len) });
     assert_eq!(check_utf8(b"a\xFF"), broken(1, 1));
     assert_eq!(lex(b"\xFF").map(|_| ()), broken(0, 1));
-    assert_eq!(lex_into(b"a.b", &mut [[0; 3]; 2]), Err(Refusal::FewTokens { needed: 4 }));
+    assert_eq!(lex_into(b"a.b", &mut [[0; 4]; 2]), Err(Refusal::FewTokens { needed: 4 }));
     assert_eq!(lex(&vec![b'.'; LIMIT + 1]), Err(Refusal::TooLong));
     assert_eq!(text("é=1".as_bytes(), Span::new(1, 2)), Err(Refusal::OutOfPlace { length: 4 }));
     assert_eq!(position(b"a", 2), Err(Refusal::OutOfPlace { length: 1 }));
@@ -154,4 +154,16 @@ fn broken_characters_as_rust_tells_them() {
         assert_eq!(check_utf8(text), Err(Refusal::NotUtf8 { valid, error_len }));
         assert_eq!(decode(text, Encoding::UnquotedKey), Err(Refusal::NotUtf8 { valid, error_len }));
     }
+}
+
+/// The line of a token is the line of its first byte, as `position` tells it.
+#[test]
+fn tokens_bear_their_lines() {
+    let doc = b"a\r\n'''\n\n'''\rb\n";
+    for token in lex(doc).expect("lexed") {
+        assert_eq!(Ok(token.line()), position(doc, token.span().start()).map(|p| p.line));
+    }
+    let steps: Result<Vec<Token>, Refusal> = Lexer::at(doc, 1, false, 2).collect();
+    assert_eq!(steps.expect("stepped").last().map(Token::line), Some(6));
+    assert_eq!(Lexer::at(doc, 1, false, 3).next(), Some(Err(Refusal::OutOfPlace { length: doc.len() })));
 }

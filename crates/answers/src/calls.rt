@@ -3,6 +3,7 @@
 ghost use Prim.Native.Nat.{_≤_};
 use asking::Call;
 use lexer::Cursor;
+use place::Position;
 use spelling::Answer;
 use token::Span;
 use token::TokenKind;
@@ -12,14 +13,16 @@ pub(crate) fn make(
     numbers: [usize; 3],
     doc: &[u8],
     bytes: &mut [u8],
-    records: &mut [[usize; 3]],
+    errors: &mut [[usize; 3]],
+    tokens: &mut [[usize; 4]],
 ) -> Answer {
     match call {
-        Call::Lex => lex(doc, records),
-        Call::LexCap => lexcap(numbers, doc, records),
-        Call::Dec => dec(numbers, doc, bytes, records),
-        Call::DecCap => deccap(numbers, doc, bytes, records),
-        Call::DecIn => decin(numbers, doc, bytes, records),
+        Call::Lex => lex(doc, tokens),
+        Call::LexLine => lexline(doc, tokens),
+        Call::LexCap => lexcap(numbers, doc, tokens),
+        Call::Dec => dec(numbers, doc, bytes, errors),
+        Call::DecCap => deccap(numbers, doc, bytes, errors),
+        Call::DecIn => decin(numbers, doc, bytes, errors),
         Call::Text => text_of_span(numbers, doc, bytes),
         Call::Desc => desc(numbers, bytes),
         _ => make_plain(call, numbers, doc),
@@ -33,18 +36,23 @@ fn make_plain(call: Call, numbers: [usize; 3], doc: &[u8]) -> Answer {
         Call::Fault => fault(doc),
         Call::Start => start(doc),
         Call::Step => step(numbers, doc),
+        Call::StepLine => stepline(numbers, doc),
         Call::Span => span(numbers, doc),
         _ => pos(numbers, doc),
     }
 }
 
-fn lex(doc: &[u8], records: &mut [[usize; 3]]) -> Answer {
-    forms::tokens(lexer::lex(doc, records))
+fn lex(doc: &[u8], tokens: &mut [[usize; 4]]) -> Answer {
+    forms::tokens(lexer::lex(doc, tokens))
 }
 
-fn lexcap(numbers: [usize; 3], doc: &[u8], records: &mut [[usize; 3]]) -> Answer {
-    let lent = least(numbers[0], records.len());
-    forms::token_count(lexer::lex(doc, &mut records[..lent]))
+fn lexline(doc: &[u8], tokens: &mut [[usize; 4]]) -> Answer {
+    forms::token_lines(lexer::lex(doc, tokens))
+}
+
+fn lexcap(numbers: [usize; 3], doc: &[u8], tokens: &mut [[usize; 4]]) -> Answer {
+    let lent = least(numbers[0], tokens.len());
+    forms::token_count(lexer::lex(doc, &mut tokens[..lent]))
 }
 
 // What is asked for, as far as it is there.
@@ -54,21 +62,21 @@ fn least(asked: usize, there: usize) -> usize
     if asked < there { asked } else { there }
 }
 
-fn dec(numbers: [usize; 3], doc: &[u8], bytes: &mut [u8], records: &mut [[usize; 3]]) -> Answer {
-    forms::decoded(decoder::decode(doc, numbers[0], bytes, records))
+fn dec(numbers: [usize; 3], doc: &[u8], bytes: &mut [u8], errors: &mut [[usize; 3]]) -> Answer {
+    forms::decoded(decoder::decode(doc, numbers[0], bytes, errors))
 }
 
 // The numbers are the edition's and the kind's.
-fn decin(numbers: [usize; 3], doc: &[u8], bytes: &mut [u8], records: &mut [[usize; 3]]) -> Answer {
-    let decoded = decoder::decode_in(doc, numbers[0], numbers[1], bytes, records);
+fn decin(numbers: [usize; 3], doc: &[u8], bytes: &mut [u8], errors: &mut [[usize; 3]]) -> Answer {
+    let decoded = decoder::decode_in(doc, numbers[0], numbers[1], bytes, errors);
     forms::decoded(decoded)
 }
 
 // The numbers are the kind, the bytes of output and the records lent.
-fn deccap(numbers: [usize; 3], doc: &[u8], bytes: &mut [u8], records: &mut [[usize; 3]]) -> Answer {
+fn deccap(numbers: [usize; 3], doc: &[u8], bytes: &mut [u8], errors: &mut [[usize; 3]]) -> Answer {
     let output = least(numbers[1], bytes.len());
-    let lent = least(numbers[2], records.len());
-    let decoded = decoder::decode(doc, numbers[0], &mut bytes[..output], &mut records[..lent]);
+    let lent = least(numbers[2], errors.len());
+    let decoded = decoder::decode(doc, numbers[0], &mut bytes[..output], &mut errors[..lent]);
     forms::decoded_count(decoded)
 }
 
@@ -85,11 +93,30 @@ fn start(doc: &[u8]) -> Answer {
 }
 
 fn step(numbers: [usize; 3], doc: &[u8]) -> Answer {
-    let cursor = Cursor {
-        place: numbers[0],
-        ended: numbers[1] == 1,
-    };
+    let place = numbers[0];
+    let cursor = cursor_of(place, numbers[1], line_at(doc, place));
     forms::stepped(cursor.step(doc))
+}
+
+fn stepline(numbers: [usize; 3], doc: &[u8]) -> Answer {
+    let cursor = cursor_of(numbers[0], numbers[1], numbers[2]);
+    forms::stepped_line(cursor.step(doc))
+}
+
+fn cursor_of(place: usize, ended: usize, line: usize) -> Cursor {
+    Cursor {
+        place,
+        line,
+        ended: ended == 1,
+    }
+}
+
+// The line of a place; 1 where it has none.
+fn line_at(doc: &[u8], place: usize) -> usize {
+    match place::position_of(doc, place) {
+        Position::At { line, column: _ } => line,
+        Position::Refused(_) => 1,
+    }
 }
 
 fn span(numbers: [usize; 3], doc: &[u8]) -> Answer {

@@ -18,13 +18,20 @@ fn main() {
     // a document of 65,536 bytes in hex, and the words before it
     let mut line = [0u8; 131200];
     let mut bytes = [0u8; OUTPUT];
-    let mut records = [[0usize; 3]; RECORDS];
-    answer_all(&mut input, &mut line, &mut bytes, &mut records);
+    let mut errors = [[0usize; 3]; RECORDS];
+    let mut tokens = [[0usize; 4]; RECORDS];
+    answer_all(&mut input, &mut line, &mut bytes, &mut errors, &mut tokens);
 }
 
 // A proved loop has to end, and nothing says that the input does: so it counts down from a number
 // that no run uses up.
-fn answer_all(input: &mut [u8], line: &mut [u8], bytes: &mut [u8], records: &mut [[usize; 3]]) {
+fn answer_all(
+    input: &mut [u8],
+    line: &mut [u8],
+    bytes: &mut [u8],
+    errors: &mut [[usize; 3]],
+    tokens: &mut [[usize; 4]],
+) {
     let mut reading = Reading {
         at: 0,
         end: 0,
@@ -36,19 +43,31 @@ fn answer_all(input: &mut [u8], line: &mut [u8], bytes: &mut [u8], records: &mut
     while turns > 0 && reading.more {
         let request = asking::next_request(reading, input, line);
         reading = request.reading;
-        answer(request, line, bytes, records);
+        answer(request, line, bytes, errors, tokens);
         turns -= 1;
     }
 }
 
-fn answer(request: Request, line: &[u8], bytes: &mut [u8], records: &mut [[usize; 3]])
+fn answer(
+    request: Request,
+    line: &[u8],
+    bytes: &mut [u8],
+    errors: &mut [[usize; 3]],
+    tokens: &mut [[usize; 4]],
+)
     requires { ⌜ request .len ≤ length (now line) ⌝ }
 {
-    let made = answer_to(request, line, bytes, records);
-    spelling::print_answer(made, bytes, records);
+    let made = answer_to(request, line, bytes, errors, tokens);
+    spelling::print_answer(made, bytes, errors, tokens);
 }
 
-fn answer_to(request: Request, line: &[u8], bytes: &mut [u8], records: &mut [[usize; 3]]) -> Answer
+fn answer_to(
+    request: Request,
+    line: &[u8],
+    bytes: &mut [u8],
+    errors: &mut [[usize; 3]],
+    tokens: &mut [[usize; 4]],
+) -> Answer
     requires { ⌜ request .len ≤ length (now line) ⌝ }
 {
     let len = request.len;
@@ -57,7 +76,7 @@ fn answer_to(request: Request, line: &[u8], bytes: &mut [u8], records: &mut [[us
     let call = asked.call;
     let numbers = asked.numbers;
     if let Fault::Nothing = fault {
-        return calls::make(call, numbers, &line[..len], bytes, records);
+        return calls::make(call, numbers, &line[..len], bytes, errors, tokens);
     }
     forms::fault(fault)
 }

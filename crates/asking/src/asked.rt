@@ -20,6 +20,7 @@ const ANY: usize = usize::MAX;
 
 pub enum Call {
     Lex,
+    LexLine,
     LexCap,
     Dec,
     DecCap,
@@ -28,6 +29,7 @@ pub enum Call {
     Fault,
     Start,
     Step,
+    StepLine,
     Span,
     Text,
     Pos,
@@ -104,6 +106,7 @@ fn read_numbers(line: &[u8], name: Word, count: usize) -> Numbers
 fn call_of(key: usize) -> Call {
     match key {
         0x6C_65_78 => Call::Lex,
+        0x6C_65_78_6C_69_6E_65 => Call::LexLine,
         0x6C_65_78_63_61_70 => Call::LexCap,
         0x64_65_63 => Call::Dec,
         0x64_65_63_63_61_70 => Call::DecCap,
@@ -112,6 +115,7 @@ fn call_of(key: usize) -> Call {
         0x66_61_75_6C_74 => Call::Fault,
         0x73_74_61_72_74 => Call::Start,
         0x73_74_65_70 => Call::Step,
+        0x73_74_65_70_6C_69_6E_65 => Call::StepLine,
         0x73_70_61_6E => Call::Span,
         0x74_65_78_74 => Call::Text,
         0x70_6F_73 => Call::Pos,
@@ -127,7 +131,7 @@ fn numbers_of(call: Call) -> usize
     match call {
         Call::LexCap | Call::Dec | Call::Pos | Call::Desc => 1,
         Call::DecIn | Call::Step | Call::Span | Call::Text => 2,
-        Call::DecCap => 3,
+        Call::DecCap | Call::StepLine => 3,
         _ => 0,
     }
 }
@@ -137,7 +141,7 @@ fn limits_of(call: Call) -> [usize; 3] {
     match call {
         Call::LexCap => [RECORDS, ANY, ANY],
         Call::DecCap => [ANY, OUTPUT, RECORDS],
-        Call::Step => [ANY, 1, ANY],
+        Call::Step | Call::StepLine => [ANY, 1, ANY],
         _ => [ANY, ANY, ANY],
     }
 }
@@ -204,10 +208,10 @@ fn number_fault(call: Call, numbers: [usize; 3]) -> Fault {
     if within(numbers, limits_of(call)) {
         return Fault::Nothing;
     }
-    if let Call::Step = call {
-        return Fault::NotFlag;
+    match call {
+        Call::Step | Call::StepLine => Fault::NotFlag,
+        _ => Fault::TooMuch,
     }
-    Fault::TooMuch
 }
 
 fn within(numbers: [usize; 3], limits: [usize; 3]) -> bool {

@@ -14,10 +14,13 @@ use Rattle.place.specs.declared.Position.{Position}
 use Rattle.strings.specs.declared.Decoded.{Decoded}
 use Rattle.asking.specs.declared.asked.Fault.{Fault}
 use Rattle.spelling.specs.declared.Answer.{Answer}
-use Rattle.forms.specs.Answers.{tokensAs, tokenCountAs, decodedAs, decodedCountAs, checkedAs, faultedAs, spanCheckedAs, startedAs, positionedAs, steppedAs, hexAs, describedAs, faultAs}
+use Rattle.forms.specs.Answers.{tokensAs, tokenLinesAs, tokenCountAs, decodedAs, decodedCountAs, checkedAs, faultedAs, spanCheckedAs, startedAs, positionedAs, steppedAs, steppedLineAs, hexAs, describedAs, faultAs}
 
 pub tokens : (lexed : Lexed) → Only (λ (r : Answer). r ≡ tokensAs lexed)
 tokens lexed = only-equal (tokensAs lexed)
+
+pub token-lines : (lexed : Lexed) → Only (λ (r : Answer). r ≡ tokenLinesAs lexed)
+token-lines lexed = only-equal (tokenLinesAs lexed)
 
 pub token-count : (lexed : Lexed) → Only (λ (r : Answer). r ≡ tokenCountAs lexed)
 token-count lexed = only-equal (tokenCountAs lexed)
@@ -45,6 +48,9 @@ positioned position = only-equal (positionedAs position)
 
 pub stepped : (step : Step) → Only (λ (r : Answer). r ≡ steppedAs step)
 stepped step = only-equal (steppedAs step)
+
+pub stepped-line : (step : Step) → Only (λ (r : Answer). r ≡ steppedLineAs step)
+stepped-line step = only-equal (steppedLineAs step)
 
 pub hex : (count : ℕ) → Only (λ (r : Answer). r ≡ hexAs count)
 hex count = only-equal (hexAs count)

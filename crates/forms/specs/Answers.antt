@@ -4,6 +4,7 @@ use Prim.Native.Nat.{ℕ}
 use mathlib.Core.Bool.{Bool, true, false, cond}
 use mathlib.Core.List.{List, [], _∷_, _++_}
 use lib.Dec.{eqb}
+use lib.ListN.{take}
 use Rattle.text.specs.declared.refusal.Refusal.{Refusal}
 use Rattle.text.specs.Refusals.{refusalNumber, refusalValue, refusalLength}
 use Rattle.text.specs.declared.utf8.Utf8Check.{Utf8Check}
@@ -56,10 +57,14 @@ abbrev pub flagOf : Bool → ℕ
 flagOf true = 1
 flagOf false = 0
 
--- lex: the records; lexcap: 0 and their count
+-- lex: the tokens; lexline: the tokens with their lines; lexcap: 0 and their count
 abbrev pub tokensAs : Lexed → Answer
 tokensAs (Tokens n) = filledBy form.Tokens n 0
 tokensAs (Unlexed r) = refusedWhole r
+
+abbrev pub tokenLinesAs : Lexed → Answer
+tokenLinesAs (Tokens n) = filledBy form.TokenLines n 0
+tokenLinesAs (Unlexed r) = refusedWhole r
 
 abbrev pub tokenCountAs : Lexed → Answer
 tokenCountAs (Tokens n) = filledBy form.Two 0 n
@@ -100,12 +105,22 @@ positionedAs (Unfound r) = refusedAs form.Four r
 -- step: the token and the next cursor
 abbrev pub nextAs : Token → Cursor → Answer
 nextAs t c =
-    record { form = form.Stepped; numbers = recordOf t ++ (c .place ∷ flagOf (c .ended) ∷ 0 ∷ 0 ∷ 0 ∷ []) }
+    record { form = form.Stepped; numbers = take 3 (recordOf t) ++ (c .place ∷ flagOf (c .ended) ∷ 0 ∷ 0 ∷ 0 ∷ []) }
 
 abbrev pub steppedAs : Step → Answer
 steppedAs (Next t c) = nextAs t c
 steppedAs End = filledBy form.Ended 0 0
 steppedAs (Unstepped r) = refusedAs form.NoStep r
+
+-- stepline: both with their lines
+abbrev pub nextLineAs : Token → Cursor → Answer
+nextLineAs t c =
+    record { form = form.SteppedLine; numbers = recordOf t ++ (c .place ∷ flagOf (c .ended) ∷ c .line ∷ 0 ∷ []) }
+
+abbrev pub steppedLineAs : Step → Answer
+steppedLineAs (Next t c) = nextLineAs t c
+steppedLineAs End = filledBy form.Ended 0 0
+steppedLineAs (Unstepped r) = refusedAs form.NoStep r
 
 -- text: the bytes
 abbrev pub hexAs : ℕ → Answer

@@ -1,7 +1,7 @@
 // What the result of each call, and a line's fault, come to as an answer: a form and the numbers that
 // fill it. Definitions: specs/Answers.antt.
 ghost use mathlib.Core.Path.{_≡_};
-ghost use Rattle.forms.specs.Answers.{filledBy, answeredBy, threeBy, refusedAs, refusedWhole, tokensAs, tokenCountAs, decodedAs, decodedCountAs, checkedAs, faultedAs, spanCheckedAs, startedAs, positionedAs, steppedAs, nextAs, hexAs, describedAs, faultAs, faultForm, flagOf};
+ghost use Rattle.forms.specs.Answers.{filledBy, answeredBy, threeBy, refusedAs, refusedWhole, tokensAs, tokenLinesAs, tokenCountAs, decodedAs, decodedCountAs, checkedAs, faultedAs, spanCheckedAs, startedAs, positionedAs, steppedAs, steppedLineAs, nextAs, nextLineAs, hexAs, describedAs, faultAs, faultForm, flagOf};
 use asking::Fault;
 use lexer::Cursor;
 use lexer::Lexed;
@@ -60,6 +60,16 @@ fn three(form: Form, a: usize, b: usize, c: usize) -> Answer
     Answer {
         form,
         numbers: [a, b, c, 0, 0, 0, 0, 0],
+    }
+}
+
+// The tokens with their lines.
+pub fn token_lines(lexed: Lexed) -> Answer
+    ensures { λ r. ⌜ r ≡ tokenLinesAs lexed ⌝ }
+{
+    match lexed {
+        Lexed::Tokens(count) => filled(Form::TokenLines, count, 0),
+        Lexed::Refused(why) => refused_whole(why),
     }
 }
 
@@ -154,6 +164,36 @@ pub fn stepped(step: Step) -> Answer
         Step::Token(token, next) => token_and_next(token, next),
         Step::End => filled(Form::Ended, 0, 0),
         Step::Refused(why) => refused(Form::NoStep, why),
+    }
+}
+
+// The same with the lines of the token and of the cursor.
+pub fn stepped_line(step: Step) -> Answer
+    ensures { λ r. ⌜ r ≡ steppedLineAs step ⌝ }
+{
+    match step {
+        Step::Token(token, next) => lines_and_next(token, next),
+        Step::End => filled(Form::Ended, 0, 0),
+        Step::Refused(why) => refused(Form::NoStep, why),
+    }
+}
+
+fn lines_and_next(token: Token, next: Cursor) -> Answer
+    ensures { λ r. ⌜ r ≡ nextLineAs token next ⌝ }
+{
+    let record = token.as_record();
+    Answer {
+        form: Form::SteppedLine,
+        numbers: [
+            record[0],
+            record[1],
+            record[2],
+            record[3],
+            next.place,
+            flag(next.ended),
+            next.line,
+            0,
+        ],
     }
 }
 

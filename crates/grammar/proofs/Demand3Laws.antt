@@ -7,7 +7,7 @@ use mathlib.Core.List.{List, [], _++_}
 use native.Mathlib.Decide.{decLt}
 use native.Mathlib.Omega.{arith}
 use lib.ListN.{length, take, drop, length-drop, take-append-drop, drop-of-length-le}
-use lib.Seq.{length-take-le}
+use lib.Seq.{length-take-le, take-append-seam}
 use Rattle.text.specs.Utf8.{Scalar, encodes, All, Utf8}
 use Rattle.text.specs.Refusals.{limit}
 use Rattle.text.proofs.ReadLaws.{same-scalars}
@@ -18,6 +18,7 @@ use Rattle.token.specs.declared.Token.{Token}
 use Rattle.token.specs.KindNumbers.{kindNumber}
 use Rattle.token.specs.Records.{tokenOf}
 use Rattle.lexer.specs.Table.{kindOf, extent, tokenLen}
+use Rattle.lexer.specs.Lines.{lineEnds, lineOf}
 use Rattle.lexer.specs.Tokens.{tokenAt}
 use Rattle.lexer.proofs.TokenLaws.{token-fits}
 use Rattle.lexing.specs.Lexing.{textOf}
@@ -117,9 +118,9 @@ module _ (ed : Edition) where
         }
 
   -- the token at a place
-  place-agrees : (doc : List ℕ) (at : ℕ) → Utf8 (drop at doc) → length doc ≤ limit → (s : StringKind) → kindOf (drop at doc) ≡ tokenKind s
-      → Agrees ed s (textOf doc (tokenAt at (drop at doc)))
-  place-agrees doc at u l s e =
+  place-agrees : (doc : List ℕ) (at line : ℕ) → Utf8 (drop at doc) → length doc ≤ limit → (s : StringKind) → kindOf (drop at doc) ≡ tokenKind s
+      → Agrees ed s (textOf doc (tokenAt at line (drop at doc)))
+  place-agrees doc at line u l s e =
       let d : List ℕ = drop at doc in
       let n = tokenLen d in
       let p : take n d ++ drop n d ≡ d = take-append-drop n d in
@@ -149,8 +150,13 @@ module _ (ed : Edition) where
     long-there : tokenLen (drop at doc) ≡ length (encodes cs)
     long-there = ap tokenLen e ∙ derived-token ed s cs v rest d a .1
 
-    token-there : tokenAt at (drop at doc) ≡ tokenOf (tokenKind s) at (at + length (encodes cs))
-    token-there = rw (kind-there, long-there)
+    token-there : (line : ℕ) → tokenAt at line (drop at doc) ≡ tokenOf (tokenKind s) at (at + length (encodes cs)) line
+    token-there line = rw (kind-there, long-there)
+
+    -- the LFs of the token are those of the text
+    lines-there : lineEnds (take (tokenLen (drop at doc)) (drop at doc)) ≡ lineEnds (encodes cs)
+    lines-there =
+        ap lineEnds (ap (λ (n : ℕ). take n (drop at doc)) long-there ∙ ap (take (length (encodes cs))) e ∙ take-append-seam (encodes cs) rest)
 
     before-end : at < length doc
     before-end = elim (decLt at (length doc)) [
@@ -166,15 +172,19 @@ module _ (ed : Edition) where
         tokens = λ doc u l r m s e.
             let x = lexed doc r m in
             subst (λ (y : Token). Agrees ed s (textOf doc y)) (sym (listed doc r m))
-            (place-agrees doc (r .span .start) (x .whole u) l s (sym (x .kind) ∙ e));
+            (place-agrees doc (r .span .start) (lineOf doc (r .span .start)) (x .whole u) l s (sym (x .kind) ∙ e));
         steps = λ doc c u r d e s h.
             let x = stepped doc c r d e in
             let kind : kindOf (drop (c .place) doc) ≡ tokenKind s = ap (λ (y : Token). y .kind) (sym (x .is)) ∙ h in
-            subst (λ (y : Token). Agrees ed s (textOf doc y)) (sym (x .is)) (place-agrees doc (c .place) u (x .few) s kind);
+            subst (λ (y : Token). Agrees ed s (textOf doc y)) (sym (x .is)) (place-agrees doc (c .place) (c .line) u (x .few) s kind);
         reached = reached-cut;
         listed = reached-listed;
-        step-back = λ doc l c s cs v rest d e a.
-            step-there doc l c (before-end doc (c .place) s cs v rest d e a)
-            ∙ rw (token-there doc (c .place) s cs v rest d e a, long-there doc (c .place) s cs v rest d e a);
-        token-back = λ doc r m s cs v rest d e a. listed doc r m ∙ token-there doc (r .span .start) s cs v rest d e a;
+        step-back = λ doc l c o s cs v rest d e a.
+            step-there doc l c o (before-end doc (c .place) s cs v rest d e a)
+            ∙ rw (
+              token-there doc (c .place) s cs v rest d e a (c .line),
+              lines-there doc (c .place) s cs v rest d e a,
+              long-there doc (c .place) s cs v rest d e a,
+            );
+        token-back = λ doc r m s cs v rest d e a. listed doc r m ∙ token-there doc (r .span .start) s cs v rest d e a (lineOf doc (r .span .start));
       }

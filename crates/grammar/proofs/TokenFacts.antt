@@ -9,7 +9,8 @@ use native.Mathlib.Omega.{arith}
 use native.Mathlib.Nat.{add-zero}
 use lib.ListN.{length, drop, drop-of-length-le}
 use lib.Seq.{drop-drop}
-use borrow.Author.Tests.{le-ltb, ne-eqb}
+use borrow.Author.Tests.{le-ltb, ltb-false, ne-eqb}
+use lib.Dec.{ltb}
 use Rattle.classes.proofs.Conds.{cond-case, by-lt, by-eq}
 use Rattle.text.specs.Utf8.{Utf8}
 use Rattle.text.specs.Refusals.{limit}
@@ -17,8 +18,10 @@ use Rattle.token.specs.declared.TokenKind.{TokenKind}
 use Rattle.token.specs.declared.Token.{Token}
 use Rattle.token.specs.Records.{tokenOf}
 use Rattle.lexer.specs.Table.{kindOf, extent, tokenLen}
-use Rattle.lexer.specs.Tokens.{tokenAt, eofAt, tokensFrom, startOf, tokensOf}
-use Rattle.lexer.specs.Steps.{cursorOf, startAnswer, stepOf, stepNumber}
+use Rattle.lexer.specs.Tokens.{tokenAt, eofAt, lineAfter, tokensFrom, startOf, tokensOf}
+use Rattle.lexer.specs.Steps.{cursorOf, startAnswer, astray, stepOf, stepNumber}
+use Rattle.lexer.specs.Lines.{lineOf}
+use Rattle.place.proofs.SpanLaws.{or-false}
 use Rattle.lexer.specs.declared.Cursor.{Cursor}
 use Rattle.lexer.specs.declared.Start.{Start}
 use Rattle.lexer.specs.declared.Start.the-variants.{At}
@@ -30,37 +33,42 @@ use Rattle.grammar.specs.Demand3.{Reached, start, next}
 
 -- ---- a token of whole lexing is the token at its start
 
-token-by : (r : Token) (k : TokenKind) (e : ℕ) → r .kind ≡ k → r .span .end ≡ e → r ≡ tokenOf k (r .span .start) e
-token-by r k e p q = ap (λ (x : TokenKind). tokenOf x (r .span .start) (r .span .end)) p ∙ ap (tokenOf k (r .span .start)) q
+token-by : (r : Token) (k : TokenKind) (e l : ℕ) → r .kind ≡ k → r .span .end ≡ e → r .line ≡ l → r ≡ tokenOf k (r .span .start) e l
+token-by r k e l p q x =
+    ap (λ (j : TokenKind). tokenOf j (r .span .start) (r .span .end) (r .line)) p
+    ∙ ap (λ (n : ℕ). tokenOf k (r .span .start) n (r .line)) q ∙ ap (tokenOf k (r .span .start) e) x
 
-pub listed : (doc : List ℕ) (r : Token) → List·Memᴰ r (tokensOf doc) → r ≡ tokenAt (r .span .start) (drop (r .span .start) doc)
-listed doc r m = let x = lexed doc r m in token-by r _ _ (x .kind) (x .end)
+pub listed : (doc : List ℕ) (r : Token) → List·Memᴰ r (tokensOf doc)
+    → r ≡ tokenAt (r .span .start) (lineOf doc (r .span .start)) (drop (r .span .start) doc)
+listed doc r m = let x = lexed doc r m in token-by r _ _ _ (x .kind) (x .end) (x .line)
 
 -- ---- a token of a step is the token at the cursor's place
 
 pub record Stepped (doc : List ℕ) (c : Cursor) (r : Token) (d : Cursor) : Type 0 where
   pub few : length doc ≤ limit
-  pub is : r ≡ tokenAt (c .place) (drop (c .place) doc)
+  pub near : c .line ≤ c .place + 1
+  pub is : r ≡ tokenAt (c .place) (c .line) (drop (c .place) doc)
   pub on : d .place ≡ c .place + tokenLen (drop (c .place) doc)
 
-eof-is : (at : ℕ) → eofAt at ≡ tokenAt at []
+eof-is : (at line : ℕ) → eofAt at line ≡ tokenAt at line []
 unfolding tokenLen kindOf extent
-eof-is at = ap (λ (i : ℕ). tokenOf (kindOf []) at i) (sym (add-zero at))
+eof-is at line = ap (λ (i : ℕ). tokenOf (kindOf []) at i line) (sym (add-zero at))
 
 module _ (doc : List ℕ) (c : Cursor) (r : Token) (d : Cursor) where
   abbrev Says : Step → Type 0
   Says x = x ≡ Given r d → Stepped doc c r d
 
-  end-says : length doc ≤ limit → c .place ≡ length doc → (t : Token) (n : Cursor) → t ≡ eofAt (c .place) → n .place ≡ c .place
+  end-says : length doc ≤ limit → c .line ≤ c .place + 1 → c .place ≡ length doc → (t : Token) (n : Cursor) → t ≡ eofAt (c .place) (c .line) → n .place ≡ c .place
       → Says (Given t n)
   unfolding tokenLen kindOf extent
-  end-says l p t n e f h =
+  end-says l o p t n e f h =
       let x : t ≡ r = cc in
       let y : n ≡ d = cc in
       let z : drop (c .place) doc ≡ [] = drop-of-length-le doc {i = c .place} (omega arith) in
       record {
         few = l;
-        is = sym x ∙ (e ∙ (eof-is (c .place) ∙ ap (tokenAt (c .place)) (sym z)));
+        near = o;
+        is = sym x ∙ (e ∙ (eof-is (c .place) (c .line) ∙ ap (tokenAt (c .place) (c .line)) (sym z)));
         on = ap (λ (i : Cursor). i .place) (sym y) ∙ (f ∙ rw z (sym (add-zero (c .place))));
       }
 
@@ -68,30 +76,34 @@ module _ (doc : List ℕ) (c : Cursor) (r : Token) (d : Cursor) where
   unfolding stepOf
   stepped =
       by-lt Says limit (length doc) (λ l h. absurd (omega (arith, ap stepNumber h)))
-      λ l. by-lt Says (length doc) (c .place) (λ k h. absurd (omega (arith, ap stepNumber h)))
-      λ k. by-eq Says (c .place) (length doc)
-      (λ p. cond-case Says (c .ended) (λ e h. let z : _≡_ {A = ℕ} 0 1 = cc in absurd (omega arith)) (λ e h. end-says l p _ _ refl refl h))
+      λ l. cond-case Says (astray doc c) (λ k h. absurd (omega (arith, ap stepNumber h)))
+      λ k.
+      let o = ltb-false (c .place + 1) (c .line) (or-false (ltb (length doc) (c .place)) (ltb (c .place + 1) (c .line)) k .1) in
+      by-eq Says (c .place) (length doc)
+      (λ p. cond-case Says (c .ended) (λ e h. let z : _≡_ {A = ℕ} 0 1 = cc in absurd (omega arith)) (λ e h. end-says l o p _ _ refl refl h))
       (λ p h.
-      let x : tokenAt (c .place) (drop (c .place) doc) ≡ r = cc in
-      let y : cursorOf (c .place + tokenLen (drop (c .place) doc)) (c .ended) ≡ d = cc in
-      record { few = l; is = sym x; on = ap (λ (i : Cursor). i .place) (sym y) })
+      let x : tokenAt (c .place) (c .line) (drop (c .place) doc) ≡ r = cc in
+      let y : cursorOf (c .place + tokenLen (drop (c .place) doc)) (lineAfter (c .line) (drop (c .place) doc)) (c .ended) ≡ d = cc in
+      record { few = l; near = o; is = sym x; on = ap (λ (i : Cursor). i .place) (sym y) })
 
 -- a step before the end, by any cursor
-pub step-there : (doc : List ℕ) → length doc ≤ limit → (c : Cursor) → c .place < length doc
-    → stepOf doc c ≡ Given (tokenAt (c .place) (drop (c .place) doc)) (cursorOf (c .place + tokenLen (drop (c .place) doc)) (c .ended))
+pub step-there : (doc : List ℕ) → length doc ≤ limit → (c : Cursor) → c .line ≤ c .place + 1 → c .place < length doc
+    → stepOf doc c
+    ≡ Given (tokenAt (c .place) (c .line) (drop (c .place) doc))
+    (cursorOf (c .place + tokenLen (drop (c .place) doc)) (lineAfter (c .line) (drop (c .place) doc)) (c .ended))
 unfolding stepOf
-step-there doc l c h =
+step-there doc l c o h =
     let n : c .place ≡ length doc → ⊥ = λ z. omega arith in
-    rw (le-ltb limit (length doc) l, le-ltb (length doc) (c .place) (omega arith), ne-eqb (c .place) (length doc) n)
+    rw (le-ltb limit (length doc) l, le-ltb (length doc) (c .place) (omega arith), le-ltb (c .place + 1) (c .line) o, ne-eqb (c .place) (length doc) n)
 
 -- ---- steps from the start
 
-started : (doc : List ℕ) (c : Cursor) → startAnswer doc ≡ At c → cursorOf (startOf doc) false ≡ c
+started : (doc : List ℕ) (c : Cursor) → startAnswer doc ≡ At c → cursorOf (startOf doc) 1 false ≡ c
 unfolding startAnswer
 started doc c =
-    by-lt (λ (x : Start). x ≡ At c → cursorOf (startOf doc) false ≡ c) limit (length doc)
+    by-lt (λ (x : Start). x ≡ At c → cursorOf (startOf doc) 1 false ≡ c) limit (length doc)
     (λ l h. let z : _≡_ {A = ℕ} 0 1 = cc in absurd (omega arith))
-    (λ l h. let y : cursorOf (startOf doc) false ≡ c = cc in y)
+    (λ l h. let y : cursorOf (startOf doc) 1 false ≡ c = cc in y)
 
 -- they cut no character
 pub reached-cut : (doc : List ℕ) → Utf8 doc → (c : Cursor) → Reached doc c → Utf8 (drop (c .place) doc)
@@ -105,41 +117,42 @@ reached-cut doc u d (next {c} {r = r} k e) =
 -- and what is left from a cursor on is left of whole lexing, until Eof was given
 data Going (doc : List ℕ) (c : Cursor) : Type 0 where
   on : c .ended ≡ false → c .place ≤ length doc
-      → ((r : Token) → List·Memᴰ r (tokensFrom (c .place) (drop (c .place) doc)) → List·Memᴰ r (tokensOf doc)) → Going doc c
+      → ((r : Token) → List·Memᴰ r (tokensFrom (c .place) (c .line) (drop (c .place) doc)) → List·Memᴰ r (tokensOf doc)) → Going doc c
   over : c .ended ≡ true → c .place ≡ length doc → Going doc c
 
-all-listed : (doc : List ℕ) (r : Token) → List·Memᴰ r (tokensFrom (startOf doc) (drop (startOf doc) doc)) → List·Memᴰ r (tokensOf doc)
+all-listed : (doc : List ℕ) (r : Token) → List·Memᴰ r (tokensFrom (startOf doc) 1 (drop (startOf doc) doc)) → List·Memᴰ r (tokensOf doc)
 unfolding tokensOf
 all-listed doc r m = m
 
-cursor-by : (c : Cursor) (n : ℕ) (b : Bool) → c .place ≡ n → c .ended ≡ b → c ≡ cursorOf n b
-cursor-by c n b p q = ap (λ (i : ℕ). cursorOf i (c .ended)) p ∙ ap (cursorOf n) q
+cursor-by : (c : Cursor) (n : ℕ) (b : Bool) → c .place ≡ n → c .ended ≡ b → c ≡ cursorOf n (c .line) b
+cursor-by c n b p q = ap (λ (i : ℕ). cursorOf i (c .line) (c .ended)) p ∙ ap (cursorOf n (c .line)) q
 
 module _ (doc : List ℕ) (c : Cursor) (r : Token) (d : Cursor) (e : stepOf doc c ≡ Given r d) where
   no-end : c .ended ≡ true → c .place ≡ length doc → {P : Type 0} → P
   no-end f p =
       let s = stepped doc c r d e in
-      let h : End ≡ Given r d = sym (step-end doc (s .few)) ∙ (ap (stepOf doc) (sym (cursor-by c (length doc) true p f)) ∙ e) in
+      let h : End ≡ Given r d = sym (step-end doc (s .few) (c .line) (omega (arith, s .near))) ∙ (ap (stepOf doc) (sym (cursor-by c (length doc) true p f)) ∙ e) in
       let z : _≡_ {A = ℕ} 0 1 = cc in
       absurd (omega arith)
 
   went-on : c .ended ≡ false → c .place < length doc
-      → ((r : Token) → List·Memᴰ r (tokensFrom (c .place) (drop (c .place) doc)) → List·Memᴰ r (tokensOf doc)) → Going doc d
+      → ((r : Token) → List·Memᴰ r (tokensFrom (c .place) (c .line) (drop (c .place) doc)) → List·Memᴰ r (tokensOf doc)) → Going doc d
   went-on f l m =
       let s = stepped doc c r d e in
       let n = c .place + tokenLen (drop (c .place) doc) in
-      let h : Given (tokenAt (c .place) (drop (c .place) doc)) (cursorOf n (c .ended)) ≡ Given r d =
-      sym (step-there doc (s .few) c l) ∙ e in
-      let x : cursorOf n (c .ended) ≡ d = cc in
+      let line = lineAfter (c .line) (drop (c .place) doc) in
+      let h : Given (tokenAt (c .place) (c .line) (drop (c .place) doc)) (cursorOf n line (c .ended)) ≡ Given r d =
+      sym (step-there doc (s .few) c (s .near) l) ∙ e in
+      let x : cursorOf n line (c .ended) ≡ d = cc in
       subst (Going doc) x (on f (token-fits-at doc (c .place) (omega arith))
-      (λ t i. m t (subst (List·Memᴰ t) (sym (tokens-step doc (c .place) l)) (List·Memᴰ·tail i))))
+      (λ t i. m t (subst (List·Memᴰ t) (sym (tokens-step doc (c .place) (c .line) l)) (List·Memᴰ·tail i))))
 
   was-over : c .ended ≡ false → c .place ≡ length doc → Going doc d
   was-over f p =
       let s = stepped doc c r d e in
-      let h : Given (eofAt (length doc)) (cursorOf (length doc) true) ≡ Given r d =
-      sym (step-eof doc (s .few)) ∙ (ap (stepOf doc) (sym (cursor-by c (length doc) false p f)) ∙ e) in
-      let x : cursorOf (length doc) true ≡ d = cc in
+      let h : Given (eofAt (length doc) (c .line)) (cursorOf (length doc) (c .line) true) ≡ Given r d =
+      sym (step-eof doc (s .few) (c .line) (omega (arith, s .near))) ∙ (ap (stepOf doc) (sym (cursor-by c (length doc) false p f)) ∙ e) in
+      let x : cursorOf (length doc) (c .line) true ≡ d = cc in
       subst (Going doc) x (over refl refl)
 
 going : (doc : List ℕ) (c : Cursor) → Reached doc c → Going doc c
@@ -153,18 +166,18 @@ going doc d (next {c} {r = r} k e) = elim (going doc c k) [
 ]
 
 -- the token at a place is the first of those from there on
-first-listed : (doc : List ℕ) (at : ℕ) (r : Token) → at ≤ length doc → r ≡ tokenAt at (drop at doc)
-    → List·Memᴰ r (tokensFrom at (drop at doc))
-first-listed doc at r l e = elim (decLt at (length doc)) [
-  | yes h ↦ subst (List·Memᴰ r) (sym (tokens-step doc at h)) (List·Memᴰ·head e)
+first-listed : (doc : List ℕ) (at line : ℕ) (r : Token) → at ≤ length doc → r ≡ tokenAt at line (drop at doc)
+    → List·Memᴰ r (tokensFrom at line (drop at doc))
+first-listed doc at line r l e = elim (decLt at (length doc)) [
+  | yes h ↦ subst (List·Memᴰ r) (sym (tokens-step doc at line h)) (List·Memᴰ·head e)
   | no h ↦
       let z : drop at doc ≡ [] = drop-of-length-le doc {i = at} (omega arith) in
-      subst (List·Memᴰ r) (sym (tokens-end doc at (omega arith))) (List·Memᴰ·head (e ∙ (ap (tokenAt at) z ∙ sym (eof-is at))))
+      subst (List·Memᴰ r) (sym (tokens-end doc at line (omega arith))) (List·Memᴰ·head (e ∙ (ap (tokenAt at line) z ∙ sym (eof-is at line))))
 ]
 
 pub reached-listed : (doc : List ℕ) (c : Cursor) → Reached doc c → (r : Token) (d : Cursor) → stepOf doc c ≡ Given r d
     → List·Memᴰ r (tokensOf doc)
 reached-listed doc c k r d e = elim (going doc c k) [
-  | on f l m ↦ m r (first-listed doc (c .place) r l (stepped doc c r d e .is))
+  | on f l m ↦ m r (first-listed doc (c .place) (c .line) r l (stepped doc c r d e .is))
   | over f p ↦ no-end doc c r d e f p
 ]

@@ -29,6 +29,7 @@ use Rattle.token.specs.KindNumbers.{kindNumber}
 use Rattle.token.specs.Records.{tokenOf}
 use Rattle.token.specs.declared.Token.{Token}
 use Rattle.lexer.specs.Tokens.{tokensOf}
+use Rattle.lexer.specs.Lines.{lineEnds, lineOf}
 use Rattle.lexer.specs.Steps.{cursorOf, startAnswer, stepOf}
 use Rattle.lexer.specs.declared.Cursor.{Cursor}
 use Rattle.lexer.specs.declared.Start.the-variants.{At}
@@ -123,12 +124,14 @@ pub record Demand3 (ed : Edition) : Type 0 where
   -- and give tokens of whole lexing only
   pub listed : (doc : List ℕ) (c : Cursor) → Reached doc c → (r : Token) (d : Cursor) → stepOf doc c ≡ Given r d
       → List·Memᴰ r (tokensOf doc)
-  -- a derived text at any cursor's place, its own quote mark not behind it, is the token that a step gives there
-  pub step-back : (doc : List ℕ) → length doc ≤ limit → (c : Cursor) (s : StringKind) (cs v rest : List ℕ) → Derived ed s cs v
+  -- a derived text at any cursor's place, its own quote mark not behind it, is the token that a step gives there, on the
+  -- cursor's line, which does not pass its place plus 1; the next cursor's line is counted on by the LFs of the text
+  pub step-back : (doc : List ℕ) → length doc ≤ limit → (c : Cursor) → c .line ≤ c .place + 1 → (s : StringKind) (cs v rest : List ℕ) → Derived ed s cs v
       → drop (c .place) doc ≡ encodes cs ++ rest → Apart (mark s) rest
       → stepOf doc c
-      ≡ Given (tokenOf (tokenKind s) (c .place) (c .place + length (encodes cs))) (cursorOf (c .place + length (encodes cs)) (c .ended))
+      ≡ Given (tokenOf (tokenKind s) (c .place) (c .place + length (encodes cs)) (c .line))
+      (cursorOf (c .place + length (encodes cs)) (c .line + lineEnds (encodes cs)) (c .ended))
   -- and where whole lexing has a token r that starts there, r is that token
   pub token-back : (doc : List ℕ) (r : Token) → List·Memᴰ r (tokensOf doc) → (s : StringKind) (cs v rest : List ℕ) → Derived ed s cs v
       → drop (r .span .start) doc ≡ encodes cs ++ rest → Apart (mark s) rest
-      → r ≡ tokenOf (tokenKind s) (r .span .start) (r .span .start + length (encodes cs))
+      → r ≡ tokenOf (tokenKind s) (r .span .start) (r .span .start + length (encodes cs)) (lineOf doc (r .span .start))

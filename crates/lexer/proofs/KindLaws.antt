@@ -24,13 +24,13 @@ unfolding kindOf
 kind-at s i h = rw (drop-cons s i 0)
 
 -- a token of the kind that stands there is the token there
-pub token-made : (k : TokenKind) (at : ℕ) (s : List ℕ) → kindOf s ≡ k → tokenBy k at s ≡ tokenAt at s
+pub token-made : (k : TokenKind) (at line : ℕ) (s : List ℕ) → kindOf s ≡ k → tokenBy k at line s ≡ tokenAt at line s
 unfolding tokenLen
-token-made k at s e = rw e
+token-made k at line s e = rw e
 
 -- the same token by an equal end
-pub end-is : (k : TokenKind) (at : ℕ) {e f : ℕ} → e ≡ f → tokenOf k at e ≡ tokenOf k at f
-end-is k at e = ap (tokenOf k at) e
+pub end-is : (k : TokenKind) (at line : ℕ) {e f : ℕ} → e ≡ f → tokenOf k at e line ≡ tokenOf k at f line
+end-is k at line e = ap (λ (n : ℕ). tokenOf k at n line) e
 
 -- the kinds in turn: what holds of each kind under its test holds of the kind by a first byte
 pub by-kind : (P : TokenKind → Type 0) (b : ℕ) (three : Bool)

@@ -1,6 +1,7 @@
 pub mod TailLaws
 pub mod MarkLaws
 pub mod KindLaws
+pub mod LineLaws
 pub mod TokenLaws
 pub mod UntilLaws
 pub mod WholeLaws

@@ -13,7 +13,7 @@ use Rattle.text.specs.declared.utf8.Utf8Check.{Utf8Check}
 use Rattle.text.specs.declared.utf8.Utf8Check.the-variants.{Valid}
 use Rattle.token.proofs.ChoiceLaws.{of-choice}
 use Rattle.lexer.specs.Steps.{startAnswer, startNumber, startValue, startRefusal, startReturned}
-use Rattle.lexer.specs.Steps.{stepWithin, stepOf, stepNumber, stepValue, stepRefusal, stepReturned}
+use Rattle.lexer.specs.Steps.{stepWithin, astray, stepOf, stepNumber, stepValue, stepRefusal, stepReturned}
 use Rattle.lexer.specs.Whole.{tokenCount, lexChecked, lexAnswer, lexMemory}
 use Rattle.lexer.specs.Whole.{lexedNumber, lexedValue, lexedLength, lexRefusal, lexReturned, lexFault}
 use Rattle.lexer.specs.declared.Cursor.{Cursor}
@@ -39,7 +39,7 @@ pub stepped : (doc : List ℕ) (c : Cursor) (r : Step) → r ≡ stepOf doc c
 unfolding stepOf
 stepped doc c r e =
     let long = ltb limit (length doc) in
-    let beyond = ltb (length doc) (c .place) in
+    let beyond = astray doc c in
     let rest = within-numbers doc c in (
       e,
       (

@@ -5,10 +5,9 @@ use mathlib.Core.Path.{_≡_, refl, sym, ap, _∙_}
 use mathlib.Core.Bool.{Bool, true, false, not, _&&_}
 use mathlib.Core.List.{List, [], _∷_}
 use native.Mathlib.Omega.{arith}
-use native.Mathlib.Nat.{add-zero}
 use borrow.Author.Tests.{eqb-true}
 use lib.Dec.{eqb}
-use lib.ListN.{length, getD, drop, drop-of-length-le, length-drop}
+use lib.ListN.{length, getD, take, drop, drop-of-length-le, length-drop}
 use lib.Seq.{drop-drop}
 use Rattle.classes.specs.Classes.{wschar}
 use Rattle.classes.proofs.Conds.{cond-case, both-right}
@@ -17,10 +16,12 @@ use Rattle.token.specs.declared.TokenKind.{TokenKind}
 use Rattle.token.specs.declared.Token.{Token}
 use Rattle.lexer.specs.Bytes.{hides, closes, inComment, inAtom}
 use Rattle.lexer.specs.Extents.{lineTail, triple, upToTwo, mlTail, newlineTail}
+use Rattle.lexer.specs.Lines.{lineEnds, lineBehind}
 use Rattle.lexer.specs.Table.{kindOf, extent, tokenLen}
-use Rattle.lexer.specs.Tokens.{tokenAt, eofAt, walk, tokensFrom, hasBom, startOf, tokensOf}
+use Rattle.lexer.specs.Tokens.{tokenAt, eofAt, lineAfter, walk, tokensFrom, hasBom, startOf, tokensOf}
 use Rattle.lexer.proofs.MarkLaws.{triple-fits}
 use Rattle.lexer.proofs.KindLaws.{by-kind}
+use Rattle.lexer.proofs.LineLaws.{lines-none, behind-front, lines-taken}
 
 -- ---- each extent stays within the bytes
 
@@ -85,43 +86,49 @@ token-long (b ∷ s) h =
 
 -- ---- from token to token
 
-walk-skip : (k at : ℕ) (s : List ℕ) → k ≤ length s → walk at k s ≡ walk (at + k) 0 (drop k s)
+same-walk : {a b l m : ℕ} (s : List ℕ) → a ≡ b → l ≡ m → walk a l 0 s ≡ walk b m 0 s
+same-walk {a} {b} {l} {m} s p q = ap (λ (n : ℕ). walk n l 0 s) p ∙ ap (λ (n : ℕ). walk b n 0 s) q
+
+walk-skip : (k at line : ℕ) (s : List ℕ) → k ≤ length s → walk at line k s ≡ walk (at + k) (line + lineEnds (take k s)) 0 (drop k s)
 unfolding walk
-walk-skip zero at s h = rw add-zero
-walk-skip (suc k) at [] h = absurd (omega arith)
-walk-skip (suc k) at (b ∷ s) h =
-    let same : at + 1 + k ≡ at + suc k = omega arith in
-    walk-skip k (at + 1) s (omega arith) ∙ ap (λ (n : ℕ). walk n 0 (drop k s)) same
+walk-skip zero at line s h = same-walk s (omega arith) (omega (arith, lines-none))
+walk-skip (suc k) at line [] h = absurd (omega arith)
+walk-skip (suc k) at line (b ∷ s) h =
+    walk-skip k (at + 1) (lineBehind line b) s (omega arith) ∙ same-walk (drop k s) (omega arith) (behind-front line b (take k s))
 
-walk-pass : (n at b : ℕ) (s : List ℕ) → 0 < n → n ≤ suc (length s) → walk (at + 1) (pred n) s ≡ walk (at + n) 0 (drop n (b ∷ s))
-walk-pass zero at b s h l = absurd (omega arith)
-walk-pass (suc n) at b s h l =
-    let same : at + 1 + n ≡ at + suc n = omega arith in
-    walk-skip n (at + 1) s (omega arith) ∙ ap (λ (m : ℕ). walk m 0 (drop n s)) same
+walk-pass : (n at line b : ℕ) (s : List ℕ) → 0 < n → n ≤ suc (length s)
+    → walk (at + 1) (lineBehind line b) (pred n) s ≡ walk (at + n) (line + lineEnds (take n (b ∷ s))) 0 (drop n (b ∷ s))
+walk-pass zero at line b s h l = absurd (omega arith)
+walk-pass (suc n) at line b s h l =
+    walk-skip n (at + 1) (lineBehind line b) s (omega arith) ∙ same-walk (drop n s) (omega arith) (behind-front line b (take n s))
 
-pub tokens-cons : (at : ℕ) (s : List ℕ) → 0 < length s
-    → tokensFrom at s ≡ tokenAt at s ∷ tokensFrom (at + tokenLen s) (drop (tokenLen s) s)
+pub tokens-cons : (at line : ℕ) (s : List ℕ) → 0 < length s
+    → tokensFrom at line s ≡ tokenAt at line s ∷ tokensFrom (at + tokenLen s) (lineAfter line s) (drop (tokenLen s) s)
 unfolding tokensFrom walk
-tokens-cons at [] h = absurd (omega arith)
-tokens-cons at (b ∷ s) h =
-    ap (λ (r : List Token). tokenAt at (b ∷ s) ∷ r)
-    (walk-pass (tokenLen (b ∷ s)) at b s (token-long (b ∷ s) h) (token-fits (b ∷ s)))
+tokens-cons at line [] h = absurd (omega arith)
+tokens-cons at line (b ∷ s) h =
+    ap (λ (r : List Token). tokenAt at line (b ∷ s) ∷ r)
+    (walk-pass (tokenLen (b ∷ s)) at line b s (token-long (b ∷ s) h) (token-fits (b ∷ s)))
 
 module _ (doc : List ℕ) (at : ℕ) where
-  -- the next token begins where this one ends
-  pub tokens-step : at < length doc
-      → tokensFrom at (drop at doc) ≡ tokenAt at (drop at doc) ∷ tokensFrom (at + tokenLen (drop at doc)) (drop (at + tokenLen (drop at doc)) doc)
-  tokens-step h = tokens-cons at (drop at doc) (omega (arith, length-drop at doc)) ∙ rw (drop-drop (tokenLen (drop at doc)) at doc)
+  -- the next token begins where this one ends, on the line there
+  pub tokens-step : (line : ℕ) → at < length doc
+      → tokensFrom at line (drop at doc) ≡ tokenAt at line (drop at doc) ∷ tokensFrom (at + tokenLen (drop at doc)) (lineAfter line (drop at doc)) (drop (at + tokenLen (drop at doc)) doc)
+  tokens-step line h = tokens-cons at line (drop at doc) (omega (arith, length-drop at doc)) ∙ rw (drop-drop (tokenLen (drop at doc)) at doc)
 
-  pub tokens-end : length doc ≤ at → tokensFrom at (drop at doc) ≡ eofAt at ∷ []
+  pub tokens-end : (line : ℕ) → length doc ≤ at → tokensFrom at line (drop at doc) ≡ eofAt at line ∷ []
   unfolding tokensFrom walk
-  tokens-end h = rw (drop-of-length-le doc h)
+  tokens-end line h = rw (drop-of-length-le doc h)
 
   pub token-fits-at : at ≤ length doc → at + tokenLen (drop at doc) ≤ length doc
   token-fits-at h = omega (arith, token-fits (drop at doc), length-drop at doc)
 
   pub token-long-at : at < length doc → 0 < tokenLen (drop at doc)
   token-long-at h = token-long (drop at doc) (omega (arith, length-drop at doc))
+
+  -- a line that does not pass its place plus 1 does not behind the token either
+  pub line-fits-at : (line : ℕ) → line ≤ at + 1 → lineAfter line (drop at doc) ≤ at + tokenLen (drop at doc) + 1
+  line-fits-at line h = omega (arith, lines-taken (tokenLen (drop at doc)) (drop at doc))
 
 pub start-fits : (doc : List ℕ) → startOf doc ≤ length doc
 unfolding startOf
@@ -132,13 +139,13 @@ start-fits doc =
     there doc 2 (omega arith))
     (λ t. omega arith)
 
-walk-count : (at k : ℕ) (s : List ℕ) → length (walk at k s) ≤ suc (length s)
+walk-count : (at line k : ℕ) (s : List ℕ) → length (walk at line k s) ≤ suc (length s)
 unfolding walk
-walk-count at k [] = omega arith
-walk-count at zero (b ∷ s) = suc-le-suc (walk-count (at + 1) (pred (tokenLen (b ∷ s))) s)
-walk-count at (suc k) (b ∷ s) = omega (arith, walk-count (at + 1) k s)
+walk-count at line k [] = omega arith
+walk-count at line zero (b ∷ s) = suc-le-suc (walk-count (at + 1) (lineBehind line b) (pred (tokenLen (b ∷ s))) s)
+walk-count at line (suc k) (b ∷ s) = omega (arith, walk-count (at + 1) (lineBehind line b) k s)
 
 -- tokens number at most the bytes plus one
 pub tokens-count : (doc : List ℕ) → length (tokensOf doc) ≤ length doc + 1
 unfolding tokensOf tokensFrom
-tokens-count doc = omega (arith, walk-count (startOf doc) 0 (drop (startOf doc) doc), length-drop (startOf doc) doc)
+tokens-count doc = omega (arith, walk-count (startOf doc) 1 0 (drop (startOf doc) doc), length-drop (startOf doc) doc)

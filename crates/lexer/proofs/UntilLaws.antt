@@ -1,67 +1,114 @@
 -- The tokens that begin before a place, turn by turn, and the runs of stores that write them.
 -- Assumes nothing.
-use Prim.Native.Nat.{ℕ, zero, suc, pred, _+_, _≤_, _<_}
-use mathlib.Core.Path.{_≡_, refl, sym, ap, _∙_}
+use Prim.Native.Nat.{ℕ, zero, suc, pred, _+_, _-_, _≤_, _<_}
+use mathlib.Core.Path.{_≡_, refl, sym, ap, _∙_, subst}
 use mathlib.Core.List.{List, [], _∷_, _++_}
 use native.Mathlib.Omega.{arith}
 use native.Mathlib.Numerals.{add-one}
 use native.Mathlib.Decide.{decLt}
 use borrow.Author.Tests.{lt-ltb, le-ltb}
-use lib.ListN.{length, getD, drop, set, length-drop, length-append}
-use lib.Seq.{sets, sets-eq, drop-cons, append-snoc, set-append-seam}
+use lib.ListN.{length, getD, take, drop, set, length-drop, length-append}
+use lib.Seq.{sets, sets-eq, drop-cons, drop-drop, append-snoc, set-append-seam}
 use Rattle.token.specs.declared.Token.{Token}
+use Rattle.lexer.specs.Lines.{lineEnds, lineBehind}
 use Rattle.lexer.specs.Table.{tokenLen}
-use Rattle.lexer.specs.Tokens.{tokenAt, eofAt, walk, tokensFrom, startOf, tokensOf}
-use Rattle.lexer.specs.Scans.{before, tokensUntil}
-use Rattle.lexer.proofs.TokenLaws.{tokens-step, tokens-end, token-long-at, start-fits}
+use Rattle.lexer.specs.Tokens.{tokenAt, eofAt, lineAfter, walk, tokensFrom, startOf, tokensOf}
+use Rattle.lexer.specs.Scans.{before, tokensUntil, linePast}
+use Rattle.lexer.proofs.TokenLaws.{tokens-step, tokens-end, token-fits-at, token-long-at, start-fits}
+use Rattle.lexer.proofs.LineLaws.{lines-none, lines-end, lines-split, behind-front}
 
-module _ (doc : List ℕ) (stop at : ℕ) where
+module _ (doc : List ℕ) (stop at line : ℕ) where
   pub until-step : at < stop → stop ≤ length doc
-      → tokensUntil stop at doc ≡ tokenAt at (drop at doc) ∷ tokensUntil stop (at + tokenLen (drop at doc)) doc
+      → tokensUntil stop at line doc ≡ tokenAt at line (drop at doc) ∷ tokensUntil stop (at + tokenLen (drop at doc)) (lineAfter line (drop at doc)) doc
   unfolding before
   until-step h l =
       let within : at < length doc = omega arith in
-      rw (tokens-step doc at within, lt-ltb at stop h)
+      rw (tokens-step doc at line within, lt-ltb at stop h)
 
-  pub until-stop : stop ≤ at → tokensUntil stop at doc ≡ []
+  pub until-stop : stop ≤ at → tokensUntil stop at line doc ≡ []
   unfolding before
   until-stop h =
       elim (decLt at (length doc)) [
-        | yes l ↦ rw (tokens-step doc at l, le-ltb at stop h)
-        | no l ↦ rw (tokens-end doc at (omega arith), le-ltb at stop h)
+        | yes l ↦ rw (tokens-step doc at line l, le-ltb at stop h)
+        | no l ↦ rw (tokens-end doc at line (omega arith), le-ltb at stop h)
       ]
 
 -- the one that begins at a place
-pub until-one : (doc : List ℕ) (at : ℕ) → at < length doc → tokensUntil (at + 1) at doc ≡ tokenAt at (drop at doc) ∷ []
-until-one doc at h =
+pub until-one : (doc : List ℕ) (at line : ℕ) → at < length doc → tokensUntil (at + 1) at line doc ≡ tokenAt at line (drop at doc) ∷ []
+until-one doc at line h =
     let n = tokenLen (drop at doc) in
-    until-step doc (at + 1) at (omega arith) (omega arith)
-    ∙ ap (λ (r : List Token). tokenAt at (drop at doc) ∷ r) (until-stop doc (at + 1) (at + n) (omega (arith, token-long-at doc at h)))
+    until-step doc (at + 1) at line (omega arith) (omega arith)
+    ∙ ap (λ (r : List Token). tokenAt at line (drop at doc) ∷ r)
+    (until-stop doc (at + 1) (at + n) (lineAfter line (drop at doc)) (omega (arith, token-long-at doc at h)))
 
 -- all of them, and Eof
-walk-until : (at k : ℕ) (s : List ℕ) → walk at k s ≡ before (at + length s) (walk at k s) ++ (eofAt (at + length s) ∷ [])
-unfolding walk before
-walk-until at k [] =
-    let same : at + 0 ≡ at = omega arith in
-    rw (same, le-ltb at at (omega arith))
-walk-until at zero (b ∷ s) =
-    let same : at + 1 + length s ≡ at + suc (length s) = omega arith in
-    let rest = walk-until (at + 1) (pred (tokenLen (b ∷ s))) s in
-    let h : at < at + suc (length s) = omega arith in
-    rw (lt-ltb at (at + suc (length s)) h) (ap (λ (r : List Token). tokenAt at (b ∷ s) ∷ r) (rw same at rest))
-walk-until at (suc k) (b ∷ s) =
-    let same : at + 1 + length s ≡ at + suc (length s) = omega arith in
-    rw same at (walk-until (at + 1) k s)
+abbrev All : ℕ → ℕ → List Token → Type 0
+All end line ts = ts ≡ before end ts ++ (eofAt end line ∷ [])
 
-pub until-all : (doc : List ℕ) → tokensOf doc ≡ tokensUntil (length doc) (startOf doc) doc ++ (eofAt (length doc) ∷ [])
+all-by : (ts : List Token) {a b l m : ℕ} → a ≡ b → l ≡ m → All a l ts → All b m ts
+all-by ts {a} {b} {l} {m} p q x = subst (λ (n : ℕ). All b n ts) q (subst (λ (n : ℕ). All n l ts) p x)
+
+walk-until : (at line k : ℕ) (s : List ℕ) → All (at + length s) (line + lineEnds s) (walk at line k s)
+unfolding walk before
+walk-until at line k [] =
+    let same : at + 0 ≡ at = omega arith in
+    let on : line + lineEnds [] ≡ line = omega (arith, lines-none) in
+    rw (same, on, le-ltb at at (omega arith))
+walk-until at line zero (b ∷ s) =
+    let k = pred (tokenLen (b ∷ s)) in
+    let on = lineBehind line b in
+    let rest : All (at + suc (length s)) (line + lineEnds (b ∷ s)) (walk (at + 1) on k s) =
+    all-by (walk (at + 1) on k s) (omega arith) (behind-front line b s) (walk-until (at + 1) on k s) in
+    let h : at < at + suc (length s) = omega arith in
+    rw (lt-ltb at (at + suc (length s)) h) (ap (λ (r : List Token). tokenAt at line (b ∷ s) ∷ r) rest)
+walk-until at line (suc k) (b ∷ s) =
+    let on = lineBehind line b in
+    all-by (walk (at + 1) on k s) (omega arith) (behind-front line b s) (walk-until (at + 1) on k s)
+
+pub until-all : (doc : List ℕ) → tokensOf doc ≡ tokensUntil (length doc) (startOf doc) 1 doc ++ (eofAt (length doc) (1 + lineEnds (drop (startOf doc) doc)) ∷ [])
 unfolding tokensOf tokensFrom
 until-all doc =
     let same : startOf doc + length (drop (startOf doc) doc) ≡ length doc = omega (arith, length-drop (startOf doc) doc, start-fits doc) in
-    rw same at (walk-until (startOf doc) 0 (drop (startOf doc) doc))
+    rw same at (walk-until (startOf doc) 1 0 (drop (startOf doc) doc))
 
-pub until-count : (doc : List ℕ) → length (tokensUntil (length doc) (startOf doc) doc) + 1 ≡ length (tokensOf doc)
+pub until-count : (doc : List ℕ) → length (tokensUntil (length doc) (startOf doc) 1 doc) + 1 ≡ length (tokensOf doc)
 until-count doc =
-    sym (ap length (until-all doc) ∙ length-append (tokensUntil (length doc) (startOf doc) doc) (eofAt (length doc) ∷ []))
+    let ts = tokensUntil (length doc) (startOf doc) 1 doc in
+    sym (ap length (until-all doc) ∙ length-append ts (eofAt (length doc) (1 + lineEnds (drop (startOf doc) doc)) ∷ []))
+
+-- ---- the line behind them
+
+pub past-step : (doc : List ℕ) (at line : ℕ) (ts : List Token)
+    → linePast doc line (tokenAt at line (drop at doc) ∷ ts) ≡ linePast doc (lineAfter line (drop at doc)) ts
+unfolding linePast
+past-step doc at line ts =
+    let n = tokenLen (drop at doc) in
+    let same : at + n - at ≡ n = omega arith in
+    ap (λ (k : ℕ). linePast doc (line + lineEnds (take k (drop at doc))) ts) same
+
+pub past-none : (doc : List ℕ) (line : ℕ) → linePast doc line [] ≡ line
+unfolding linePast
+past-none doc line = refl
+
+past-from : (n : ℕ) (doc : List ℕ) (at line : ℕ) → at ≤ length doc → length doc ≤ at + n
+    → linePast doc line (tokensUntil (length doc) at line doc) ≡ line + lineEnds (drop at doc)
+past-from zero doc at line h l =
+    rw (until-stop doc (length doc) at line (omega arith)) (past-none doc line ∙ omega (arith, lines-end doc at (omega arith)))
+past-from (suc n) doc at line h l =
+    elim (decLt at (length doc)) [
+      | yes w ↦
+          let k = tokenLen (drop at doc) in
+          let long = token-long-at doc at w in
+          rw (until-step doc (length doc) at line w (omega arith))
+          (past-step doc at line (tokensUntil (length doc) (at + k) (lineAfter line (drop at doc)) doc)
+          ∙ past-from n doc (at + k) (lineAfter line (drop at doc)) (token-fits-at doc at h) (omega arith)
+          ∙ omega (arith, lines-split k (drop at doc), ap lineEnds (drop-drop k at doc)))
+      | no w ↦ rw (until-stop doc (length doc) at line (omega arith)) (past-none doc line ∙ omega (arith, lines-end doc at (omega arith)))
+    ]
+
+pub past-all : (doc : List ℕ) (at line : ℕ) → at ≤ length doc
+    → linePast doc line (tokensUntil (length doc) at line doc) ≡ line + lineEnds (drop at doc)
+past-all doc at line h = past-from (length doc) doc at line h (omega arith)
 
 -- ---- stores
 

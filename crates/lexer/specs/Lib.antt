@@ -1,5 +1,6 @@
 pub mod Bytes
 pub mod Extents
+pub mod Lines
 pub mod Table
 pub mod Tokens
 pub mod Steps

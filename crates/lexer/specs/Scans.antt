@@ -1,11 +1,12 @@
 -- What the scanning functions look for: the promises of helpers, not rules.
 -- Assumes nothing.
-use Prim.Native.Nat.{ℕ}
+use Prim.Native.Nat.{ℕ, _+_, _-_}
 use mathlib.Core.Bool.{Bool, not, cond, _||_}
 use mathlib.Core.List.{List, [], _∷_}
-use lib.ListN.{drop}
+use lib.ListN.{take, drop}
 use lib.Dec.{ltb, eqb}
 use Rattle.token.specs.declared.Token.{Token}
+use Rattle.lexer.specs.Lines.{lineEnds}
 use Rattle.lexer.specs.Tokens.{tokensFrom}
 
 -- x is one of three bytes, or none of them
@@ -24,6 +25,11 @@ unfoldable pub before : ℕ → List Token → List Token
 before stop [] = []
 before stop (t ∷ ts) = cond (ltb (t .span .start) stop) (t ∷ before stop ts) []
 
--- the tokens of the document from `at` on that begin before a place
-abbrev pub tokensUntil : ℕ → ℕ → List ℕ → List Token
-tokensUntil stop at doc = before stop (tokensFrom at (drop at doc))
+-- the tokens of the document from `at` on, there on a line, that begin before a place
+abbrev pub tokensUntil : ℕ → ℕ → ℕ → List ℕ → List Token
+tokensUntil stop at line doc = before stop (tokensFrom at line (drop at doc))
+
+-- the line behind some tokens, or the one given where there are none
+unfoldable pub linePast : List ℕ → ℕ → List Token → ℕ
+linePast doc line [] = line
+linePast doc line (t ∷ ts) = linePast doc (t .line + lineEnds (take (t .span .end - t .span .start) (drop (t .span .start) doc))) ts

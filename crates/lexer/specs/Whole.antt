@@ -1,4 +1,4 @@
--- RULE. Whole lexing into lent records of three numbers.
+-- RULE. Whole lexing into lent records of four numbers.
 -- Assumes nothing.
 use Prim.Native.Nat.{ℕ}
 use mathlib.Core.Bool.{cond}

@@ -1,5 +1,6 @@
 // The lexer: a document's tokens one at a time, by a cursor, or all at once, into lent records.
-// Rules: specs/Bytes.antt, Extents.antt, Table.antt, Tokens.antt, Steps.antt, Whole.antt.
+// Rules: specs/Bytes.antt, Extents.antt, Lines.antt, Table.antt, Tokens.antt, Steps.antt, Whole.antt.
+mod lines;
 mod scan;
 
 ghost use mathlib.Core.Path.{_≡_};
@@ -8,12 +9,12 @@ ghost use Prim.Native.Nat.{_+_, _≤_, _<_};
 ghost use lib.ListN.{length, drop, getD};
 ghost use lib.Seq.{sets};
 ghost use Rattle.token.specs.Records.{tokenOf, recordOf};
-ghost use Rattle.lexer.specs.Tokens.{hasBom, startOf, tokenBy, tokenAt};
-ghost use Rattle.lexer.specs.Steps.{startAnswer, startNumber, startValue, startRefusal, startReturned};
+ghost use Rattle.lexer.specs.Tokens.{hasBom, startOf, tokenBy, tokenAt, lineAfter};
+ghost use Rattle.lexer.specs.Steps.{cursorOf, startAnswer, startNumber, startValue, startRefusal, startReturned};
 ghost use Rattle.lexer.specs.Steps.{stepOf, stepNumber, stepValue, stepRefusal, stepReturned};
 ghost use Rattle.lexer.specs.Whole.{recordsOf, tokenCount, lexAnswer, lexMemory};
 ghost use Rattle.lexer.specs.Whole.{lexedNumber, lexedValue, lexedLength, lexRefusal, lexReturned, lexFault};
-ghost use Rattle.lexer.specs.Scans.{tokensUntil};
+ghost use Rattle.lexer.specs.Scans.{tokensUntil, linePast};
 use text::LIMIT;
 use text::Refusal;
 use text::Utf8Check;
@@ -22,9 +23,10 @@ use token::Span;
 use token::Token;
 use token::TokenKind;
 
-// Where the next token begins, and whether Eof was given.
+// Where the next token begins, on which line, and whether Eof was given.
 pub struct Cursor {
     pub place: usize,
+    pub line: usize,
     pub ended: bool,
 }
 
@@ -48,7 +50,7 @@ pub enum Lexed {
 }
 
 impl Cursor {
-    // The starting cursor: past a byte order mark, not ended.
+    // The starting cursor: past a byte order mark, on line 1, not ended.
     pub fn start(doc: &[u8]) -> Start
         ensures answer { λ r. ⌜ r ≡ startAnswer (now (doc .entry)) ⌝ }
         ensures number { λ r. ⌜ startNumber r ≡ startRefusal (now (doc .entry)) ⌝ }
@@ -59,6 +61,7 @@ impl Cursor {
         }
         Start::At(Cursor {
             place: start_of(doc),
+            line: 1,
             ended: false,
         })
     }
@@ -70,6 +73,7 @@ impl Cursor {
         ensures value { λ r. ⌜ stepValue r ≡ stepReturned (now (doc .entry)) self ⌝ }
     {
         let place = self.place;
+        let line = self.line;
         let ended = self.ended;
         if LIMIT < doc.len() {
             return Step::Refused(Refusal::TooLong);
@@ -77,21 +81,31 @@ impl Cursor {
         if doc.len() < place {
             return Step::Refused(Refusal::OutOfPlace { length: doc.len() });
         }
+        if place + 1 < line {
+            return Step::Refused(Refusal::OutOfPlace { length: doc.len() });
+        }
         if place == doc.len() {
             if ended {
                 return Step::End;
             }
-            let eof = token_of(TokenKind::Eof, place, place);
-            return Step::Token(eof, Cursor { place, ended: true });
+            let eof = token_of(TokenKind::Eof, place, place, line);
+            return Step::Token(eof, cursor_of(place, line, true));
         }
-        let token = token_at(doc, place);
+        let next = token_at(doc, place, line);
+        let token = next.token;
         let end = token.span.end;
-        Step::Token(token, Cursor { place: end, ended })
+        Step::Token(token, cursor_of(end, next.line, ended))
     }
 }
 
+fn cursor_of(place: usize, line: usize, ended: bool) -> Cursor
+    ensures { λ r. ⌜ r ≡ cursorOf place line ended ⌝ }
+{
+    Cursor { place, line, ended }
+}
+
 // Whole lexing: every token into the lent records, from the front.
-pub fn lex(doc: &[u8], records: &mut [[usize; 3]]) -> Lexed
+pub fn lex(doc: &[u8], records: &mut [[usize; 4]]) -> Lexed
     ensures answer { λ r. ⌜ r ≡ lexAnswer (now (doc .entry)) (length (now (records .entry))) ⌝ }
     ensures number { λ r. ⌜ lexedNumber r ≡ lexRefusal (now (doc .entry)) (length (now (records .entry))) ⌝ }
     ensures value { λ r. ⌜ lexedValue r ≡ lexReturned (now (doc .entry)) ⌝ }
@@ -116,53 +130,80 @@ pub fn lex(doc: &[u8], records: &mut [[usize; 3]]) -> Lexed
 fn count(doc: &[u8]) -> usize
     ensures { λ r. ⌜ r ≡ tokenCount (now (doc .entry)) ⌝ }
 {
-    let mut spare = [[0usize; 3]; 1];
-    lex_until(doc, start_of(doc), doc.len(), &mut spare) + 1
+    let mut spare = [[0usize; 4]; 1];
+    lex_until(doc, start_of(doc), 1, doc.len(), &mut spare).count + 1
 }
 
 // The tokens into records that are enough: how many.
-fn fill(doc: &[u8], records: &mut [[usize; 3]]) -> usize
+fn fill(doc: &[u8], records: &mut [[usize; 4]]) -> usize
     requires { ⌜ tokenCount (now doc) ≤ length (now records) ⌝ }
     ensures count { λ r. ⌜ r ≡ tokenCount (now (doc .entry)) ⌝ }
     ensures memory { λ _. ⌜ now (records .exit) ≡ recordsOf (now (doc .entry)) ++ drop (tokenCount (now (doc .entry))) (now (records .entry)) ⌝ }
 {
-    let n = lex_until(doc, start_of(doc), doc.len(), records);
-    records[n] = token_of(TokenKind::Eof, doc.len(), doc.len()).as_record();
+    let all = lex_until(doc, start_of(doc), 1, doc.len(), records);
+    let n = all.count;
+    records[n] = token_of(TokenKind::Eof, doc.len(), doc.len(), all.line).as_record();
     n + 1
 }
 
-// The token that begins at a place of the document.
-fn token_at(doc: &[u8], at: usize) -> Token
-    requires { ⌜ at < length (now doc) ⌝ }
-    ensures { λ r. ⌜ r ≡ tokenAt at (drop at (now (doc .entry))) ⌝ }
+// A token, and the line behind it.
+struct Next {
+    token: Token,
+    line: usize,
+}
+
+// The token that begins at a place of the document, there on a line.
+fn token_at(doc: &[u8], at: usize, line: usize) -> Next
+    requires { ⌜ (at < length (now doc)) × (line ≤ at + 1) ⌝ }
+    ensures token { λ r. ⌜ r .token ≡ tokenAt at line (drop at (now (doc .entry))) ⌝ }
+    ensures line { λ r. ⌜ r .line ≡ lineAfter line (drop at (now (doc .entry))) ⌝ }
 {
-    let mut one = [[0usize; 3]; 1];
-    lex_until(doc, at, at + 1, &mut one);
+    let mut one = [[0usize; 4]; 1];
+    let passed = lex_until(doc, at, line, at + 1, &mut one);
     let record = one[0];
-    match TokenKind::from_number(record[0]) {
-        KindRead::Kind(kind) => token_of(kind, record[1], record[2]),
-        KindRead::Refused(_) => token_of(TokenKind::Eof, at, at),
+    let token = match TokenKind::from_number(record[0]) {
+        KindRead::Kind(kind) => token_of(kind, record[1], record[2], record[3]),
+        KindRead::Refused(_) => token_of(TokenKind::Eof, at, at, line),
+    };
+    Next {
+        token,
+        line: passed.line,
     }
+}
+
+// How many tokens were passed, and the line behind them.
+struct Passed {
+    count: usize,
+    line: usize,
 }
 
 // The tokens that begin at `start` or behind it, and before `stop`: how many, each written where a
 // record is left for it. The only caller of `process_token`, which is compiled into this loop.
-fn lex_until(doc: &[u8], start: usize, stop: usize, records: &mut [[usize; 3]]) -> usize
-    requires { ⌜ (start ≤ length (now doc)) × (stop ≤ length (now doc)) ⌝ }
-    ensures count { λ r. ⌜ r ≡ length (tokensUntil stop start (now (doc .entry))) ⌝ }
-    ensures memory { λ _. ⌜ now (records .exit) ≡ sets (now (records .entry)) 0 (map recordOf (tokensUntil stop start (now (doc .entry)))) ⌝ }
+fn lex_until(
+    doc: &[u8],
+    start: usize,
+    first: usize,
+    stop: usize,
+    records: &mut [[usize; 4]],
+) -> Passed
+    requires { ⌜ (start ≤ length (now doc)) × (stop ≤ length (now doc)) × (first ≤ start + 1) ⌝ }
+    ensures count { λ r. ⌜ r .count ≡ length (tokensUntil stop start first (now (doc .entry))) ⌝ }
+    ensures line { λ r. ⌜ r .line ≡ linePast (now (doc .entry)) first (tokensUntil stop start first (now (doc .entry))) ⌝ }
+    ensures memory { λ _. ⌜ now (records .exit) ≡ sets (now (records .entry)) 0 (map recordOf (tokensUntil stop start first (now (doc .entry)))) ⌝ }
 {
     let mut at = start;
+    let mut line = first;
     let mut n: usize = 0;
     while at < stop {
-        let token = process_token(doc, at);
+        let token = process_token(doc, at, line);
         if n < records.len() {
             records[n] = token.as_record();
         }
         n += 1;
+        line = lines::line_after(doc, token);
         at = token.span.end;
     }
-    n
+    Passed { count: n, line }
 }
 
 // Where lexing starts: behind a byte order mark.
@@ -179,140 +220,150 @@ fn has_bom(doc: &[u8]) -> bool
     scan::is_at(doc, 0, 0xEF) && (scan::is_at(doc, 1, 0xBB) && scan::is_at(doc, 2, 0xBF))
 }
 
-fn token_of(kind: TokenKind, start: usize, end: usize) -> Token
-    ensures { λ r. ⌜ r ≡ tokenOf kind start end ⌝ }
+fn token_of(kind: TokenKind, start: usize, end: usize, line: usize) -> Token
+    ensures { λ r. ⌜ r ≡ tokenOf kind start end line ⌝ }
 {
-    Token::new(kind, Span::new(start, end))
+    Token::new(kind, Span::new(start, end), line)
 }
 
 // The token that begins at a place of the document, by the byte there.
-fn process_token(doc: &[u8], at: usize) -> Token
+fn process_token(doc: &[u8], at: usize, line: usize) -> Token
     requires { ⌜ at < length (now doc) ⌝ }
-    ensures { λ r. ⌜ r ≡ tokenAt at (drop at (now (doc .entry))) ⌝ }
+    ensures { λ r. ⌜ r ≡ tokenAt at line (drop at (now (doc .entry))) ⌝ }
 {
     let b = doc[at];
     match b {
-        b'.' => lex_ascii_char(doc, at, TokenKind::Dot),
-        b'=' => lex_ascii_char(doc, at, TokenKind::Equals),
-        b',' => lex_ascii_char(doc, at, TokenKind::Comma),
-        b'[' => lex_ascii_char(doc, at, TokenKind::LeftSquareBracket),
-        b']' => lex_ascii_char(doc, at, TokenKind::RightSquareBracket),
-        b'{' => lex_ascii_char(doc, at, TokenKind::LeftCurlyBracket),
-        b'}' => lex_ascii_char(doc, at, TokenKind::RightCurlyBracket),
-        b' ' => lex_whitespace(doc, at),
-        b'\t' => lex_whitespace(doc, at),
-        b'#' => lex_comment(doc, at),
-        b'\r' => lex_crlf(doc, at),
-        b'\n' => lex_ascii_char(doc, at, TokenKind::Newline),
+        b'.' => lex_ascii_char(doc, at, line, TokenKind::Dot),
+        b'=' => lex_ascii_char(doc, at, line, TokenKind::Equals),
+        b',' => lex_ascii_char(doc, at, line, TokenKind::Comma),
+        b'[' => lex_ascii_char(doc, at, line, TokenKind::LeftSquareBracket),
+        b']' => lex_ascii_char(doc, at, line, TokenKind::RightSquareBracket),
+        b'{' => lex_ascii_char(doc, at, line, TokenKind::LeftCurlyBracket),
+        b'}' => lex_ascii_char(doc, at, line, TokenKind::RightCurlyBracket),
+        b' ' => lex_whitespace(doc, at, line),
+        b'\t' => lex_whitespace(doc, at, line),
+        b'#' => lex_comment(doc, at, line),
+        b'\r' => lex_crlf(doc, at, line),
+        b'\n' => lex_ascii_char(doc, at, line, TokenKind::Newline),
         b'\'' => {
             if scan::is_triple(doc, at, b'\'') {
-                lex_ml_literal_string(doc, at)
+                lex_ml_literal_string(doc, at, line)
             } else {
-                lex_literal_string(doc, at)
+                lex_literal_string(doc, at, line)
             }
         }
         b'"' => {
             if scan::is_triple(doc, at, b'"') {
-                lex_ml_basic_string(doc, at)
+                lex_ml_basic_string(doc, at, line)
             } else {
-                lex_basic_string(doc, at)
+                lex_basic_string(doc, at, line)
             }
         }
-        _ => lex_atom(doc, at),
+        _ => lex_atom(doc, at, line),
     }
 }
 
 // A token of one byte.
-fn lex_ascii_char(doc: &[u8], at: usize, kind: TokenKind) -> Token
+fn lex_ascii_char(doc: &[u8], at: usize, line: usize, kind: TokenKind) -> Token
     requires { ⌜ at < length (now doc) ⌝ }
-    ensures { λ r. ⌜ r ≡ tokenOf kind at (at + 1) ⌝ }
+    ensures { λ r. ⌜ r ≡ tokenOf kind at (at + 1) line ⌝ }
 {
-    token_of(kind, at, at + 1)
+    token_of(kind, at, at + 1, line)
 }
 
 // ws = *wschar
-fn lex_whitespace(doc: &[u8], at: usize) -> Token
+fn lex_whitespace(doc: &[u8], at: usize, line: usize) -> Token
     requires { ⌜ at < length (now doc) ⌝ }
-    ensures { λ r. ⌜ r ≡ tokenBy TokenKind.Whitespace at (drop at (now (doc .entry))) ⌝ }
+    ensures { λ r. ⌜ r ≡ tokenBy TokenKind.Whitespace at line (drop at (now (doc .entry))) ⌝ }
 {
-    token_of(TokenKind::Whitespace, at, scan::wschar_run(doc, at + 1))
+    token_of(
+        TokenKind::Whitespace,
+        at,
+        scan::wschar_run(doc, at + 1),
+        line,
+    )
 }
 
 // comment = comment-start-symbol *non-eol, up to a CR or an LF, whatever stands before it
-fn lex_comment(doc: &[u8], at: usize) -> Token
+fn lex_comment(doc: &[u8], at: usize, line: usize) -> Token
     requires { ⌜ at < length (now doc) ⌝ }
-    ensures { λ r. ⌜ r ≡ tokenBy TokenKind.Comment at (drop at (now (doc .entry))) ⌝ }
+    ensures { λ r. ⌜ r ≡ tokenBy TokenKind.Comment at line (drop at (now (doc .entry))) ⌝ }
 {
     token_of(
         TokenKind::Comment,
         at,
         scan::find_slice(doc, at + 1, b'\r', b'\n', b'\n'),
+        line,
     )
 }
 
 // newline =/ %x0D.0A ; and a CR alone
-fn lex_crlf(doc: &[u8], at: usize) -> Token
+fn lex_crlf(doc: &[u8], at: usize, line: usize) -> Token
     requires { ⌜ (at < length (now doc)) × (getD (now doc) at 0 ≡ 13) ⌝ }
-    ensures { λ r. ⌜ r ≡ tokenBy TokenKind.Newline at (drop at (now (doc .entry))) ⌝ }
+    ensures { λ r. ⌜ r ≡ tokenBy TokenKind.Newline at line (drop at (now (doc .entry))) ⌝ }
 {
     if scan::is_at(doc, at + 1, b'\n') {
-        return token_of(TokenKind::Newline, at, at + 2);
+        return token_of(TokenKind::Newline, at, at + 2, line);
     }
-    token_of(TokenKind::Newline, at, at + 1)
+    token_of(TokenKind::Newline, at, at + 1, line)
 }
 
 // literal-string = apostrophe *literal-char apostrophe
-fn lex_literal_string(doc: &[u8], at: usize) -> Token
+fn lex_literal_string(doc: &[u8], at: usize, line: usize) -> Token
     requires { ⌜ at < length (now doc) ⌝ }
-    ensures { λ r. ⌜ r ≡ tokenBy TokenKind.LiteralString at (drop at (now (doc .entry))) ⌝ }
+    ensures { λ r. ⌜ r ≡ tokenBy TokenKind.LiteralString at line (drop at (now (doc .entry))) ⌝ }
 {
     token_of(
         TokenKind::LiteralString,
         at,
         scan::line_tail(doc, at + Span::MARK, b'\''),
+        line,
     )
 }
 
 // ml-literal-string = ml-literal-string-delim [ newline ] ml-literal-body ml-literal-string-delim
-fn lex_ml_literal_string(doc: &[u8], at: usize) -> Token
+fn lex_ml_literal_string(doc: &[u8], at: usize, line: usize) -> Token
     requires { ⌜ at + 3 ≤ length (now doc) ⌝ }
-    ensures { λ r. ⌜ r ≡ tokenBy TokenKind.MlLiteralString at (drop at (now (doc .entry))) ⌝ }
+    ensures { λ r. ⌜ r ≡ tokenBy TokenKind.MlLiteralString at line (drop at (now (doc .entry))) ⌝ }
 {
     token_of(
         TokenKind::MlLiteralString,
         at,
         scan::ml_tail(doc, at + Span::ML_MARK, b'\''),
+        line,
     )
 }
 
 // basic-string = quotation-mark *basic-char quotation-mark
-fn lex_basic_string(doc: &[u8], at: usize) -> Token
+fn lex_basic_string(doc: &[u8], at: usize, line: usize) -> Token
     requires { ⌜ at < length (now doc) ⌝ }
-    ensures { λ r. ⌜ r ≡ tokenBy TokenKind.BasicString at (drop at (now (doc .entry))) ⌝ }
+    ensures { λ r. ⌜ r ≡ tokenBy TokenKind.BasicString at line (drop at (now (doc .entry))) ⌝ }
 {
     token_of(
         TokenKind::BasicString,
         at,
         scan::line_tail(doc, at + Span::MARK, b'"'),
+        line,
     )
 }
 
 // ml-basic-string = ml-basic-string-delim [ newline ] ml-basic-body ml-basic-string-delim
-fn lex_ml_basic_string(doc: &[u8], at: usize) -> Token
+fn lex_ml_basic_string(doc: &[u8], at: usize, line: usize) -> Token
     requires { ⌜ at + 3 ≤ length (now doc) ⌝ }
-    ensures { λ r. ⌜ r ≡ tokenBy TokenKind.MlBasicString at (drop at (now (doc .entry))) ⌝ }
+    ensures { λ r. ⌜ r ≡ tokenBy TokenKind.MlBasicString at line (drop at (now (doc .entry))) ⌝ }
 {
     token_of(
         TokenKind::MlBasicString,
         at,
         scan::ml_tail(doc, at + Span::ML_MARK, b'"'),
+        line,
     )
 }
 
 // Everything else, up to a byte that begins another token.
-fn lex_atom(doc: &[u8], at: usize) -> Token
+fn lex_atom(doc: &[u8], at: usize, line: usize) -> Token
     requires { ⌜ at < length (now doc) ⌝ }
-    ensures { λ r. ⌜ r ≡ tokenBy TokenKind.Atom at (drop at (now (doc .entry))) ⌝ }
+    ensures { λ r. ⌜ r ≡ tokenBy TokenKind.Atom at line (drop at (now (doc .entry))) ⌝ }
 {
-    token_of(TokenKind::Atom, at, scan::atom_run(doc, at + 1))
+    token_of(TokenKind::Atom, at, scan::atom_run(doc, at + 1), line)
 }

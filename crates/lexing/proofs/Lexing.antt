@@ -3,12 +3,12 @@
 use Prim.Native.Nat.{ℕ, zero, suc, _+_, _-_, _≤_, _<_}
 use mathlib.Core.Path.{_≡_, refl, sym, ap, _∙_, subst}
 use mathlib.Core.Logic.{inl, inr}
-use mathlib.Core.Bool.{true, false}
-use mathlib.Core.List.{List, [], _∷_, _++_, append-assoc, append-nil, List·Memᴰ, List·Memᴰ·cases-cons, List·Memᴰ·not-nil}
+use mathlib.Core.Bool.{Bool, true, false, cond, _||_}
+use mathlib.Core.List.{List, [], _∷_, _++_, append-assoc, append-nil, List·Memᴰ, map, List·Memᴰ·head, List·Memᴰ·tail, List·Memᴰ·cases-cons, List·Memᴰ·not-nil}
 use native.Mathlib.Omega.{arith}
 use native.Mathlib.Decide.{decLt}
 use borrow.Author.Tests.{eqb-true, lt-ltb, le-ltb, eq-eqb, ne-eqb}
-use lib.Dec.{eqb}
+use lib.Dec.{eqb, ltb}
 use lib.ListN.{length, getD, take, drop, length-drop, drop-of-length-le}
 use lib.Seq.{drop-drop}
 use Rattle.classes.proofs.Conds.{cond-case}
@@ -18,16 +18,24 @@ use Rattle.text.specs.Utf8Read.{scalars}
 use Rattle.text.proofs.EncodeLaws.{encode-1}
 use Rattle.text.proofs.ReadLaws.{scalars-char, encodes-of, front}
 use Rattle.text.proofs.CutLaws.{cut, ascii-cut, utf8-append}
+use Rattle.text.specs.declared.refusal.Refusal.the-variants.{TooLong, OutOfPlace}
+use Rattle.token.proofs.ChoiceLaws.{of-choice}
 use Rattle.token.specs.declared.TokenKind.the-variants.{Eof}
 use Rattle.token.specs.declared.Token.{Token}
+use Rattle.token.specs.Records.{tokenOf, recordOf}
+use Rattle.lexer.specs.Lines.{lineEnds, lineOf}
 use Rattle.lexer.specs.Table.{kindOf, extent, tokenLen}
-use Rattle.lexer.specs.Tokens.{tokenAt, eofAt, walk, tokensFrom, hasBom, startOf, tokensOf}
-use Rattle.lexer.specs.Steps.{cursorOf, startAnswer, startCursor, stepOf}
+use Rattle.lexer.specs.Tokens.{tokenAt, eofAt, lineAfter, walk, tokensFrom, hasBom, startOf, tokensOf}
+use Rattle.lexer.specs.Steps.{cursorOf, startAnswer, startCursor, stepWithin, astray, stepOf}
+use Rattle.lexer.specs.Whole.{recordsOf}
+use Rattle.lexer.specs.declared.Cursor.{Cursor}
 use Rattle.lexer.specs.declared.Step.{Step}
-use Rattle.lexer.specs.declared.Step.the-variants.{Token as Given, End}
+use Rattle.lexer.specs.declared.Step.the-variants.{Token as Given, End, Refused}
 use Rattle.classes.proofs.Conds.{both-left, both-right}
-use Rattle.lexer.proofs.TokenLaws.{token-fits, token-long, token-fits-at, tokens-cons, tokens-step, tokens-end, start-fits}
-use Rattle.lexing.specs.Lexing.{stepsFrom, Gives, StepsWhole, Follow, NoGap, NotEmpty, textOf, Uncut, Local}
+use Rattle.lexer.proofs.LineLaws.{lines-none, lines-split, start-no-line, lines-taken}
+use Rattle.lexer.proofs.TokenLaws.{token-fits, token-long, token-fits-at, line-fits-at, tokens-cons, tokens-step, tokens-end, start-fits}
+use Rattle.place.specs.Positions.{positionAnswer}
+use Rattle.lexing.specs.Lexing.{cursorBehind, stepsFrom, Gives, StepsWhole, TokenLine, OnLines, RecordLines, movedCursor, movedStep, StepsMoved, Follow, NoGap, NotEmpty, textOf, Uncut, Local}
 use Rattle.lexing.specs.Cuts.{Clean, at-end, before, after, further}
 use Rattle.lexing.proofs.CutLaws.{token-clean}
 use Rattle.lexing.proofs.LocalLaws.{token-local}
@@ -35,54 +43,56 @@ use Rattle.lexing.proofs.LocalLaws.{token-local}
 -- ---- steps and whole lexing
 
 module _ (doc : List ℕ) (l : length doc ≤ limit) where
-  pub step-token : (at : ℕ) → at < length doc
-      → stepOf doc (cursorOf at false) ≡ Given (tokenAt at (drop at doc)) (cursorOf (at + tokenLen (drop at doc)) false)
+  pub step-token : (at line : ℕ) → at < length doc → line ≤ at + 1
+      → stepOf doc (cursorOf at line false) ≡ Given (tokenAt at line (drop at doc)) (cursorOf (at + tokenLen (drop at doc)) (lineAfter line (drop at doc)) false)
   unfolding stepOf
-  step-token at h =
+  step-token at line h o =
       let within : at ≤ length doc = omega arith in
       let other : at ≡ length doc → ⊥ = λ e. omega arith in
-      simp (le-ltb limit (length doc) l, le-ltb (length doc) at within, ne-eqb at (length doc) other)
+      simp (le-ltb limit (length doc) l, le-ltb (length doc) at within, le-ltb (at + 1) line o, ne-eqb at (length doc) other)
 
-  pub step-eof : stepOf doc (cursorOf (length doc) false) ≡ Given (eofAt (length doc)) (cursorOf (length doc) true)
+  pub step-eof : (line : ℕ) → line ≤ length doc + 1
+      → stepOf doc (cursorOf (length doc) line false) ≡ Given (eofAt (length doc) line) (cursorOf (length doc) line true)
   unfolding stepOf
-  step-eof =
+  step-eof line o =
       let within : length doc ≤ length doc = omega arith in
-      simp (le-ltb limit (length doc) l, le-ltb (length doc) (length doc) within, eq-eqb (length doc) (length doc) refl)
+      simp (le-ltb limit (length doc) l, le-ltb (length doc) (length doc) within, le-ltb (length doc + 1) line o, eq-eqb (length doc) (length doc) refl)
 
-  pub step-end : stepOf doc (cursorOf (length doc) true) ≡ End
+  pub step-end : (line : ℕ) → line ≤ length doc + 1 → stepOf doc (cursorOf (length doc) line true) ≡ End
   unfolding stepOf
-  step-end =
+  step-end line o =
       let within : length doc ≤ length doc = omega arith in
-      simp (le-ltb limit (length doc) l, le-ltb (length doc) (length doc) within, eq-eqb (length doc) (length doc) refl)
+      simp (le-ltb limit (length doc) l, le-ltb (length doc) (length doc) within, le-ltb (length doc + 1) line o, eq-eqb (length doc) (length doc) refl)
 
-  ended : (k : ℕ) → Gives [] (stepsFrom k doc (cursorOf (length doc) true))
+  ended : (k line : ℕ) → line ≤ length doc + 1 → Gives [] (stepsFrom k doc (cursorOf (length doc) line true))
   unfolding stepsFrom
-  ended zero = tt
-  ended (suc k) = rw step-end (ended k)
+  ended zero line o = tt
+  ended (suc k) line o = rw (step-end line o) (ended k line o)
 
-  at-the-end : (k : ℕ) → Gives (eofAt (length doc) ∷ []) (stepsFrom k doc (cursorOf (length doc) false))
+  at-the-end : (k line : ℕ) → line ≤ length doc + 1 → Gives (eofAt (length doc) line ∷ []) (stepsFrom k doc (cursorOf (length doc) line false))
   unfolding stepsFrom
-  at-the-end zero = tt
-  at-the-end (suc k) = rw step-eof (refl, ended k)
+  at-the-end zero line o = tt
+  at-the-end (suc k) line o = rw (step-eof line o) (refl, ended k line o)
 
-  from-place : (k at : ℕ) → at ≤ length doc → Gives (tokensFrom at (drop at doc)) (stepsFrom k doc (cursorOf at false))
+  from-place : (k at line : ℕ) → at ≤ length doc → line ≤ at + 1 → Gives (tokensFrom at line (drop at doc)) (stepsFrom k doc (cursorOf at line false))
   unfolding stepsFrom
-  from-place zero at h = tt
-  from-place (suc k) at h =
+  from-place zero at line h o = tt
+  from-place (suc k) at line h o =
       elim (decLt at (length doc)) [
-        | yes w ↦ rw (tokens-step doc at w, step-token at w) (refl, from-place k (at + tokenLen (drop at doc)) (token-fits-at doc at h))
+        | yes w ↦ rw (tokens-step doc at line w, step-token at line w o)
+            (refl, from-place k (at + tokenLen (drop at doc)) (lineAfter line (drop at doc)) (token-fits-at doc at h) (line-fits-at doc at line o))
         | no w ↦
             let e : at ≡ length doc = omega arith in
-            rw (e, tokens-end doc (length doc) (omega arith)) (at-the-end (suc k))
+            rw (e, tokens-end doc (length doc) line (omega arith)) (at-the-end (suc k) line (omega arith))
       ]
 
-  starts : startCursor (startAnswer doc) ≡ cursorOf (startOf doc) false
+  starts : startCursor (startAnswer doc) ≡ cursorOf (startOf doc) 1 false
   unfolding startAnswer
   starts = rw (le-ltb limit (length doc) l)
 
 pub steps-whole : StepsWhole
 unfolding tokensOf
-steps-whole doc l k = rw (starts doc l) (from-place doc l k (startOf doc) (start-fits doc))
+steps-whole doc l k = rw (starts doc l) (from-place doc l k (startOf doc) 1 (start-fits doc) (omega arith))
 
 -- ---- a clean place cuts no character
 
@@ -106,47 +116,53 @@ token-cut s u = clean-cut s (tokenLen s) (token-clean s) u
 
 -- ---- each token of the list stands at a place, by the rules
 
-pub record Stands (at : ℕ) (s : List ℕ) (t : Token) : Type 0 where
+pub record Stands (at line : ℕ) (s : List ℕ) (t : Token) : Type 0 where
   pub place : ℕ
   pub within : place ≤ length s
-  pub is : t ≡ tokenAt (at + place) (drop place s)
+  pub is : t ≡ tokenAt (at + place) (line + lineEnds (take place s)) (drop place s)
   pub whole : Utf8 s → Utf8 (drop place s)
 
-later : (at n : ℕ) (s : List ℕ) (t : Token) → n ≤ length s → (Utf8 s → Utf8 (drop n s)) → Stands (at + n) (drop n s) t → Stands at s t
-later at n s t h u w =
+token-by : {a b l m : ℕ} {s t : List ℕ} → a ≡ b → l ≡ m → s ≡ t → tokenAt a l s ≡ tokenAt b m t
+token-by {a} {b} {l} {m} {s} {t} p q e =
+    ap (λ (k : ℕ). tokenAt k l s) p ∙ ap (λ (k : ℕ). tokenAt b k s) q ∙ ap (tokenAt b m) e
+
+later : (at line n : ℕ) (s : List ℕ) (t : Token) → n ≤ length s → (Utf8 s → Utf8 (drop n s))
+    → Stands (at + n) (line + lineEnds (take n s)) (drop n s) t → Stands at line s t
+later at line n s t h u w =
     let e : drop (w .place) (drop n s) ≡ drop (n + w .place) s = drop-drop (w .place) n s in
     let same : at + n + w .place ≡ at + (n + w .place) = omega arith in
+    let on : line + lineEnds (take n s) + lineEnds (take (w .place) (drop n s)) ≡ line + lineEnds (take (n + w .place) s) =
+    omega (arith, lines-split n s, lines-split (w .place) (drop n s), lines-split (n + w .place) s, ap lineEnds e) in
     record {
       place = n + w .place;
       within = omega (arith, w .within, length-drop n s);
-      is = w .is ∙ ap (λ (k : ℕ). tokenAt k (drop (w .place) (drop n s))) same ∙ ap (tokenAt (at + (n + w .place))) e;
+      is = w .is ∙ token-by same on e;
       whole = λ x. subst Utf8 e (w .whole (u x));
     }
 
-here : (at : ℕ) (s : List ℕ) (t : Token) → t ≡ tokenAt at s → Stands at s t
-here at s t e =
-    let same : at ≡ at + 0 = omega arith in
-    record { place = 0; within = omega arith; is = e ∙ ap (λ (k : ℕ). tokenAt k s) same; whole = λ u. u }
+here : (at line : ℕ) (s : List ℕ) (t : Token) → t ≡ tokenAt at line s → Stands at line s t
+here at line s t e =
+    record { place = 0; within = omega arith; is = e ∙ token-by (omega arith) (omega (arith, lines-none)) refl; whole = λ u. u }
 
-nothing-left : (at : ℕ) → tokensFrom at [] ≡ tokenAt at [] ∷ []
+nothing-left : (at line : ℕ) → tokensFrom at line [] ≡ tokenAt at line [] ∷ []
 unfolding tokensFrom walk tokenLen kindOf extent
-nothing-left at = let same : at ≡ at + 0 = omega arith in ap (λ (k : ℕ). record { kind = Eof; span = record { start = at; end = k } } ∷ []) same
+nothing-left at line = let same : at ≡ at + 0 = omega arith in ap (λ (k : ℕ). tokenOf Eof at k line ∷ []) same
 
-last-token : (at : ℕ) (t : Token) → List·Memᴰ t (tokensFrom at []) → Stands at [] t
-last-token at t m =
-    elim (List·Memᴰ·cases-cons (subst (List·Memᴰ t) (nothing-left at) m)) [ inl e ↦ here at [] t e | inr k ↦ absurd (List·Memᴰ·not-nil k) ]
+last-token : (at line : ℕ) (t : Token) → List·Memᴰ t (tokensFrom at line []) → Stands at line [] t
+last-token at line t m =
+    elim (List·Memᴰ·cases-cons (subst (List·Memᴰ t) (nothing-left at line) m)) [ inl e ↦ here at line [] t e | inr k ↦ absurd (List·Memᴰ·not-nil k) ]
 
-each-token : (n at : ℕ) (s : List ℕ) → length s ≤ n → (t : Token) → List·Memᴰ t (tokensFrom at s) → Stands at s t
-each-token zero at [] l t m = last-token at t m
-each-token zero at (b ∷ s) l t m = absurd (omega arith)
-each-token (suc n) at [] l t m = last-token at t m
-each-token (suc n) at (b ∷ s) l t m =
+each-token : (n at line : ℕ) (s : List ℕ) → length s ≤ n → (t : Token) → List·Memᴰ t (tokensFrom at line s) → Stands at line s t
+each-token zero at line [] l t m = last-token at line t m
+each-token zero at line (b ∷ s) l t m = absurd (omega arith)
+each-token (suc n) at line [] l t m = last-token at line t m
+each-token (suc n) at line (b ∷ s) l t m =
     let long = token-long (b ∷ s) (omega arith) in
     let fits = token-fits (b ∷ s) in
-    elim (List·Memᴰ·cases-cons (subst (List·Memᴰ t) (tokens-cons at (b ∷ s) (omega arith)) m)) [
-      | inl e ↦ here at (b ∷ s) t e
-      | inr k ↦ later at (tokenLen (b ∷ s)) (b ∷ s) t fits (λ u. token-cut (b ∷ s) u .1)
-          (each-token n (at + tokenLen (b ∷ s)) (drop (tokenLen (b ∷ s)) (b ∷ s)) (omega (arith, length-drop (tokenLen (b ∷ s)) (b ∷ s))) t k)
+    elim (List·Memᴰ·cases-cons (subst (List·Memᴰ t) (tokens-cons at line (b ∷ s) (omega arith)) m)) [
+      | inl e ↦ here at line (b ∷ s) t e
+      | inr k ↦ later at line (tokenLen (b ∷ s)) (b ∷ s) t fits (λ u. token-cut (b ∷ s) u .1)
+          (each-token n (at + tokenLen (b ∷ s)) (lineAfter line (b ∷ s)) (drop (tokenLen (b ∷ s)) (b ∷ s)) (omega (arith, length-drop (tokenLen (b ∷ s)) (b ∷ s))) t k)
     ]
 
 -- ---- behind a byte order mark
@@ -177,16 +193,23 @@ start-cut s u =
 
 -- ---- each token of a document
 
+-- lines counted from the start on are those counted from byte 0 on: a byte order mark holds no LF
+line-by : (doc : List ℕ) (n place : ℕ) → place ≡ startOf doc + n → 1 + lineEnds (take n (drop (startOf doc) doc)) ≡ lineOf doc place
+line-by doc n place e =
+    let rest : drop n (drop (startOf doc) doc) ≡ drop place doc = drop-drop n (startOf doc) doc ∙ ap (λ (k : ℕ). drop k doc) (sym e) in
+    omega (arith, lines-split n (drop (startOf doc) doc), lines-split place doc, start-no-line doc, ap lineEnds rest)
+
 pub record Lexed (doc : List ℕ) (t : Token) : Type 0 where
   pub within : t .span .start ≤ length doc
   pub kind : t .kind ≡ kindOf (drop (t .span .start) doc)
   pub end : t .span .end ≡ t .span .start + tokenLen (drop (t .span .start) doc)
+  pub line : t .line ≡ lineOf doc (t .span .start)
   pub whole : Utf8 doc → Utf8 (drop (t .span .start) doc)
 
 pub lexed : (doc : List ℕ) (t : Token) → List·Memᴰ t (tokensOf doc) → Lexed doc t
 unfolding tokensOf
 lexed doc t m =
-    let w = each-token (length (drop (startOf doc) doc)) (startOf doc) (drop (startOf doc) doc) (omega arith) t m in
+    let w = each-token (length (drop (startOf doc) doc)) (startOf doc) 1 (drop (startOf doc) doc) (omega arith) t m in
     let start : t .span .start ≡ startOf doc + w .place = ap (λ (u : Token). u .span .start) (w .is) in
     let e : drop (w .place) (drop (startOf doc) doc) ≡ drop (t .span .start) doc =
     drop-drop (w .place) (startOf doc) doc ∙ ap (λ (n : ℕ). drop n doc) (sym start) in
@@ -194,8 +217,65 @@ lexed doc t m =
       within = omega (arith, w .within, length-drop (startOf doc) doc, start-fits doc);
       kind = ap (λ (u : Token). u .kind) (w .is) ∙ ap kindOf e;
       end = ap (λ (u : Token). u .span .end) (w .is) ∙ ap (λ (x : List ℕ). startOf doc + w .place + tokenLen x) e ∙ ap (λ (n : ℕ). n + tokenLen (drop (t .span .start) doc)) (sym start);
+      line = ap (λ (u : Token). u .line) (w .is) ∙ line-by doc (w .place) (t .span .start) start;
       whole = λ u. subst Utf8 e (w .whole (start-cut doc u));
     }
+
+-- ---- lines
+
+pub token-line : TokenLine
+token-line doc t m = lexed doc t m .line
+
+pub record-lines : RecordLines
+unfolding recordsOf positionAnswer
+record-lines doc l = go (tokensOf doc) (λ t m. lexed doc t m)
+  where
+    go : (ts : List Token) → ((t : Token) → List·Memᴰ t ts → Lexed doc t) → OnLines doc (map recordOf ts)
+    go [] h = tt
+    go (t ∷ ts) h =
+        let w = h t (List·Memᴰ·head refl) in (
+          w .line ∙ rw (le-ltb limit (length doc) l, le-ltb (length doc) (t .span .start) (w .within)),
+          go ts (λ u m. h u (List·Memᴰ·tail m)),
+        )
+
+-- one step from a cursor some lines on
+step-moved : (doc : List ℕ) (c : Cursor) (d : ℕ) → c .line + d ≤ c .place + 1 → stepOf doc (movedCursor d c) ≡ movedStep d (stepOf doc c)
+unfolding stepOf
+step-moved doc c d h =
+    let s = drop (c .place) doc in
+    let on : lineAfter (c .line + d) s ≡ lineAfter (c .line) s + d = omega arith in
+    let in-line = le-ltb (c .place + 1) (c .line) (omega arith) in
+    let moved-too = le-ltb (c .place + 1) (c .line + d) h in
+    let same : astray doc (movedCursor d c) ≡ astray doc c = ap (λ (x : Bool). ltb (length doc) (c .place) || x) (moved-too ∙ sym in-line) in
+    let token = ap (λ (n : ℕ). Given (tokenAt (c .place) (c .line + d) s) (cursorOf (c .place + tokenLen s) n (c .ended))) on in
+    let within : stepWithin doc (movedCursor d c) ≡ movedStep d (stepWithin doc c) =
+    sym (of-choice (movedStep d) (eqb (c .place) (length doc)) (of-choice (movedStep d) (c .ended) refl refl) (sym token)) in
+    sym (of-choice (movedStep d) (ltb limit (length doc)) refl (of-choice (movedStep d) (astray doc c) refl (sym within))
+    ∙ ap (λ (x : Bool). cond (ltb limit (length doc)) (Refused TooLong) (cond x (Refused (OutOfPlace (length doc))) (stepWithin doc (movedCursor d c)))) (sym same))
+
+-- and the next one may be as many lines on
+still-moved : (doc : List ℕ) (c : Cursor) (d : ℕ) → c .line + d ≤ c .place + 1
+    → cursorBehind c (stepOf doc c) .line + d ≤ cursorBehind c (stepOf doc c) .place + 1
+unfolding stepOf
+still-moved doc c d h =
+    let P : Step → Type 0 = λ s. cursorBehind c s .line + d ≤ cursorBehind c s .place + 1 in
+    let s = drop (c .place) doc in
+    cond-case P (ltb limit (length doc)) (λ _. h)
+    λ _. cond-case P (astray doc c) (λ _. h)
+    λ _. cond-case P (eqb (c .place) (length doc)) (λ _. cond-case P (c .ended) (λ _. h) (λ _. h))
+    (λ _. omega (arith, lines-taken (tokenLen s) s))
+
+pub steps-moved : StepsMoved
+unfolding stepsFrom
+steps-moved doc c d h zero = refl
+steps-moved doc c d h (suc k) =
+    let next = cursorBehind c (stepOf doc c) in
+    rw (step-moved doc c d h) (ap (λ (r : List Step). movedStep d (stepOf doc c) ∷ r) (behind (stepOf doc c) ∙ steps-moved doc next d (still-moved doc c d h) k))
+  where
+    behind : (s : Step) → stepsFrom k doc (cursorBehind (movedCursor d c) (movedStep d s)) ≡ stepsFrom k doc (movedCursor d (cursorBehind c s))
+    behind (Given t e) = refl
+    behind End = refl
+    behind (Refused r) = refl
 
 nothing-kind : kindOf [] ≡ Eof
 unfolding kindOf
@@ -226,28 +306,29 @@ nothing-long : tokenLen [] ≡ 0
 unfolding tokenLen kindOf extent
 nothing-long = refl
 
-follow-end : (at : ℕ) → Follow at (tokensFrom at []) (at + 0)
-follow-end at = rw (nothing-left at) (refl, omega (arith, nothing-long))
+follow-end : (at line : ℕ) → Follow at (tokensFrom at line []) (at + 0)
+follow-end at line = rw (nothing-left at line) (refl, omega (arith, nothing-long))
 
-follow : (n at : ℕ) (s : List ℕ) → length s ≤ n → Follow at (tokensFrom at s) (at + length s)
-follow zero at [] l = follow-end at
-follow zero at (b ∷ s) l = absurd (omega arith)
-follow (suc n) at [] l = follow-end at
-follow (suc n) at (b ∷ s) l =
+follow : (n at line : ℕ) (s : List ℕ) → length s ≤ n → Follow at (tokensFrom at line s) (at + length s)
+follow zero at line [] l = follow-end at line
+follow zero at line (b ∷ s) l = absurd (omega arith)
+follow (suc n) at line [] l = follow-end at line
+follow (suc n) at line (b ∷ s) l =
     let k = tokenLen (b ∷ s) in
     let rest = drop k (b ∷ s) in
     let long = token-long (b ∷ s) (omega arith) in
     let fits = token-fits (b ∷ s) in
     let left = length-drop k (b ∷ s) in
     let same : at + k + length rest ≡ at + length (b ∷ s) = omega arith in
-    rw (tokens-cons at (b ∷ s) (omega arith)) (refl, subst (Follow (at + k) (tokensFrom (at + k) rest)) same (follow n (at + k) rest (omega arith)))
+    let on = lineAfter line (b ∷ s) in
+    rw (tokens-cons at line (b ∷ s) (omega arith)) (refl, subst (Follow (at + k) (tokensFrom (at + k) on rest)) same (follow n (at + k) on rest (omega arith)))
 
 pub no-gap : NoGap
 unfolding tokensOf
 no-gap doc =
     let same : startOf doc + length (drop (startOf doc) doc) ≡ length doc = omega (arith, length-drop (startOf doc) doc, start-fits doc) in
-    subst (Follow (startOf doc) (tokensFrom (startOf doc) (drop (startOf doc) doc))) same
-    (follow (length (drop (startOf doc) doc)) (startOf doc) (drop (startOf doc) doc) (omega arith))
+    subst (Follow (startOf doc) (tokensFrom (startOf doc) 1 (drop (startOf doc) doc))) same
+    (follow (length (drop (startOf doc) doc)) (startOf doc) 1 (drop (startOf doc) doc) (omega arith))
 
 -- ---- how far a token looks
 

@@ -1,16 +1,20 @@
 -- What is said of lexing: statements only, each proved in proofs/Lexing.antt under the name that its comment gives.
 -- Assumes nothing.
-use Prim.Native.Nat.{ℕ, zero, suc, _-_, _≤_, _<_}
+use Prim.Native.Nat.{ℕ, zero, suc, _+_, _-_, _≤_, _<_}
 use mathlib.Core.Path.{_≡_}
-use mathlib.Core.List.{List, [], _∷_, List·Memᴰ}
-use lib.ListN.{length, take, drop}
+use mathlib.Core.List.{List, [], _∷_, map, List·Memᴰ}
+use lib.ListN.{length, getD, take, drop}
 use Rattle.text.specs.Refusals.{limit}
 use Rattle.text.specs.Utf8.{Utf8}
 use Rattle.token.specs.declared.TokenKind.the-variants.{Eof}
 use Rattle.token.specs.declared.Token.{Token}
+use Rattle.token.specs.Records.{tokenOf}
+use Rattle.lexer.specs.Lines.{lineOf}
 use Rattle.lexer.specs.Table.{kindOf, tokenLen}
 use Rattle.lexer.specs.Tokens.{startOf, tokensOf}
-use Rattle.lexer.specs.Steps.{startAnswer, startCursor, stepOf}
+use Rattle.lexer.specs.Steps.{cursorOf, startAnswer, startCursor, stepOf}
+use Rattle.lexer.specs.Whole.{recordsOf}
+use Rattle.place.specs.Positions.{positionAnswer, positionLine}
 use Rattle.lexer.specs.declared.Cursor.{Cursor}
 use Rattle.lexer.specs.declared.Step.{Step}
 use Rattle.lexer.specs.declared.Step.the-variants.{Token as Given, End, Refused}
@@ -42,6 +46,36 @@ Gives (t ∷ ts) (Refused r ∷ rest) = ⊥
 abbrev pub StepsWhole : Type 0
 StepsWhole =
     (doc : List ℕ) → length doc ≤ limit → (k : ℕ) → Gives (tokensOf doc) (stepsFrom k doc (startCursor (startAnswer doc)))
+
+-- ---- lines
+
+-- `token-line`: each token of whole lexing bears the line of its first byte, Eof that of the end
+abbrev pub TokenLine : Type 0
+TokenLine = (doc : List ℕ) (t : Token) → List·Memᴰ t (tokensOf doc) → t .line ≡ lineOf doc (t .span .start)
+
+-- the last number of each record is the line that `position_of` answers for the second
+abbrev pub OnLines : List ℕ → List (List ℕ) → Type 0
+OnLines doc [] = Unit
+OnLines doc (r ∷ rs) = (getD r 3 0 ≡ positionLine (positionAnswer doc (getD r 1 0))) × OnLines doc rs
+
+-- `record-lines`: it is so in the records of whole lexing
+abbrev pub RecordLines : Type 0
+RecordLines = (doc : List ℕ) → length doc ≤ limit → OnLines doc (recordsOf doc)
+
+-- a cursor, and a step's answer, d lines on
+abbrev pub movedCursor : ℕ → Cursor → Cursor
+movedCursor d c = cursorOf (c .place) (c .line + d) (c .ended)
+
+abbrev pub movedStep : ℕ → Step → Step
+movedStep d (Given t c) = Given (tokenOf (t .kind) (t .span .start) (t .span .end) (t .line + d)) (movedCursor d c)
+movedStep d End = End
+movedStep d (Refused r) = Refused r
+
+-- `steps-moved`: from a cursor d lines on, which its place still allows, all steps answer the same but d lines on
+abbrev pub StepsMoved : Type 0
+StepsMoved =
+    (doc : List ℕ) (c : Cursor) (d : ℕ) → c .line + d ≤ c .place + 1
+    → (k : ℕ) → stepsFrom k doc (movedCursor d c) ≡ map (movedStep d) (stepsFrom k doc c)
 
 -- ---- the tokens together
 

@@ -1,6 +1,6 @@
-// The lister's work: the tokens of standard input, a line for each: kind, start, end, in decimal,
-// one space between, LF after; on refusal the one line `refused`, number, returned number, and with
-// number 1 the second one that it returns.
+// The lister's work: the tokens of standard input, a line for each: kind, start, end, line, in
+// decimal, one space between, LF after; on refusal the one line `refused`, number, returned number,
+// and with number 1 the second one that it returns.
 // What a program prints is tested, not proved; proved is that this ends and stays in its buffers.
 ghost use mathlib.Core.Path.{_≡_};
 ghost use Prim.Native.Nat.{_+_, _≤_};
@@ -12,11 +12,11 @@ use libc::STDOUT_FILENO;
 // The most bytes that the lister takes.
 const MOST: usize = 65536;
 
-// The bytes that are collected before they are written, and the most that one line takes: three
+// The bytes that are collected before they are written, and the most that one line takes: four
 // numbers of at most 20 digits, and a byte behind each.
 const ROOM: usize = 16384;
 
-const LINE: usize = 63;
+const LINE: usize = 84;
 
 // Lists standard input. It returns: of what is read and written no contract can speak.
 pub fn list_input()
@@ -34,7 +34,7 @@ fn list(doc: &[u8]) {
         return;
     }
     // As many records as bytes and one: enough for every document that comes here.
-    let mut records = [[0usize; 3]; 65537];
+    let mut records = [[0usize; 4]; 65537];
     match lexer::lex(doc, &mut records) {
         Lexed::Tokens(count) => print_records(&records, count),
         Lexed::Refused(refusal) => print_refused(
@@ -45,7 +45,7 @@ fn list(doc: &[u8]) {
     }
 }
 
-fn print_records(records: &[[usize; 3]], count: usize) {
+fn print_records(records: &[[usize; 4]], count: usize) {
     let mut space = [0u8; ROOM];
     let lines: &mut [u8] = &mut space;
     let mut at: usize = 0;
@@ -56,7 +56,7 @@ fn print_records(records: &[[usize; 3]], count: usize) {
         }
         let r = records[i];
         at = make_room(lines, at);
-        at = put_line(lines, at, r[0], r[1], r[2]);
+        at = put_line(lines, at, r);
         i += 1;
     }
     write_lines(lines, at);
@@ -64,8 +64,8 @@ fn print_records(records: &[[usize; 3]], count: usize) {
 
 // The place for one more line: where it might not fit, what is collected is written first.
 fn make_room(lines: &[u8], at: usize) -> usize
-    requires { ⌜ (at ≤ length (now lines)) × (63 ≤ length (now lines)) ⌝ }
-    ensures { λ r. ⌜ r + 63 ≤ length (now (lines .entry)) ⌝ }
+    requires { ⌜ (at ≤ length (now lines)) × (84 ≤ length (now lines)) ⌝ }
+    ensures { λ r. ⌜ r + 84 ≤ length (now (lines .entry)) ⌝ }
 {
     if lines.len() - LINE < at {
         write_lines(lines, at);
@@ -92,14 +92,15 @@ fn print_refused(number: usize, value: usize, length: usize) {
     io::write_all(STDOUT_FILENO, b"\n");
 }
 
-// A line of three numbers at a place of the buffer: the place behind it.
-fn put_line(out: &mut [u8], at: usize, kind: usize, start: usize, end: usize) -> usize
-    requires { ⌜ at + 63 ≤ length (now out) ⌝ }
-    ensures { λ r. ⌜ r ≤ at + 63 ⌝ }
+// A line of a record's four numbers at a place of the buffer: the place behind it.
+fn put_line(out: &mut [u8], at: usize, record: [usize; 4]) -> usize
+    requires { ⌜ at + 84 ≤ length (now out) ⌝ }
+    ensures { λ r. ⌜ r ≤ at + 84 ⌝ }
 {
-    let behind_kind = put_number(out, at, kind, b' ');
-    let behind_start = put_number(out, behind_kind, start, b' ');
-    put_number(out, behind_start, end, b'\n')
+    let behind_kind = put_number(out, at, record[0], b' ');
+    let behind_start = put_number(out, behind_kind, record[1], b' ');
+    let behind_end = put_number(out, behind_start, record[2], b' ');
+    put_number(out, behind_end, record[3], b'\n')
 }
 
 // A number in decimal and one byte behind it: the place behind both.

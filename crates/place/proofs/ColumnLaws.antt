@@ -19,9 +19,10 @@ use Rattle.text.specs.Utf8Read.{guess, scalars}
 use Rattle.text.proofs.EncodeLaws.{Tail, Parts, parts, guess-encode}
 use Rattle.text.proofs.ReadLaws.{scalars-of}
 use Rattle.lexer.specs.Tokens.{hasBom, startOf}
+use Rattle.lexer.proofs.LineLaws.{mark-bytes}
 use Rattle.place.specs.Positions.{columnBehind, columnOf}
 use Rattle.place.specs.ColumnMeans.{begun, unmarked, onLine}
-use Rattle.place.proofs.PositionLaws.{turned, mark-bytes}
+use Rattle.place.proofs.PositionLaws.{turned}
 
 -- ---- the bytes of one character
 

@@ -1,33 +1,21 @@
--- Lines and columns at a place, for the loop that counts them, and what a column is.
+-- Columns at a place, for the loop that counts them, and what a column is.
 -- Assumes nothing.
 use Prim.Native.Nat.{ℕ, suc, _+_, _≤_, _<_}
-use mathlib.Core.Path.{_≡_, refl, sym, ap, _∙_}
-use mathlib.Core.Bool.{Bool, true, false, cond, _&&_}
+use mathlib.Core.Path.{_≡_, ap, _∙_}
+use mathlib.Core.Bool.{Bool, true, false, cond}
 use mathlib.Core.List.{List, [], _∷_, _++_}
-use native.Mathlib.Decide.{decLt}
 use native.Mathlib.Omega.{arith}
 use native.Mathlib.Numerals.{add-one}
-use borrow.Author.Tests.{eq-eqb, ne-eqb, eqb-true}
+use borrow.Author.Tests.{eq-eqb, ne-eqb}
 use lib.Dec.{eqb}
-use lib.ListN.{length, getD, take, drop, drop-of-length-le, length-take}
-use lib.Seq.{drop-cons, getD-take}
+use lib.ListN.{length, getD, drop, drop-of-length-le}
+use lib.Seq.{drop-cons}
 use Rattle.classes.specs.Classes.{continuation}
-use Rattle.classes.proofs.Conds.{cond-case, both-left, both-right}
-use Rattle.classes.proofs.RunLaws.{there}
-use Rattle.lexer.specs.Tokens.{hasBom, startOf}
-use Rattle.place.specs.Positions.{lineEnds, columnBehind}
+use Rattle.place.specs.Positions.{columnBehind}
 
 -- what one byte does to the column
 abbrev pub turned : ℕ → ℕ → ℕ
 turned b c = cond (eqb b 10) 1 (cond (continuation b) c (c + 1))
-
-lf-front : (b : ℕ) (s : List ℕ) → eqb b 10 ≡ true → lineEnds (b ∷ s) ≡ suc (lineEnds s)
-unfolding lineEnds
-lf-front b s t = rw t
-
-other-front : (b : ℕ) (s : List ℕ) → eqb b 10 ≡ false → lineEnds (b ∷ s) ≡ lineEnds s
-unfolding lineEnds
-other-front b s t = rw t
 
 column-front : (b c d : ℕ) (s : List ℕ) → turned b c ≡ d → columnBehind c (b ∷ s) ≡ columnBehind d s
 unfolding columnBehind
@@ -36,12 +24,6 @@ column-front b c d s e = ap (λ (k : ℕ). columnBehind k s) e
 module _ (s : List ℕ) (i : ℕ) (h : i < length s) where
   split : drop i s ≡ getD s i 0 ∷ drop (i + 1) s
   split = rw (add-one, drop-cons s i 0)
-
-  pub line-at-lf : getD s i 0 ≡ 10 → lineEnds (drop i s) ≡ suc (lineEnds (drop (i + 1) s))
-  line-at-lf e = rw split (lf-front (getD s i 0) (drop (i + 1) s) (eq-eqb _ _ e))
-
-  pub line-at-other : (getD s i 0 ≡ 10 → ⊥) → lineEnds (drop i s) ≡ lineEnds (drop (i + 1) s)
-  line-at-other e = rw split (other-front (getD s i 0) (drop (i + 1) s) (ne-eqb _ _ e))
 
   column-at : (c d : ℕ) → turned (getD s i 0) c ≡ d → columnBehind c (drop i s) ≡ columnBehind d (drop (i + 1) s)
   column-at c d e = rw split (column-front (getD s i 0) c d (drop (i + 1) s) e)
@@ -58,52 +40,9 @@ module _ (s : List ℕ) (i : ℕ) (h : i < length s) where
       → columnBehind c (drop i s) ≡ columnBehind c (drop (i + 1) s)
   column-inside c e t = column-at c c (rw (ne-eqb (getD s i 0) 10 e, t))
 
-module _ (s : List ℕ) (i : ℕ) (h : length s ≤ i) where
-  pub lines-end : lineEnds (drop i s) ≡ 0
-  unfolding lineEnds
-  lines-end = rw (drop-of-length-le s h)
-
-  pub column-end : (c : ℕ) → columnBehind c (drop i s) ≡ c
-  unfolding columnBehind
-  column-end c = rw (drop-of-length-le s h)
-
--- ---- a byte order mark holds no LF
-
--- passing a byte that is no LF, or that is not there, passes no line end
-line-past : (s : List ℕ) (i : ℕ) → (getD s i 0 ≡ 10 → ⊥) → lineEnds (drop i s) ≡ lineEnds (drop (i + 1) s)
-line-past s i e =
-    elim (decLt i (length s)) [
-      | yes l ↦ line-at-other s i l e
-      | no l ↦ lines-end s i (omega arith) ∙ sym (lines-end s (i + 1) (omega arith))
-    ]
-
--- a byte that is there and no LF is none in a part from the front either
-no-lf-in : (s : List ℕ) (n i b : ℕ) → getD s i 0 ≡ b → 10 < b → getD (take n s) i 0 ≡ 10 → ⊥
-no-lf-in s n i b e h f =
-    let l = there (take n s) i (omega arith) in
-    omega (arith, getD-take n s i 0 (omega (arith, length-take n s)))
-
-pub mark-bytes : (s : List ℕ) → hasBom s ≡ true → (getD s 0 0 ≡ 0xEF) × (getD s 1 0 ≡ 0xBB) × (getD s 2 0 ≡ 0xBF)
-mark-bytes s t =
-    let first = eqb (getD s 0 0) 0xEF in
-    let second = eqb (getD s 1 0) 0xBB in
-    let third = eqb (getD s 2 0) 0xBF in
-    let behind = both-right first (second && third) t in (
-      eqb-true _ _ (both-left first (second && third) t),
-      eqb-true _ _ (both-left second third behind),
-      eqb-true _ _ (both-right second third behind),
-    )
-
-pub mark-no-line : (s : List ℕ) (n : ℕ) → lineEnds (drop (startOf s) (take n s)) ≡ lineEnds (take n s)
-unfolding startOf
-mark-no-line s n =
-    cond-case (λ (k : ℕ). lineEnds (drop k (take n s)) ≡ lineEnds (take n s)) (hasBom s)
-    (λ t.
-    let m = mark-bytes s t in
-    let past : (i b : ℕ) → getD s i 0 ≡ b → 10 < b → lineEnds (drop i (take n s)) ≡ lineEnds (drop (i + 1) (take n s)) =
-    λ i b e h. line-past (take n s) i (no-lf-in s n i b e h) in
-    sym (past 0 _ (m .0) (omega arith) ∙ past 1 _ (m .1) (omega arith) ∙ past 2 _ (m .2) (omega arith)))
-    (λ t. refl)
+pub column-end : (s : List ℕ) (i : ℕ) → length s ≤ i → (c : ℕ) → columnBehind c (drop i s) ≡ c
+unfolding columnBehind
+column-end s i h c = rw (drop-of-length-le s h)
 
 -- ---- what a column is
 

@@ -16,7 +16,7 @@ use Rattle.place.specs.Spans.{inside, misplaced, spanAnswer}
 use Rattle.place.specs.declared.SpanCheck.{SpanCheck}
 use Rattle.place.specs.declared.SpanCheck.the-variants.{Whole, Refused}
 
-or-false : (x y : Bool) → (x || y) ≡ false → (x ≡ false) × (y ≡ false)
+pub or-false : (x y : Bool) → (x || y) ≡ false → (x ≡ false) × (y ≡ false)
 or-false true y t = not-both refl t
 or-false false y t = (refl, t)
 

@@ -1,6 +1,6 @@
--- RULE. The line and column of an offset.
+-- RULE. The line and column of an offset; what a line is stands in crate `lexer`, whose tokens bear it too.
 -- Assumes nothing.
-use Prim.Native.Nat.{ℕ, suc, _+_}
+use Prim.Native.Nat.{ℕ, _+_}
 use mathlib.Core.Bool.{cond}
 use mathlib.Core.List.{List, [], _∷_}
 use lib.ListN.{length, take, drop}
@@ -8,24 +8,16 @@ use lib.Dec.{ltb, eqb}
 use Rattle.classes.specs.Classes.{continuation}
 use Rattle.text.specs.Refusals.{limit, refusalNumber, refusalValue}
 use Rattle.text.specs.declared.refusal.Refusal.the-variants.{TooLong, OutOfPlace}
+use Rattle.lexer.specs.Lines.{lineOf}
 use Rattle.lexer.specs.Tokens.{startOf}
 use Rattle.place.specs.declared.Position.{Position}
 use Rattle.place.specs.declared.Position.the-variants.{At, Refused}
-
--- the LFs in some bytes
-unfoldable pub lineEnds : List ℕ → ℕ
-lineEnds [] = 0
-lineEnds (b ∷ s) = cond (eqb b 10) (suc (lineEnds s)) (lineEnds s)
 
 -- the column behind some bytes, from the column c before them: an LF sets it to 1, a byte inside a character, 80 to BF,
 -- adds nothing, and any other byte, with which a character begins, adds one
 unfoldable pub columnBehind : ℕ → List ℕ → ℕ
 columnBehind c [] = c
 columnBehind c (b ∷ s) = columnBehind (cond (eqb b 10) 1 (cond (continuation b) c (c + 1))) s
-
--- the line is 1 plus the LFs before the offset
-abbrev pub lineOf : List ℕ → ℕ → ℕ
-lineOf doc offset = 1 + lineEnds (take offset doc)
 
 -- the column is 1 plus the characters that begin before it on its line; a byte order mark at byte 0 is not counted
 abbrev pub columnOf : List ℕ → ℕ → ℕ

@@ -76,7 +76,7 @@ module _ (doc : List ℕ) (c : Cursor) where
   unfolding nextOf
   next-given t d e = rw e
 
-  module _ (t : Token) (blank : t ≡ eofAt 0) where
+  module _ (t : Token) (blank : t ≡ eofAt 0 0) where
     pub next-end : stepOf doc c ≡ End → record { token = t; cursor = c } ≡ nextOf doc c
     unfolding nextOf
     next-end e = rw (blank, e)
@@ -110,7 +110,7 @@ tail-given t ts End rest g = absurd g
 tail-given t ts (Unstepped r) rest g = absurd g
 
 step-given : (doc : List ℕ) (ts : List Token) (k i : ℕ) (c : Cursor) → Gives ts (stepsFrom k doc c) → i < k → i < length ts
-    → nextOf doc (stepped i doc c) .token ≡ getD ts i (eofAt 0)
+    → nextOf doc (stepped i doc c) .token ≡ getD ts i (eofAt 0 0)
 unfolding nextOf stepsFrom stepped
 step-given doc [] k i c g h l = absurd (omega arith)
 step-given doc (t ∷ ts) zero i c g h l = absurd (omega arith)
@@ -120,7 +120,7 @@ step-given doc (t ∷ ts) (suc k) (suc i) c g h l =
     step-given doc ts k i (nextOf doc c .cursor) (tail-given t ts (stepOf doc c) rest g) (omega arith) (omega arith)
 
 pub next-token : (doc : List ℕ) (i : ℕ) → length doc ≤ limit → i < tokenCount doc
-    → nextOf doc (cursorAfter doc i) .token ≡ getD (tokensOf doc) i (eofAt 0)
+    → nextOf doc (cursorAfter doc i) .token ≡ getD (tokensOf doc) i (eofAt 0 0)
 unfolding cursorAfter
 next-token doc i l h =
     step-given doc (tokensOf doc) (suc i) i (startCursor (startAnswer doc)) (steps-whole doc l (suc i)) (omega arith) h
@@ -151,7 +151,7 @@ module _ (doc : List ℕ) (old : List Token) where
       go (nothing e m) = absurd (omega (arith, e, h))
       go (whole e r l m) =
           ap (set (take k (tokensOf doc) ++ drop k old) k) (next-token doc k l (omega (arith, e, h)))
-          ∙ store-next (tokensOf doc) old k (eofAt 0) (omega (arith, e, h)) (omega (arith, e, h, r))
+          ∙ store-next (tokensOf doc) old k (eofAt 0 0) (omega (arith, e, h)) (omega (arith, e, h, r))
 
   pub length-stored : (k : ℕ) → k ≤ writesOf (lexAnswer doc (length old)) → length (stored doc old k) ≡ length old
   unfolding stored

@@ -1,4 +1,4 @@
--- RULE. Whole lexing into lent token structs. What it answers is what whole lexing answers for as many records of three
+-- RULE. Whole lexing into lent token structs. What it answers is what whole lexing answers for as many records of four
 -- numbers, `lexAnswer`: refusals 2, 1 and 3 in this order, else the count of tokens.
 -- Assumes nothing.
 use Prim.Native.Nat.{ℕ}
@@ -22,9 +22,9 @@ tokensChecked Valid doc old = cond (ltb (length old) (tokenCount doc)) old (toke
 unfoldable pub tokenMemory : List ℕ → List Token → List Token
 tokenMemory doc old = tokensChecked (checkOf doc) doc old
 
--- eight records before anything is written: an Eof at place 0 in each
+-- eight records before anything is written: an Eof at place 0 of line 0 in each
 abbrev pub eightBlank : List Token
-eightBlank = replicate 8 (eofAt 0)
+eightBlank = replicate 8 (eofAt 0 0)
 
 -- the answer for eight such records, and what they hold afterwards
 abbrev pub eightOf : List ℕ → LexedEight

@@ -26,11 +26,11 @@ abbrev pub writesOf : Lexed → ℕ
 writesOf (Tokens n) = n
 writesOf (Refused r) = 0
 
--- the token of a step; an Eof at place 0 where there is none
+-- the token of a step; an Eof at place 0 of line 0 where there is none
 abbrev pub tokenGiven : Step → Token
 tokenGiven (Given t c) = t
-tokenGiven End = eofAt 0
-tokenGiven (Unstepped r) = eofAt 0
+tokenGiven End = eofAt 0 0
+tokenGiven (Unstepped r) = eofAt 0 0
 
 -- a step's token and the cursor behind it
 unfoldable pub nextOf : List ℕ → Cursor → Stepped

@@ -1,5 +1,5 @@
 // Whole lexing over a lent run of token structs: the same answers, the same refusals and the same
-// tokens as `lexer::lex`, which writes records of three numbers.
+// tokens as `lexer::lex`, which writes records of four numbers.
 // Rule: specs/TokenMemory.antt.
 ghost use mathlib.Core.Path.{_≡_};
 ghost use lib.ListN.{length};
@@ -24,7 +24,7 @@ struct Stepped {
 }
 
 // Whole lexing, by value: what it answers, and eight records, of which those that it did not write
-// are an Eof at place 0.
+// are an Eof at place 0 of line 0.
 pub struct LexedEight {
     pub answer: Lexed,
     pub tokens: [Token; 8],
@@ -61,7 +61,7 @@ pub fn lex_eight(doc: &[u8]) -> LexedEight
 fn plan(doc: &[u8], room: usize) -> Lexed
     ensures { λ r. ⌜ r ≡ lexAnswer (now (doc .entry)) room ⌝ }
 {
-    let mut spare = [[0usize; 3]; 1];
+    let mut spare = [[0usize; 4]; 1];
     match lexer::lex(doc, &mut spare) {
         Lexed::Tokens(needed) => within(needed, room),
         Lexed::Refused(refusal) => match refusal {
@@ -91,7 +91,7 @@ fn writes(a: Lexed) -> usize
     }
 }
 
-// The starting cursor; place 0 and not ended where it is refused.
+// The starting cursor; all zero where it is refused.
 fn first(doc: &[u8]) -> Cursor
     ensures { λ r. ⌜ r ≡ startCursor (startAnswer (now (doc .entry))) ⌝ }
 {
@@ -99,12 +99,13 @@ fn first(doc: &[u8]) -> Cursor
         Start::At(c) => c,
         Start::Refused(_) => Cursor {
             place: 0,
+            line: 0,
             ended: false,
         },
     }
 }
 
-// One step; where it gives no token, an Eof at place 0 and the same cursor.
+// One step; where it gives no token, an Eof at place 0 of line 0 and the same cursor.
 fn advance(doc: &[u8], c: Cursor) -> Stepped
     ensures { λ r. ⌜ r ≡ nextOf (now (doc .entry)) c ⌝ }
 {
@@ -123,7 +124,7 @@ fn advance(doc: &[u8], c: Cursor) -> Stepped
 
 // The token that stands for none.
 fn blank() -> Token
-    ensures { λ r. ⌜ r ≡ eofAt 0 ⌝ }
+    ensures { λ r. ⌜ r ≡ eofAt 0 0 ⌝ }
 {
-    Token::new(TokenKind::Eof, Span::new(0, 0))
+    Token::new(TokenKind::Eof, Span::new(0, 0), 0)
 }

@@ -1,4 +1,4 @@
-// Whole lexing into token structs, run: documents and their tokens, as kind, start and end, and a
+// Whole lexing into token structs, run: documents and their tokens, as kind, start, end and line, and a
 // document of more tokens than are lent. The expected lines are in the file stdout.
 ghost use Prim.Native.Nat.{_≤_};
 use lexer::Lexed;
@@ -49,6 +49,8 @@ fn line(token: Token) {
     io::print_decimal(STDOUT_FILENO, record[1] as u64);
     io::write_all(STDOUT_FILENO, b" ");
     io::print_decimal(STDOUT_FILENO, record[2] as u64);
+    io::write_all(STDOUT_FILENO, b" ");
+    io::print_decimal(STDOUT_FILENO, record[3] as u64);
     io::write_all(STDOUT_FILENO, b"\n");
 }
 

@@ -6,6 +6,7 @@ use libc::STDOUT_FILENO;
 // How an answer is spelled. The numbers of tests/README.md's tables, in their order, fill it.
 pub enum Form {
     Tokens,
+    TokenLines,
     Decoded,
     Refused,
     Broken,
@@ -14,6 +15,7 @@ pub enum Form {
     Four,
     Hex,
     Stepped,
+    SteppedLine,
     Ended,
     NoStep,
     Described,
@@ -35,11 +37,13 @@ pub struct Answer {
 }
 
 // In the text of a form a `#` stands for the next number, a `$` for as many bytes in hex as that
-// number says, and a `%` for as many records. A `_` stands for nothing. Any other byte is written as
-// it is.
+// number says, a `%` for as many errors, a `&` for as many tokens, and a `@` for as many tokens with
+// their lines. A `_` stands for nothing. Any other byte is written as it is.
 type Text = [u8; 24];
 
-const TOKENS: Text = *b"%\n______________________";
+const TOKENS: Text = *b"&\n______________________";
+
+const TOKEN_LINES: Text = *b"@\n______________________";
 
 const DECODED: Text = *b"$ | %\n__________________";
 
@@ -57,6 +61,8 @@ const FOUR: Text = *b"# # # #\n________________";
 const HEX: Text = *b"$\n______________________";
 
 const STEPPED: Text = *b"0 0 | # # # | # #\n______";
+
+const STEPPED_LINE: Text = *b"0 0 | # # # # | # # #\n__";
 
 const ENDED: Text = *b"0 0 | end | -\n__________";
 
@@ -81,14 +87,14 @@ const TOO_MUCH: Text = *b"? more than can be lent\n";
 const NOTHING: Text = *b"________________________";
 
 // Writes an answer. It returns: of what is written no contract can speak.
-pub fn print_answer(answer: Answer, bytes: &[u8], records: &[[usize; 3]])
+pub fn print_answer(answer: Answer, bytes: &[u8], errors: &[[usize; 3]], tokens: &[[usize; 4]])
     ensures { λ r. ⌜ r ≡ tt ⌝ }
 {
     let mut space = [0u8; 16384];
     let out: &mut [u8] = &mut space;
     let form = answer.form;
     let numbers = answer.numbers;
-    let used = put_text(out, text_of(form), numbers, bytes, records);
+    let used = put_text(out, text_of(form), numbers, bytes, errors, tokens);
     write(out, used);
 }
 
@@ -96,6 +102,7 @@ pub fn print_answer(answer: Answer, bytes: &[u8], records: &[[usize; 3]])
 fn text_of(form: Form) -> Text {
     match form {
         Form::Tokens => TOKENS,
+        Form::TokenLines => TOKEN_LINES,
         Form::Decoded => DECODED,
         Form::Refused => REFUSED,
         Form::Broken => BROKEN,
@@ -104,6 +111,7 @@ fn text_of(form: Form) -> Text {
         Form::Four => FOUR,
         Form::Hex => HEX,
         Form::Stepped => STEPPED,
+        Form::SteppedLine => STEPPED_LINE,
         Form::Ended => ENDED,
         Form::NoStep => NO_STEP,
         Form::Described => DESCRIBED,
@@ -125,14 +133,15 @@ fn put_text(
     text: Text,
     numbers: [usize; 8],
     bytes: &[u8],
-    records: &[[usize; 3]],
+    errors: &[[usize; 3]],
+    tokens: &[[usize; 4]],
 ) -> usize {
     let mut used = 0;
     let mut k = 0;
     let mut i = 0;
     while i < 24 {
         let b = text[i];
-        used = put_field(out, used, b, number_at(numbers, k), bytes, records);
+        used = put_field(out, used, b, number_at(numbers, k), bytes, errors, tokens);
         k = next_number(k, b);
         i += 1;
     }
@@ -156,7 +165,7 @@ fn next_number(k: usize, b: u8) -> usize {
 
 fn takes_number(b: u8) -> bool {
     match b {
-        b'#' | b'$' | b'%' => true,
+        b'#' | b'$' | b'%' | b'&' | b'@' => true,
         _ => false,
     }
 }
@@ -167,13 +176,16 @@ fn put_field(
     b: u8,
     number: usize,
     bytes: &[u8],
-    records: &[[usize; 3]],
+    errors: &[[usize; 3]],
+    tokens: &[[usize; 4]],
 ) -> usize {
     match b {
         b'_' => used,
         b'#' => put_number(out, used, number),
         b'$' => put_hex(out, used, bytes, number),
-        b'%' => put_records(out, used, records, number),
+        b'%' => put_records(out, used, errors, number),
+        b'&' => put_tokens(out, used, tokens, number, false),
+        b'@' => put_tokens(out, used, tokens, number, true),
         _ => put_byte(out, used, b),
     }
 }
@@ -209,6 +221,35 @@ fn put_records(out: &mut [u8], used: usize, records: &[[usize; 3]], count: usize
         n = put_joint(out, n, i);
         n = put_record(out, n, records[i]);
         i += 1;
+    }
+    n
+}
+
+// The same for tokens, with their lines or without.
+fn put_tokens(
+    out: &mut [u8],
+    used: usize,
+    tokens: &[[usize; 4]],
+    count: usize,
+    lines: bool,
+) -> usize {
+    if count == 0 {
+        return put_byte(out, used, b'-');
+    }
+    let mut n = used;
+    let mut i = 0;
+    while i < tokens.len() && i < count {
+        n = put_joint(out, n, i);
+        n = put_token(out, n, tokens[i], lines);
+        i += 1;
+    }
+    n
+}
+
+fn put_token(out: &mut [u8], used: usize, token: [usize; 4], lines: bool) -> usize {
+    let n = put_record(out, used, [token[0], token[1], token[2]]);
+    if lines {
+        return put_next(out, n, token[3]);
     }
     n
 }

@@ -17,8 +17,9 @@ use Rattle.token.specs.Descriptions.{descriptionOf}
 use Rattle.token.specs.Encodings.{encodingOf}
 use Rattle.token.specs.Records.{spanOf, tokenOf, recordOf}
 
-pub token-new : (kind : TokenKind) (span : Span) → Only (λ (r : Token). r ≡ tokenOf kind (span .start) (span .end))
-token-new kind span = only-equal (tokenOf kind (span .start) (span .end))
+pub token-new : (kind : TokenKind) (span : Span) (line : ℕ)
+    → Only (λ (r : Token). r ≡ tokenOf kind (span .start) (span .end) line)
+token-new kind span line = only-equal (tokenOf kind (span .start) (span .end) line)
 
 pub as-record : (self : Token) → Only (λ (r : List ℕ). r ≡ recordOf self)
 as-record self = only-equal (recordOf self)

@@ -1,4 +1,4 @@
--- RULE. A token is its kind and its span; its record is three numbers.
+-- RULE. A token is its kind, its span and the line of its first byte; its record is four numbers.
 -- Assumes nothing.
 use Prim.Native.Nat.{ℕ}
 use mathlib.Core.List.{List, [], _∷_}
@@ -11,9 +11,9 @@ abbrev pub spanOf : ℕ → ℕ → Span
 spanOf start end = record { start = start; end = end }
 
 -- the one place where a token is made
-abbrev pub tokenOf : TokenKind → ℕ → ℕ → Token
-tokenOf kind start end = record { kind = kind; span = spanOf start end }
+abbrev pub tokenOf : TokenKind → ℕ → ℕ → ℕ → Token
+tokenOf kind start end line = record { kind = kind; span = spanOf start end; line = line }
 
--- the one place where a token is read into a record: kind number, start, end
+-- the one place where a token is read into a record: kind number, start, end, line
 abbrev pub recordOf : Token → List ℕ
-recordOf t = kindNumber (t .kind) ∷ t .span .start ∷ t .span .end ∷ []
+recordOf t = kindNumber (t .kind) ∷ t .span .start ∷ t .span .end ∷ t .line ∷ []

@@ -1,5 +1,5 @@
 // Tokens: the sixteen kinds with their numbers, descriptions and encodings, spans, and the one
-// place that makes a token and the one that reads it into a record of three numbers.
+// place that makes a token and the one that reads it into a record of four numbers.
 // Rules: specs/KindNumbers.antt, Descriptions.antt, Encodings.antt, Records.antt.
 ghost use mathlib.Core.Path.{_≡_};
 ghost use Prim.Native.Nat.{_≤_};
@@ -10,29 +10,30 @@ ghost use Rattle.token.specs.Encodings.{kindEncoding, encodingOf};
 ghost use Rattle.token.specs.Records.{spanOf, tokenOf, recordOf};
 use text::Refusal;
 
-// A token as three numbers: kind, start, end.
-pub type Record = [usize; 3];
+// A token as four numbers: kind, start, end, line.
+pub type Record = [usize; 4];
 
-// A piece of the document that was lexed, not yet judged.
+// A piece of the document that was lexed, not yet judged, and the line of its first byte.
 pub struct Token {
     pub kind: TokenKind,
     pub span: Span,
+    pub line: usize,
 }
 
 impl Token {
     // Every token is made here.
-    pub fn new(kind: TokenKind, span: Span) -> Self
-        ensures { λ r. ⌜ r ≡ tokenOf kind (span .start) (span .end) ⌝ }
+    pub fn new(kind: TokenKind, span: Span, line: usize) -> Self
+        ensures { λ r. ⌜ r ≡ tokenOf kind (span .start) (span .end) line ⌝ }
     {
-        Token { kind, span }
+        Token { kind, span, line }
     }
 
-    // The token as three numbers: kind, start, end.
+    // The token as four numbers: kind, start, end, line.
     pub fn as_record(self) -> Record
         ensures { λ r. ⌜ r ≡ recordOf self ⌝ }
     {
         let kind = self.kind;
-        [kind.number(), self.span.start, self.span.end]
+        [kind.number(), self.span.start, self.span.end, self.line]
     }
 }
 

@@ -33,27 +33,27 @@ fn refused(r: Refusal) {
     number(r.value(), b"\n");
 }
 
-fn row(kind: usize, start: usize, end: usize) {
-    number(kind, b" ");
-    number(start, b" ");
-    number(end, b"\n");
+fn row(r: [usize; 4]) {
+    number(r[0], b" ");
+    number(r[1], b" ");
+    number(r[2], b" ");
+    number(r[3], b"\n");
 }
 
-fn rows(records: &[[usize; 3]], count: usize) {
+fn rows(records: &[[usize; 4]], count: usize) {
     let mut i = 0;
     while i < records.len() {
         if count <= i {
             return;
         }
-        let r = records[i];
-        row(r[0], r[1], r[2]);
+        row(records[i]);
         i += 1;
     }
 }
 
-// Whole lexing, with more records than tokens: those behind the last written are still 9 9 9.
+// Whole lexing, with more records than tokens: those behind the last written are still 9 9 9 9.
 fn tokens(doc: &[u8]) {
-    let mut records = [[9usize; 3]; 8];
+    let mut records = [[9usize; 4]; 8];
     match lexer::lex(doc, &mut records) {
         Lexed::Tokens(count) => {
             rows(&records, 8);
@@ -68,7 +68,7 @@ fn tokens(doc: &[u8]) {
 
 // Whole lexing with two records.
 fn tokens_in_two(doc: &[u8]) {
-    let mut records = [[9usize; 3]; 2];
+    let mut records = [[9usize; 4]; 2];
     match lexer::lex(doc, &mut records) {
         Lexed::Tokens(count) => number(count, b" tokens\n"),
         Lexed::Refused(r) => refused(r),
@@ -77,13 +77,13 @@ fn tokens_in_two(doc: &[u8]) {
 }
 
 fn token(t: Token, c: Cursor) {
-    let kind = t.kind;
-    row(kind.number(), t.span.start, t.span.end);
-    number(c.place, b" next\n");
+    row(t.as_record());
+    number(c.place, b" ");
+    number(c.line, b" next\n");
 }
 
-fn step(doc: &[u8], place: usize, ended: bool) {
-    let c = Cursor { place, ended };
+fn step(doc: &[u8], place: usize, line: usize, ended: bool) {
+    let c = Cursor { place, line, ended };
     match c.step(doc) {
         Step::Token(t, next) => token(t, next),
         Step::End => say(b"end\n"),
@@ -93,7 +93,10 @@ fn step(doc: &[u8], place: usize, ended: bool) {
 
 fn start(doc: &[u8]) {
     match Cursor::start(doc) {
-        Start::At(c) => number(c.place, b" start\n"),
+        Start::At(c) => {
+            number(c.place, b" ");
+            number(c.line, b" start\n");
+        }
         Start::Refused(r) => refused(r),
     }
 }
@@ -148,16 +151,22 @@ fn main() {
     tokens(b"'a\r\n");
     tokens(b"#x\ry");
     tokens(b"a\"b c");
+    tokens(b"'''\n\r\n\r'''\n");
+    tokens(b"\"\"\"\n");
     tokens(b"a\xFF");
     tokens_in_two(b"a=");
     tokens_in_two(b"a");
     start(b"\xEF\xBB\xBFa");
     start(b"a");
-    step(b"\xEF\xBB\xBFa", 0, false);
-    step(b"a=", 1, true);
-    step(b"a", 1, false);
-    step(b"a", 1, true);
-    step(b"a", 2, false);
+    step(b"\xEF\xBB\xBFa", 0, 1, false);
+    step(b"a=", 1, 1, true);
+    step(b"a", 1, 1, false);
+    step(b"a", 1, 1, true);
+    step(b"a", 2, 1, false);
+    step(b"a\n", 1, 0, false);
+    step(b"a\r", 1, 2, false);
+    step(b"a\r\n", 1, 1, false);
+    step(b"a\n", 1, 3, false);
     span(b"\xC3\xA9=1", 0, 2);
     span(b"\xC3\xA9=1", 2, 4);
     span(b"\xC3\xA9=1", 1, 2);

@@ -33,8 +33,9 @@ toml-check-utf8 doc = only-equal (checkNumbers (checkOf doc))
 pub toml-start : (doc : List ℕ) → Only (λ (r : Started). r ≡ startNumbers (startAnswer doc))
 toml-start doc = only-equal (startNumbers (startAnswer doc))
 
-pub toml-step : (doc : List ℕ) (place ended : ℕ) → Only (λ (r : Stepped). r ≡ stepNumbers (stepOf doc (cursorOf place (flag ended))))
-toml-step doc place ended = only-equal (stepNumbers (stepOf doc (cursorOf place (flag ended))))
+pub toml-step : (doc : List ℕ) (place ended line : ℕ)
+    → Only (λ (r : Stepped). r ≡ stepNumbers (stepOf doc (cursorOf place line (flag ended))))
+toml-step doc place ended line = only-equal (stepNumbers (stepOf doc (cursorOf place line (flag ended))))
 
 -- the answer, and the records afterwards
 pub toml-lex : (doc : List ℕ) (old : List (List ℕ))

@@ -60,11 +60,11 @@ checkNumbers (Broken r) = refusedBy r
 
 -- start
 abbrev pub cursorNumbers : Cursor → CursorNumbers
-cursorNumbers c = record { place = c .place; ended = bitOf (c .ended) }
+cursorNumbers c = record { place = c .place; ended = bitOf (c .ended); line = c .line }
 
 abbrev pub startNumbers : Start → Started
 startNumbers (At c) = record { answer = given 0; cursor = cursorNumbers c }
-startNumbers (Unstarted r) = record { answer = refusedBy r; cursor = cursorNumbers (cursorOf 0 false) }
+startNumbers (Unstarted r) = record { answer = refusedBy r; cursor = cursorNumbers (cursorOf 0 0 false) }
 
 -- a step: `given` is 1 with a token, and all behind it zero without one
 abbrev pub noToken : Answered → Stepped
@@ -72,8 +72,8 @@ noToken answer =
     record {
       answer = answer;
       given = 0;
-      token = record { kind = 0; start = 0; end = 0 };
-      cursor = cursorNumbers (cursorOf 0 false);
+      token = record { kind = 0; start = 0; end = 0; line = 0 };
+      cursor = cursorNumbers (cursorOf 0 0 false);
     }
 
 abbrev pub stepNumbers : Step → Stepped
@@ -81,7 +81,7 @@ stepNumbers (Token t c) =
     record {
       answer = given 0;
       given = 1;
-      token = record { kind = kindNumber (t .kind); start = t .span .start; end = t .span .end };
+      token = record { kind = kindNumber (t .kind); start = t .span .start; end = t .span .end; line = t .line };
       cursor = cursorNumbers c;
     }
 stepNumbers End = noToken (given 0)

@@ -42,6 +42,7 @@ pub struct Answered {
 pub struct CursorNumbers {
     pub place: usize,
     pub ended: usize,
+    pub line: usize,
 }
 
 #[repr(C)]
@@ -55,6 +56,7 @@ pub struct TokenNumbers {
     pub kind: usize,
     pub start: usize,
     pub end: usize,
+    pub line: usize,
 }
 
 // `given` is 1 with a token, and all behind it 0 without one.
@@ -117,22 +119,23 @@ pub extern "C" fn toml_start(doc: &[u8]) -> Started
     match Cursor::start(doc) {
         Start::At(cursor) => Started {
             answer: answer_of(0),
-            cursor: cursor_numbers(cursor.place, cursor.ended),
+            cursor: cursor_numbers(cursor.place, cursor.line, cursor.ended),
         },
         Start::Refused(r) => Started {
             answer: refused(r),
-            cursor: cursor_numbers(0, false),
+            cursor: cursor_numbers(0, 0, false),
         },
     }
 }
 
 // The cursor may be made by hand; one is ended if `ended` is not 0.
 #[no_mangle]
-pub extern "C" fn toml_step(doc: &[u8], place: usize, ended: usize) -> Stepped
-    ensures { λ r. ⌜ r ≡ stepNumbers (stepOf (now (doc .entry)) (cursorOf place (flag ended))) ⌝ }
+pub extern "C" fn toml_step(doc: &[u8], place: usize, ended: usize, line: usize) -> Stepped
+    ensures { λ r. ⌜ r ≡ stepNumbers (stepOf (now (doc .entry)) (cursorOf place line (flag ended))) ⌝ }
 {
     let cursor = Cursor {
         place,
+        line,
         ended: ended != 0,
     };
     match cursor.step(doc) {
@@ -145,8 +148,9 @@ pub extern "C" fn toml_step(doc: &[u8], place: usize, ended: usize) -> Stepped
                     kind: kind.number(),
                     start: token.span.start,
                     end: token.span.end,
+                    line: token.line,
                 },
-                cursor: cursor_numbers(next.place, next.ended),
+                cursor: cursor_numbers(next.place, next.line, next.ended),
             }
         }
         Step::End => no_token(answer_of(0)),
@@ -155,7 +159,7 @@ pub extern "C" fn toml_step(doc: &[u8], place: usize, ended: usize) -> Stepped
 }
 
 #[no_mangle]
-pub extern "C" fn toml_lex(doc: &[u8], records: &mut [[usize; 3]]) -> Answered
+pub extern "C" fn toml_lex(doc: &[u8], records: &mut [[usize; 4]]) -> Answered
     ensures answer { λ r. ⌜ r ≡ lexNumbers (lexAnswer (now (doc .entry)) (length (now (records .entry)))) ⌝ }
     ensures memory { λ _. ⌜ now (records .exit) ≡ lexMemory (now (doc .entry)) (now (records .entry)) ⌝ }
 {
@@ -305,12 +309,13 @@ fn told(a: Answer) -> Answered
     }
 }
 
-fn cursor_numbers(place: usize, ended: bool) -> CursorNumbers
-    ensures { λ r. ⌜ r ≡ cursorNumbers (cursorOf place ended) ⌝ }
+fn cursor_numbers(place: usize, line: usize, ended: bool) -> CursorNumbers
+    ensures { λ r. ⌜ r ≡ cursorNumbers (cursorOf place line ended) ⌝ }
 {
     CursorNumbers {
         place,
         ended: bit(ended),
+        line,
     }
 }
 
@@ -324,8 +329,9 @@ fn no_token(answer: Answered) -> Stepped
             kind: 0,
             start: 0,
             end: 0,
+            line: 0,
         },
-        cursor: cursor_numbers(0, false),
+        cursor: cursor_numbers(0, 0, false),
     }
 }
 

@@ -21,9 +21,9 @@ abbrev pub Hold : List Example → Type 0
 Hold [] = Unit {0}
 Hold (x ∷ xs) = Holds x × Hold xs
 
--- a token: its kind number, start and end
-abbrev pub row : ℕ → ℕ → ℕ → List ℕ
-row kind start end = kind ∷ start ∷ end ∷ []
+-- a token: its kind number, start, end and line
+abbrev pub row : ℕ → ℕ → ℕ → ℕ → List ℕ
+row kind start end line = kind ∷ start ∷ end ∷ line ∷ []
 
 -- an error with an empty span
 abbrev pub at : ℕ → ℕ → List ℕ
@@ -32,14 +32,14 @@ at number place = number ∷ place ∷ place ∷ []
 abbrev pub examples : List Example
 examples =
     -- the empty document, and only a byte order mark
-    lexes [] (row 4 0 0 ∷ [])
-    ∷ lexes (0xEF ∷ 0xBB ∷ 0xBF ∷ []) (row 4 3 3 ∷ [])
+    lexes [] (row 4 0 0 1 ∷ [])
+    ∷ lexes (0xEF ∷ 0xBB ∷ 0xBF ∷ []) (row 4 3 3 1 ∷ [])
     -- '''a''''', and with one more apostrophe
-    ∷ lexes (0x27 ∷ 0x27 ∷ 0x27 ∷ 0x61 ∷ 0x27 ∷ 0x27 ∷ 0x27 ∷ 0x27 ∷ 0x27 ∷ []) (row 1 0 9 ∷ row 4 9 9 ∷ [])
+    ∷ lexes (0x27 ∷ 0x27 ∷ 0x27 ∷ 0x61 ∷ 0x27 ∷ 0x27 ∷ 0x27 ∷ 0x27 ∷ 0x27 ∷ []) (row 1 0 9 1 ∷ row 4 9 9 1 ∷ [])
     ∷ lexes (0x27 ∷ 0x27 ∷ 0x27 ∷ 0x61 ∷ 0x27 ∷ 0x27 ∷ 0x27 ∷ 0x27 ∷ 0x27 ∷ 0x27 ∷ [])
-    (row 1 0 9 ∷ row 39 9 10 ∷ row 4 10 10 ∷ [])
+    (row 1 0 9 1 ∷ row 39 9 10 1 ∷ row 4 10 10 1 ∷ [])
     -- 'a CR LF: only the LF stops it
-    ∷ lexes (0x27 ∷ 0x61 ∷ 0x0D ∷ 0x0A ∷ []) (row 39 0 3 ∷ row 10 3 4 ∷ row 4 4 4 ∷ [])
+    ∷ lexes (0x27 ∷ 0x61 ∷ 0x0D ∷ 0x0A ∷ []) (row 39 0 3 1 ∷ row 10 3 4 1 ∷ row 4 4 4 2 ∷ [])
     -- basic "\u\u\u": U+FFFD three times, nine bytes of eight
     ∷ decodes 34 (0x22 ∷ 0x5C ∷ 0x75 ∷ 0x5C ∷ 0x75 ∷ 0x5C ∷ 0x75 ∷ 0x22 ∷ [])
     (0xEF ∷ 0xBF ∷ 0xBD ∷ 0xEF ∷ 0xBF ∷ 0xBD ∷ 0xEF ∷ 0xBF ∷ 0xBD ∷ []) (at 9 3 ∷ at 9 5 ∷ at 9 7 ∷ [])

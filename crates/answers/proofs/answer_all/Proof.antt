@@ -7,10 +7,10 @@ use Rattle.answers.proofs.answer_all.Statement.{statement}
 use Rattle.answers.proofs.answer_all.Tie as tie
 
 abbrev Inv-loop : tie.InvT-loop
-Inv-loop input₀ line₀ bytes₀ records₀ reading₀ turns₀ input line bytes records reading turns = (length input ≡ length input₀) × (length line ≡ length line₀) × (length bytes ≡ length bytes₀) × (length records ≡ length records₀)
+Inv-loop input₀ line₀ bytes₀ errors₀ tokens₀ reading₀ turns₀ input line bytes errors tokens reading turns = (length input ≡ length input₀) × (length line ≡ length line₀) × (length bytes ≡ length bytes₀) × (length errors ≡ length errors₀) × (length tokens ≡ length tokens₀)
 
 abbrev μ-loop : tie.MeasureT-loop
-μ-loop input₀ line₀ bytes₀ records₀ reading₀ turns₀ input line bytes records reading turns = turns
+μ-loop input₀ line₀ bytes₀ errors₀ tokens₀ reading₀ turns₀ input line bytes errors tokens reading turns = turns
 
 loop-holds : tie.Need-loop-holds Inv-loop μ-loop
 loop-holds c = search needs
@@ -42,11 +42,11 @@ same-length-3 c = search needs
 same-length-4 : tie.Need-same-length-4 Inv-loop μ-loop
 same-length-4 c = search needs
 
-returns : tie.Need-returns Inv-loop μ-loop
-returns c = search needs
-
 same-length-5 : tie.Need-same-length-5 Inv-loop μ-loop
 same-length-5 c = search needs
+
+returns : tie.Need-returns Inv-loop μ-loop
+returns c = search needs
 
 same-length-6 : tie.Need-same-length-6 Inv-loop μ-loop
 same-length-6 c = search needs
@@ -56,6 +56,12 @@ same-length-7 c = search needs
 
 same-length-8 : tie.Need-same-length-8 Inv-loop μ-loop
 same-length-8 c = search needs
+
+same-length-9 : tie.Need-same-length-9 Inv-loop μ-loop
+same-length-9 c = search needs
+
+same-length-10 : tie.Need-same-length-10 Inv-loop μ-loop
+same-length-10 c = search needs
 
 returns-2 : tie.Need-returns-2 Inv-loop μ-loop
 returns-2 c = search needs
@@ -76,9 +82,11 @@ answer-all-spec =
     same-length-2
     same-length-3
     same-length-4
-    returns
     same-length-5
+    returns
     same-length-6
     same-length-7
     same-length-8
+    same-length-9
+    same-length-10
     returns-2)

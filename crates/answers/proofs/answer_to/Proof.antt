@@ -22,6 +22,9 @@ same-length c = search needs
 same-length-2 : tie.Need-same-length-2
 same-length-2 c = search needs
 
+same-length-3 : tie.Need-same-length-3
+same-length-3 c = search needs
+
 returns : tie.Need-returns
 returns c = search needs
 
@@ -40,6 +43,7 @@ answer-to-spec =
     make-requires
     same-length
     same-length-2
+    same-length-3
     returns
     fault-requires
     returns-2)

@@ -17,12 +17,12 @@ lex-until-requires : tie.Need-lex-until-requires
 lex-until-requires c κs = omega (arith, start-fits (c .before .before .before .args .doc .now))
 
 add-result : tie.Need-add-result
-add-result c = let doc = c .before .before .before .before .before .args .doc .now in
-    let all = counted doc (c .before .before .before .start-of .result) (c .before .lex-until .result) (c .before .before .before .start-of .ensures) (c .before .lex-until .ensures .0) in
+add-result c = let doc = c .before .before .before .before .before .before .args .doc .now in
+    let all = counted doc (c .before .before .before .before .start-of .result) (c .before .before .lex-until .result .count) (c .before .before .before .before .start-of .ensures) (c .before .before .lex-until .ensures .0) in
     omega (arith, tokens-count doc)
 
 returns : tie.Need-returns
-returns c = counted (c .before .before .before .before .before .args .doc .now) (c .before .before .before .start-of .result) (c .before .lex-until .result) (c .before .before .before .start-of .ensures) (c .before .lex-until .ensures .0)
+returns c = counted (c .before .before .before .before .before .before .args .doc .now) (c .before .before .before .before .start-of .result) (c .before .before .lex-until .result .count) (c .before .before .before .before .start-of .ensures) (c .before .before .lex-until .ensures .0)
 
 pub count-spec : {M : Type 1} → statement M
 count-spec =

@@ -21,20 +21,20 @@ token-of-requires c κs = search needs
 as-record-requires : tie.Need-as-record-requires
 as-record-requires c κs = search needs
 
-mul-t11 : tie.Need-mul-t11
-mul-t11 c = let doc = c .before .before .before .before .before .before .before .args .doc .now in
-    let all = counted doc (c .before .before .before .before .before .start-of .result) (c .before .before .before .lex-until .result) (c .before .before .before .before .before .start-of .ensures) (c .before .before .before .lex-until .ensures .0) in
+mul-t12 : tie.Need-mul-t12
+mul-t12 c = let doc = c .before .before .before .before .before .before .before .args .doc .now in
+    let all = counted doc (c .before .before .before .before .before .start-of .result) (c .before .before .before .lex-until .result .count) (c .before .before .before .before .before .start-of .ensures) (c .before .before .before .lex-until .ensures .0) in
     omega arith
 
 slice-set-from-records : tie.Need-slice-set-from-records
 slice-set-from-records c = let doc = c .before .before .before .before .before .before .before .args .doc .now in
-    let all = counted doc (c .before .before .before .before .before .start-of .result) (c .before .before .before .lex-until .result) (c .before .before .before .before .before .start-of .ensures) (c .before .before .before .lex-until .ensures .0) in
-    let same = filled-length doc (c .before .before .before .before .before .start-of .result) (c .before .before .before .lex-until .result) (c .before .before .before .before .before .start-of .ensures) (c .before .before .before .lex-until .ensures .0) (c .before .before .before .before .before .before .before .args .records .now) _ (c .before .before .before .lex-until .ensures .1) in
+    let all = counted doc (c .before .before .before .before .before .start-of .result) (c .before .before .before .lex-until .result .count) (c .before .before .before .before .before .start-of .ensures) (c .before .before .before .lex-until .ensures .0) in
+    let same = filled-length doc (c .before .before .before .before .before .start-of .result) (c .before .before .before .lex-until .result .count) (c .before .before .before .before .before .start-of .ensures) (c .before .before .before .lex-until .ensures .0) (c .before .before .before .before .before .before .before .args .records .now) _ (c .before .before .before .lex-until .ensures .1 .1) in
     omega arith
 
 add-result : tie.Need-add-result
 add-result c = let doc = c .before .before .before .before .before .before .before .args .doc .now in
-    let all = counted doc (c .before .before .before .before .before .start-of .result) (c .before .before .before .lex-until .result) (c .before .before .before .before .before .start-of .ensures) (c .before .before .before .lex-until .ensures .0) in
+    let all = counted doc (c .before .before .before .before .before .start-of .result) (c .before .before .before .lex-until .result .count) (c .before .before .before .before .before .start-of .ensures) (c .before .before .before .lex-until .ensures .0) in
     omega arith
 
 same-length : tie.Need-same-length
@@ -44,8 +44,8 @@ returns : tie.Need-returns
 returns c = let doc = c .before .before .before .before .before .before .before .args .doc .now in
     let start = c .before .before .before .before .before .start-of in
     let stored = c .before .before .before .lex-until in (
-      counted doc (start .result) (stored .result) (start .ensures) (stored .ensures .0),
-      filled doc (start .result) (stored .result) (start .ensures) (stored .ensures .0) (c .before .before .before .before .before .before .before .args .records .now) _ (stored .ensures .1)
+      counted doc (start .result) (stored .result .count) (start .ensures) (stored .ensures .0),
+      filled doc (start .result) (stored .result .count) (start .ensures) (stored .ensures .0) (c .before .before .before .before .before .before .before .args .records .now) _ (stored .ensures .1 .1) (stored .result .line) (stored .ensures .1 .0)
           (c .as-record .result) (c .as-record .ensures ∙ ap recordOf (c .before .token-of .ensures)) (c .before .before .before .before .before .before .before .pre),
     )
 
@@ -57,7 +57,7 @@ fill-spec =
     lex-until-requires
     token-of-requires
     as-record-requires
-    mul-t11
+    mul-t12
     slice-set-from-records
     add-result
     same-length

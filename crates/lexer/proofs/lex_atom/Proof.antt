@@ -21,7 +21,7 @@ token-of-requires c κs = search needs
 
 returns : tie.Need-returns
 unfolding extent
-returns c = c .token-of .ensures ∙ end-is Atom (c .before .before .before .args .at) (c .before .atom-run .ensures ∙ simp drop-drop (omega arith))
+returns c = c .token-of .ensures ∙ end-is Atom (c .before .before .before .args .at) (c .before .before .before .args .line) (c .before .atom-run .ensures ∙ simp drop-drop (omega arith))
 
 pub lex-atom-spec : {M : Type 1} → statement M
 lex-atom-spec = tie.close (tie.spec add-atom-run atom-run-requires token-of-requires returns)

@@ -1,7 +1,7 @@
 -- `lex_until` is right because the tokens still to come, stored from here on, give the records at the end: a turn stores
--- the first of them, or would store it beyond the last record.
+-- the first of them, or would store it beyond the last record, and counts the line on by its LFs.
 -- Assumes nothing.
-use Prim.Native.Nat.{_+_, _-_, _≤_}
+use Prim.Native.Nat.{ℕ, _+_, _-_, _≤_}
 use mathlib.Core.Path.{_≡_, refl, ap, sym, _∙_}
 use mathlib.Core.Logic.{⊎-elim}
 use mathlib.Core.List.{List, map}
@@ -11,25 +11,27 @@ use lib.Seq.{sets, set-out}
 use Rattle.token.specs.declared.Token.{Token}
 use Rattle.token.specs.Records.{recordOf}
 use Rattle.lexer.specs.Table.{tokenLen}
-use Rattle.lexer.specs.Tokens.{tokenAt}
-use Rattle.lexer.specs.Scans.{tokensUntil}
-use Rattle.lexer.proofs.TokenLaws.{token-fits-at, token-long-at}
-use Rattle.lexer.proofs.UntilLaws.{until-step, until-stop}
+use Rattle.lexer.specs.Tokens.{tokenAt, lineAfter}
+use Rattle.lexer.specs.Scans.{tokensUntil, linePast}
+use Rattle.lexer.proofs.TokenLaws.{token-fits-at, token-long-at, line-fits-at}
+use Rattle.lexer.proofs.UntilLaws.{until-step, until-stop, past-step, past-none}
 use borrow.Author.Needs.{needs}
 use native.Mathlib.Omega.{arith}
 use Rattle.lexer.proofs.lex_until.Statement.{statement}
 use Rattle.lexer.proofs.lex_until.Tie as tie
 
 abbrev Inv-loop : tie.InvT-loop
-Inv-loop doc start stop records₀ at₀ n₀ records at n = (at ≤ length doc) × (n ≤ at) × (length records ≡ length records₀)
-    × (n + length (tokensUntil stop at doc) ≡ length (tokensUntil stop start doc))
-    × (sets records n (map recordOf (tokensUntil stop at doc)) ≡ sets records₀ 0 (map recordOf (tokensUntil stop start doc)))
+Inv-loop doc start first stop records₀ at₀ line₀ n₀ records at line n =
+    (at ≤ length doc) × (n ≤ at) × (line ≤ at + 1) × (length records ≡ length records₀)
+    × (n + length (tokensUntil stop at line doc) ≡ length (tokensUntil stop start first doc))
+    × (linePast doc line (tokensUntil stop at line doc) ≡ linePast doc first (tokensUntil stop start first doc))
+    × (sets records n (map recordOf (tokensUntil stop at line doc)) ≡ sets records₀ 0 (map recordOf (tokensUntil stop start first doc)))
 
 abbrev μ-loop : tie.MeasureT-loop
-μ-loop doc start stop records₀ at₀ n₀ records at n = length doc - at
+μ-loop doc start first stop records₀ at₀ line₀ n₀ records at line n = length doc - at
 
 loop-holds : tie.Need-loop-holds Inv-loop μ-loop
-loop-holds c = (omega arith, omega arith, refl, omega arith, refl)
+loop-holds c = (omega arith, omega arith, omega arith, refl, omega arith, refl, refl)
 
 process-token-requires : tie.Need-process-token-requires Inv-loop μ-loop
 process-token-requires c κs = omega arith
@@ -37,8 +39,8 @@ process-token-requires c κs = omega arith
 as-record-requires : tie.Need-as-record-requires Inv-loop μ-loop
 as-record-requires c κs = search needs
 
-mul-t11 : tie.Need-mul-t11 Inv-loop μ-loop
-mul-t11 c = omega arith
+mul-t13 : tie.Need-mul-t13 Inv-loop μ-loop
+mul-t13 c = omega arith
 
 slice-set-from-records : tie.Need-slice-set-from-records Inv-loop μ-loop
 slice-set-from-records c = omega arith
@@ -46,40 +48,55 @@ slice-set-from-records c = omega arith
 add-n : tie.Need-add-n Inv-loop μ-loop
 add-n c = omega arith
 
+line-after-requires : tie.Need-line-after-requires Inv-loop μ-loop
+line-after-requires c κs = rw (c .before .process-token .ensures) (omega arith, refl, omega arith)
+
 loop-less : tie.Need-loop-less Inv-loop μ-loop
-loop-less c = let doc = c .before .before .before .before .before .args .doc .now in
-    let at = c .before .before .before .loop .at in
-    let end = ap (λ (t : Token). t .span .end) (c .before .process-token .ensures) in
+loop-less c = let doc = c .before .before .before .before .before .before .args .doc .now in
+    let at = c .before .before .before .before .loop .at in
+    let end = ap (λ (t : Token). t .span .end) (c .before .before .process-token .ensures) in
     omega (arith, token-long-at doc at (omega arith), token-fits-at doc at (omega arith))
 
 loop-again : tie.Need-loop-again Inv-loop μ-loop
-loop-again c = let doc = c .before .before .before .before .before .args .doc .now in
-    let stop = c .before .before .before .before .before .args .stop in
-    let at = c .before .before .before .loop .at in
-    let n = c .before .before .before .loop .n in
-    let l = c .before .before .before .loop .records in
-    let inv = c .before .before .before .loop .inv in
-    let here = c .before .process-token .ensures in
-    let end : c .before .process-token .result .span .end ≡ at + tokenLen (drop at doc) = ap (λ (t : Token). t .span .end) here in
-    let r = recordOf (tokenAt at (drop at doc)) in
-    let stored : c .if1 .records ≡ set l n r =
-    ⊎-elim (λ w. w .2 ∙ ap (set l n) (w .1 .ensures ∙ ap recordOf here)) (λ w. w .1 ∙ sym (set-out l n r (w .0 .left))) (c .if1 .came) in
-    let turn = until-step doc stop at (omega arith) (omega arith) in
-    rw (end, stored, add-one n) (
+loop-again c = let doc = c .before .before .before .before .before .before .args .doc .now in
+    let stop = c .before .before .before .before .before .before .args .stop in
+    let at = c .before .before .before .before .loop .at in
+    let line = c .before .before .before .before .loop .line in
+    let n = c .before .before .before .before .loop .n in
+    let l = c .before .before .before .before .loop .records in
+    let inv = c .before .before .before .before .loop .inv in
+    let here = c .before .before .process-token .ensures in
+    let end : c .before .before .process-token .result .span .end ≡ at + tokenLen (drop at doc) = ap (λ (t : Token). t .span .end) here in
+    let on : c .line-after .result ≡ lineAfter line (drop at doc) =
+    c .line-after .ensures ∙ ap (λ (t : Token). lineAfter (t .line) (drop (t .span .start) doc)) here in
+    let r = recordOf (tokenAt at line (drop at doc)) in
+    let stored : c .before .if1 .records ≡ set l n r =
+    ⊎-elim (λ w. w .2 ∙ ap (set l n) (w .1 .ensures ∙ ap recordOf here)) (λ w. w .1 ∙ sym (set-out l n r (w .0 .left))) (c .before .if1 .came) in
+    let turn = until-step doc stop at line (omega arith) (omega arith) in
+    let rest = tokensUntil stop (at + tokenLen (drop at doc)) (lineAfter line (drop at doc)) doc in
+    rw (end, on, stored, add-one n) (
       token-fits-at doc at (omega arith),
       omega (arith, token-long-at doc at (omega arith)),
-      length-set l n r ∙ inv .2,
+      line-fits-at doc at line (inv .2),
+      length-set l n r ∙ inv .3,
       omega (arith, ap length turn),
-      ap (λ (x : List Token). sets l n (map recordOf x)) (sym turn) ∙ inv .4,
+      sym (ap (linePast doc line) turn ∙ past-step doc at line rest) ∙ inv .5,
+      ap (λ (x : List Token). sets l n (map recordOf x)) (sym turn) ∙ inv .6,
     )
 
 same-length : tie.Need-same-length Inv-loop μ-loop
-same-length c = c .before .loop .inv .2
+same-length c = c .before .loop .inv .3
 
 returns : tie.Need-returns Inv-loop μ-loop
 returns c = let at = c .before .loop in
-    let done = until-stop (c .before .before .before .args .doc .now) (c .before .before .before .args .stop) (at .at) (omega arith) in
-    (omega (arith, ap length done), ap (λ (x : List Token). sets (at .records) (at .n) (map recordOf x)) (sym done) ∙ at .inv .4)
+    let doc = c .before .before .before .args .doc .now in
+    let done = until-stop doc (c .before .before .before .args .stop) (at .at) (at .line) (omega arith) in (
+      omega (arith, ap length done),
+      (
+        sym (ap (linePast doc (at .line)) done ∙ past-none doc (at .line)) ∙ at .inv .5,
+        ap (λ (x : List Token). sets (at .records) (at .n) (map recordOf x)) (sym done) ∙ at .inv .6,
+      ),
+    )
 
 pub lex-until-spec : {M : Type 1} → statement M
 lex-until-spec =
@@ -90,9 +107,10 @@ lex-until-spec =
     loop-holds
     process-token-requires
     as-record-requires
-    mul-t11
+    mul-t13
     slice-set-from-records
     add-n
+    line-after-requires
     loop-less
     loop-again
     same-length

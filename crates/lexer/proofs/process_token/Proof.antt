@@ -77,111 +77,128 @@ returns : tie.Need-returns
 unfolding kindBy extent
 returns c = let doc = c .before .before .before .before .args .doc .now in
     let at = c .before .before .before .before .args .at in
-    c .lex-ascii-char .ensures ∙ token-made Dot at (drop at doc) (rw (kind-at doc at (omega arith), c .before .match .keys1))
+    let line = c .before .before .before .before .args .line in
+    c .lex-ascii-char .ensures ∙ token-made Dot at line (drop at doc) (rw (kind-at doc at (omega arith), c .before .match .keys1))
 
 returns-2 : tie.Need-returns-2
 unfolding kindBy extent
 returns-2 c = let doc = c .before .before .before .before .args .doc .now in
     let at = c .before .before .before .before .args .at in
-    c .lex-ascii-char2 .ensures ∙ token-made Equals at (drop at doc) (rw (kind-at doc at (omega arith), c .before .match .keys2))
+    let line = c .before .before .before .before .args .line in
+    c .lex-ascii-char2 .ensures ∙ token-made Equals at line (drop at doc) (rw (kind-at doc at (omega arith), c .before .match .keys2))
 
 returns-3 : tie.Need-returns-3
 unfolding kindBy extent
 returns-3 c = let doc = c .before .before .before .before .args .doc .now in
     let at = c .before .before .before .before .args .at in
-    c .lex-ascii-char3 .ensures ∙ token-made Comma at (drop at doc) (rw (kind-at doc at (omega arith), c .before .match .keys3))
+    let line = c .before .before .before .before .args .line in
+    c .lex-ascii-char3 .ensures ∙ token-made Comma at line (drop at doc) (rw (kind-at doc at (omega arith), c .before .match .keys3))
 
 returns-4 : tie.Need-returns-4
 unfolding kindBy extent
 returns-4 c = let doc = c .before .before .before .before .args .doc .now in
     let at = c .before .before .before .before .args .at in
-    c .lex-ascii-char4 .ensures ∙ token-made LeftSquareBracket at (drop at doc) (rw (kind-at doc at (omega arith), c .before .match .keys4))
+    let line = c .before .before .before .before .args .line in
+    c .lex-ascii-char4 .ensures ∙ token-made LeftSquareBracket at line (drop at doc) (rw (kind-at doc at (omega arith), c .before .match .keys4))
 
 returns-5 : tie.Need-returns-5
 unfolding kindBy extent
 returns-5 c = let doc = c .before .before .before .before .args .doc .now in
     let at = c .before .before .before .before .args .at in
-    c .lex-ascii-char5 .ensures ∙ token-made RightSquareBracket at (drop at doc) (rw (kind-at doc at (omega arith), c .before .match .keys5))
+    let line = c .before .before .before .before .args .line in
+    c .lex-ascii-char5 .ensures ∙ token-made RightSquareBracket at line (drop at doc) (rw (kind-at doc at (omega arith), c .before .match .keys5))
 
 returns-6 : tie.Need-returns-6
 unfolding kindBy extent
 returns-6 c = let doc = c .before .before .before .before .args .doc .now in
     let at = c .before .before .before .before .args .at in
-    c .lex-ascii-char6 .ensures ∙ token-made LeftCurlyBracket at (drop at doc) (rw (kind-at doc at (omega arith), c .before .match .keys6))
+    let line = c .before .before .before .before .args .line in
+    c .lex-ascii-char6 .ensures ∙ token-made LeftCurlyBracket at line (drop at doc) (rw (kind-at doc at (omega arith), c .before .match .keys6))
 
 returns-7 : tie.Need-returns-7
 unfolding kindBy extent
 returns-7 c = let doc = c .before .before .before .before .args .doc .now in
     let at = c .before .before .before .before .args .at in
-    c .lex-ascii-char7 .ensures ∙ token-made RightCurlyBracket at (drop at doc) (rw (kind-at doc at (omega arith), c .before .match .keys7))
+    let line = c .before .before .before .before .args .line in
+    c .lex-ascii-char7 .ensures ∙ token-made RightCurlyBracket at line (drop at doc) (rw (kind-at doc at (omega arith), c .before .match .keys7))
 
 returns-8 : tie.Need-returns-8
 unfolding kindBy wschar
 returns-8 c = let doc = c .before .before .before .before .args .doc .now in
     let at = c .before .before .before .before .args .at in
-    c .lex-whitespace .ensures ∙ token-made Whitespace at (drop at doc) (rw (kind-at doc at (omega arith), c .before .match .keys8))
+    let line = c .before .before .before .before .args .line in
+    c .lex-whitespace .ensures ∙ token-made Whitespace at line (drop at doc) (rw (kind-at doc at (omega arith), c .before .match .keys8))
 
 returns-9 : tie.Need-returns-9
 unfolding kindBy wschar
 returns-9 c = let doc = c .before .before .before .before .args .doc .now in
     let at = c .before .before .before .before .args .at in
-    c .lex-whitespace2 .ensures ∙ token-made Whitespace at (drop at doc) (rw (kind-at doc at (omega arith), c .before .match .keys9))
+    let line = c .before .before .before .before .args .line in
+    c .lex-whitespace2 .ensures ∙ token-made Whitespace at line (drop at doc) (rw (kind-at doc at (omega arith), c .before .match .keys9))
 
 returns-10 : tie.Need-returns-10
 unfolding kindBy wschar
 returns-10 c = let doc = c .before .before .before .before .args .doc .now in
     let at = c .before .before .before .before .args .at in
-    c .lex-comment .ensures ∙ token-made Comment at (drop at doc) (rw (kind-at doc at (omega arith), c .before .match .keys10))
+    let line = c .before .before .before .before .args .line in
+    c .lex-comment .ensures ∙ token-made Comment at line (drop at doc) (rw (kind-at doc at (omega arith), c .before .match .keys10))
 
 returns-11 : tie.Need-returns-11
 unfolding kindBy wschar
 returns-11 c = let doc = c .before .before .before .before .args .doc .now in
     let at = c .before .before .before .before .args .at in
-    c .lex-crlf .ensures ∙ token-made Newline at (drop at doc) (rw (kind-at doc at (omega arith), c .before .match .keys11))
+    let line = c .before .before .before .before .args .line in
+    c .lex-crlf .ensures ∙ token-made Newline at line (drop at doc) (rw (kind-at doc at (omega arith), c .before .match .keys11))
 
 returns-12 : tie.Need-returns-12
 unfolding kindBy wschar extent
 returns-12 c = let doc = c .before .before .before .before .args .doc .now in
     let at = c .before .before .before .before .args .at in
+    let line = c .before .before .before .before .args .line in
     c .lex-ascii-char8 .ensures
-    ∙ end-is Newline at (simp (newlineTail-at, c .before .match .keys12))
-    ∙ token-made Newline at (drop at doc) (rw (kind-at doc at (omega arith), c .before .match .keys12))
+    ∙ end-is Newline at line (simp (newlineTail-at, c .before .match .keys12))
+    ∙ token-made Newline at line (drop at doc) (rw (kind-at doc at (omega arith), c .before .match .keys12))
 
 returns-13 : tie.Need-returns-13
 unfolding kindBy wschar
 returns-13 c = let doc = c .before .before .before .before .before .before .args .doc .now in
     let at = c .before .before .before .before .before .before .args .at in
+    let line = c .before .before .before .before .before .before .args .line in
     c .lex-ml-literal-string .ensures
-    ∙ token-made MlLiteralString at (drop at doc) (rw (kind-at doc at (omega arith), c .before .before .before .match .keys13, sym (c .before .before .is-triple .ensures) ∙ c .before .if1 .taken))
+    ∙ token-made MlLiteralString at line (drop at doc) (rw (kind-at doc at (omega arith), c .before .before .before .match .keys13, sym (c .before .before .is-triple .ensures) ∙ c .before .if1 .taken))
 
 returns-14 : tie.Need-returns-14
 unfolding kindBy wschar
 returns-14 c = let doc = c .before .before .before .before .before .before .args .doc .now in
     let at = c .before .before .before .before .before .before .args .at in
+    let line = c .before .before .before .before .before .before .args .line in
     c .lex-literal-string .ensures
-    ∙ token-made LiteralString at (drop at doc) (rw (kind-at doc at (omega arith), c .before .before .before .match .keys13, sym (c .before .before .is-triple .ensures) ∙ c .before .if1 .left))
+    ∙ token-made LiteralString at line (drop at doc) (rw (kind-at doc at (omega arith), c .before .before .before .match .keys13, sym (c .before .before .is-triple .ensures) ∙ c .before .if1 .left))
 
 returns-15 : tie.Need-returns-15
 unfolding kindBy wschar
 returns-15 c = let doc = c .before .before .before .before .before .before .args .doc .now in
     let at = c .before .before .before .before .before .before .args .at in
+    let line = c .before .before .before .before .before .before .args .line in
     c .lex-ml-basic-string .ensures
-    ∙ token-made MlBasicString at (drop at doc) (rw (kind-at doc at (omega arith), c .before .before .before .match .keys14, sym (c .before .before .is-triple2 .ensures) ∙ c .before .if2 .taken))
+    ∙ token-made MlBasicString at line (drop at doc) (rw (kind-at doc at (omega arith), c .before .before .before .match .keys14, sym (c .before .before .is-triple2 .ensures) ∙ c .before .if2 .taken))
 
 returns-16 : tie.Need-returns-16
 unfolding kindBy wschar
 returns-16 c = let doc = c .before .before .before .before .before .before .args .doc .now in
     let at = c .before .before .before .before .before .before .args .at in
+    let line = c .before .before .before .before .before .before .args .line in
     c .lex-basic-string .ensures
-    ∙ token-made BasicString at (drop at doc) (rw (kind-at doc at (omega arith), c .before .before .before .match .keys14, sym (c .before .before .is-triple2 .ensures) ∙ c .before .if2 .left))
+    ∙ token-made BasicString at line (drop at doc) (rw (kind-at doc at (omega arith), c .before .before .before .match .keys14, sym (c .before .before .is-triple2 .ensures) ∙ c .before .if2 .left))
 
 returns-17 : tie.Need-returns-17
 unfolding kindBy wschar
 returns-17 c = let doc = c .before .before .before .before .args .doc .now in
     let at = c .before .before .before .before .args .at in
+    let line = c .before .before .before .before .args .line in
     let r = c .before .match .rest in
     c .lex-atom .ensures
-    ∙ token-made Atom at (drop at doc) (simp (
+    ∙ token-made Atom at line (drop at doc) (simp (
       kind-at doc at (omega arith),
       ne-eqb _ _ (r .1),
       ne-eqb _ _ (r .0 .1),

@@ -9,7 +9,7 @@ use Rattle.token.specs.KindNumbers.{kindNumber, kindOfNumber}
 use Rattle.token.specs.Records.{tokenOf, recordOf}
 use Rattle.lexer.specs.Table.{kindOf, tokenLen}
 use Rattle.lexer.specs.Tokens.{tokenAt}
-use Rattle.lexer.proofs.WholeLaws.{one-record, read-back, never-refused}
+use Rattle.lexer.proofs.WholeLaws.{one-record, one-line, read-back, never-refused}
 use borrow.Author.Needs.{needs}
 use native.Mathlib.Omega.{arith}
 use Rattle.lexer.proofs.token_at.Statement.{statement}
@@ -22,7 +22,7 @@ slice-aggregate-lex-until : tie.Need-slice-aggregate-lex-until
 slice-aggregate-lex-until c = search needs
 
 lex-until-requires : tie.Need-lex-until-requires
-lex-until-requires c κs = search needs
+lex-until-requires c κs = (omega arith, omega arith, omega arith)
 
 array-copy-out-record : tie.Need-array-copy-out-record
 array-copy-out-record c = search needs
@@ -42,6 +42,9 @@ array-read-token-of c = search needs
 array-read-token-of-2 : tie.Need-array-read-token-of-2
 array-read-token-of-2 c = search needs
 
+array-read-token-of-3 : tie.Need-array-read-token-of-3
+array-read-token-of-3 c = search needs
+
 token-of-requires : tie.Need-token-of-requires
 token-of-requires c κs = search needs
 
@@ -54,20 +57,23 @@ token-of-requires-2 c κs = search needs
 returns : tie.Need-returns
 returns c = let doc = c .before .before .before .before .before .before .before .before .before .before .args .doc .now in
     let at = c .before .before .before .before .before .before .before .before .before .before .args .at in
-    let t = tokenAt at (drop at doc) in
-    let new = c .before .before .before .before .before .before .before .lex-until .last .1 .1 .1 .0 in
-    let read : new ≡ recordOf t ∷ [] = one-record doc at new (omega arith) (c .before .before .before .before .before .before .before .lex-until .ensures .1) in
+    let line = c .before .before .before .before .before .before .before .before .before .before .args .line in
+    let t = tokenAt at line (drop at doc) in
+    let new = c .before .before .before .before .before .before .before .lex-until .last .1 .1 .1 .1 .0 in
+    let read : new ≡ recordOf t ∷ [] = one-record doc at line new (omega arith) (c .before .before .before .before .before .before .before .lex-until .ensures .1 .1) in
     let number : c .before .before .before .before .from-number .result ≡ kindOfNumber (kindNumber (t .kind)) = rw read at (c .before .before .before .before .from-number .ensures) in
     let kind = read-back (t .kind) _ number _ (c .before .before .kind .given .1) in
-    let made : c .token-of .result ≡ tokenOf (c .before .before .kind .given .0 .0) at (at + tokenLen (drop at doc)) = rw read at (c .token-of .ensures) in
-    made ∙ ap (λ (k : TokenKind). tokenOf k at (at + tokenLen (drop at doc))) kind
+    let made : c .token-of .result ≡ tokenOf (c .before .before .kind .given .0 .0) at (at + tokenLen (drop at doc)) line = rw read at (c .token-of .ensures) in
+    let token : c .token-of .result ≡ t = made ∙ ap (λ (k : TokenKind). tokenOf k at (at + tokenLen (drop at doc)) line) kind in
+    (token, c .before .before .before .before .before .before .before .lex-until .ensures .1 .0 ∙ one-line doc at line (omega arith))
 
 returns-2 : tie.Need-returns-2
 returns-2 c = let doc = c .before .before .before .before .before .before .before .before .before .args .doc .now in
     let at = c .before .before .before .before .before .before .before .before .before .args .at in
-    let t = tokenAt at (drop at doc) in
-    let new = c .before .before .before .before .before .before .lex-until .last .1 .1 .1 .0 in
-    let read : new ≡ recordOf t ∷ [] = one-record doc at new (omega arith) (c .before .before .before .before .before .before .lex-until .ensures .1) in
+    let line = c .before .before .before .before .before .before .before .before .before .args .line in
+    let t = tokenAt at line (drop at doc) in
+    let new = c .before .before .before .before .before .before .lex-until .last .1 .1 .1 .1 .0 in
+    let read : new ≡ recordOf t ∷ [] = one-record doc at line new (omega arith) (c .before .before .before .before .before .before .lex-until .ensures .1 .1) in
     let number : c .before .before .before .from-number .result ≡ kindOfNumber (kindNumber (t .kind)) = rw read at (c .before .before .before .from-number .ensures) in
     absurd (never-refused (t .kind) _ number _ (c .before .enum-told .given .1))
 
@@ -84,6 +90,7 @@ token-at-spec =
     enum-known-kind
     array-read-token-of
     array-read-token-of-2
+    array-read-token-of-3
     token-of-requires
     enum-told
     token-of-requires-2

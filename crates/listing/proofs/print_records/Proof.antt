@@ -28,15 +28,6 @@ shared-slice-copy-out-r c = search needs
 make-room-requires : tie.Need-make-room-requires Inv-loop μ-loop
 make-room-requires c κs = search needs
 
-array-read-put-line : tie.Need-array-read-put-line Inv-loop μ-loop
-array-read-put-line c = search needs
-
-array-read-put-line-2 : tie.Need-array-read-put-line-2 Inv-loop μ-loop
-array-read-put-line-2 c = search needs
-
-array-read-put-line-3 : tie.Need-array-read-put-line-3 Inv-loop μ-loop
-array-read-put-line-3 c = search needs
-
 put-line-requires : tie.Need-put-line-requires Inv-loop μ-loop
 put-line-requires c κs = search needs
 
@@ -66,9 +57,6 @@ print-records-spec =
     mul-r
     shared-slice-copy-out-r
     make-room-requires
-    array-read-put-line
-    array-read-put-line-2
-    array-read-put-line-3
     put-line-requires
     add-i
     loop-less

@@ -8,9 +8,11 @@ use borrow.Author.Tests.{lt-ltb, le-ltb, not-true, not-false}
 use lib.ListN.{length, getD, take, drop}
 use lib.Seq.{getD-take, length-take-le}
 use Rattle.classes.specs.Classes.{continuation}
+use Rattle.lexer.specs.Lines.{lineEnds}
 use Rattle.lexer.specs.Tokens.{startOf}
-use Rattle.place.specs.Positions.{lineEnds, columnBehind, positionAnswer}
-use Rattle.place.proofs.PositionLaws.{line-at-lf, line-at-other, column-at-lf, column-at-char, column-inside, lines-end, column-end, mark-no-line}
+use Rattle.lexer.proofs.LineLaws.{line-at-lf, line-at-other, lines-end, mark-no-line}
+use Rattle.place.specs.Positions.{columnBehind, positionAnswer}
+use Rattle.place.proofs.PositionLaws.{column-at-lf, column-at-char, column-inside, column-end}
 use Rattle.place.proofs.NumberLaws.{positioned}
 use borrow.Author.Needs.{needs}
 use native.Mathlib.Omega.{arith}

@@ -15,7 +15,7 @@ new-requires-2 : tie.Need-new-requires-2
 new-requires-2 c κs = search needs
 
 returns : tie.Need-returns
-returns c = c .new2 .ensures ∙ ap (λ (s : Span). tokenOf Eof (s .start) (s .end)) (c .before .new .ensures)
+returns c = c .new2 .ensures ∙ ap (λ (s : Span). tokenOf Eof (s .start) (s .end) 0) (c .before .new .ensures)
 
 pub blank-spec : {M : Type 1} → statement M
 blank-spec = tie.close (tie.spec new-requires new-requires-2 returns)

@@ -117,26 +117,26 @@ abbrev kind-val : Val
 kind-val = EL.val Ki.the-type Ki′.the-laws Eof
 
 abbrev span-val : Val
-span-val = LL.tuple-val Sn.the-type Sn′.the-laws (Sn.the-type .to (eofAt 0 .span))
+span-val = LL.tuple-val Sn.the-type Sn′.the-laws (Sn.the-type .to (eofAt 0 0 .span))
 
 kind-is : Is Ki.the-row Eof (kind-val ∷ [])
 kind-is = EL.owes Ki.the-type Ki′.the-laws Eof tt
 
-span-is : Is Sn.the-row (eofAt 0 .span) (span-val ∷ [])
-span-is = LL.owes Sn.the-type Sn′.the-laws (eofAt 0 .span) ((refl, lit< tt), ((refl, lit< tt), tt))
+span-is : Is Sn.the-row (eofAt 0 0 .span) (span-val ∷ [])
+span-is = LL.owes Sn.the-type Sn′.the-laws (eofAt 0 0 .span) ((refl, lit< tt), ((refl, lit< tt), tt))
 
-blank-is : Is R (eofAt 0) (tok-val (eofAt 0) ∷ [])
-blank-is = LL.owes T.the-type T′.the-laws (eofAt 0) (kind-is, (span-is, tt))
+blank-is : Is R (eofAt 0 0) (tok-val (eofAt 0 0) ∷ [])
+blank-is = LL.owes T.the-type T′.the-laws (eofAt 0 0) (kind-is, (span-is, ((refl, lit< tt), tt)))
 
 abbrev ys : List Token
 ys = eightBlank
 
 abbrev ys-val : Val
-ys-val = arrayVal (replicate 8 (tok-val (eofAt 0)))
+ys-val = arrayVal (replicate 8 (tok-val (eofAt 0 0)))
 
 ys-is : Is RA ys (ys-val ∷ [])
 ys-is = (
-  replicate 8 (tok-val (eofAt 0)),
+  replicate 8 (tok-val (eofAt 0 0)),
   ((refl, refl), (blank-is, (blank-is, (blank-is, (blank-is, (blank-is, (blank-is, (blank-is, (blank-is, tt))))))))),
 )
 
@@ -232,8 +232,8 @@ module _ {M : Type 1} (𝓤 : URA M) (H : Heap 𝓤) (A : Atoms 𝓤) (W : Given
   goes-blank : ent 𝓤 (emp 𝓤) (Blank 𝓤 H A mem run .pre to-blank)
   goes-blank = qed W [] ∵ nothing ! $ nothing ! $ join ! $ frame ! $ done !
 
-  blank-said : (r : Token) → ent 𝓤 (ensured 𝓤 H A blank.ended (blank.clauses 𝓤 H A mem run) tt tt tt r) (fact 𝓤 (r ≡ eofAt 0))
-  blank-said r = exE 𝓤 _ (λ ws. snd∗ 𝓤 (sem 𝓤 H A (lasts blank.ended tt tt ws)) (fact 𝓤 (r ≡ eofAt 0)))
+  blank-said : (r : Token) → ent 𝓤 (ensured 𝓤 H A blank.ended (blank.clauses 𝓤 H A mem run) tt tt tt r) (fact 𝓤 (r ≡ eofAt 0 0))
+  blank-said r = exE 𝓤 _ (λ ws. snd∗ 𝓤 (sem 𝓤 H A (lasts blank.ended tt tt ws)) (fact 𝓤 (r ≡ eofAt 0 0)))
 
   -- ---- the exit
   abbrev all : List Token → LexedEight
@@ -265,7 +265,7 @@ module _ {M : Type 1} (𝓤 : URA M) (H : Heap 𝓤) (A : Atoms 𝓤) (W : Given
       abbrev Others : Item 𝓤 → List (Item 𝓤)
       Others c₃ = ‵ (froom arr l₇ 0) ∷ ‵ (fdies arr l₇) ∷ ‵ (fat fullShare sliceₑ l₆ 0 (sliceVal (l₂, 0) 8)) ∷ ‵ (fdies sliceₑ l₆)
           ∷ ‵ (fat fullShare arr-ref l₅ 0 (vptr l₂ 0)) ∷ ‵ (fdies arr-ref l₅)
-          ∷ ‵ (fat fullShare T′.mir l₄ 0 (tok-val (eofAt 0))) ∷ ‵ (fdies T′.mir l₄) ∷ c₃ ∷ ‵ (fdies Le′.mir l₃)
+          ∷ ‵ (fat fullShare T′.mir l₄ 0 (tok-val (eofAt 0 0))) ∷ ‵ (fdies T′.mir l₄) ∷ c₃ ∷ ‵ (fdies Le′.mir l₃)
           ∷ ‵ (fdies arr l₂) ∷ ‵ (fat fullShare slice₁ l₁ 0 s₁) ∷ ‵ (fdies slice₁ l₁) ∷ ‵ (froom Ei′.mir l₀ 0) ∷ ‵ (fdies Ei′.mir l₀) ∷ []
 
       -- the array is the caller's own again: it is copied into the result, beside the answer
@@ -346,9 +346,9 @@ module _ {M : Type 1} (𝓤 : URA M) (H : Heap 𝓤) (A : Atoms 𝓤) (W : Given
       making =
           use0 W (raw (Blank 𝓤 H A mem run .pre to-blank)) goes-blank $
           calls-at ! (fmOf 𝓤 H (W .laws) 𝓣) (Blank 𝓤 H A mem run) known-blank to-blank (no-more !) (λ u.
-          returned ! tt (‵ ftrue) R u (ensured 𝓤 H A blank.ended (blank.clauses 𝓤 H A mem run) tt tt tt) (λ r. r ≡ eofAt 0) blank-said
+          returned ! tt (‵ ftrue) R u (ensured 𝓤 H A blank.ended (blank.clauses 𝓤 H A mem run) tt tt tt) (λ r. r ≡ eofAt 0 0) blank-said
           (id⊢ 𝓤 _) (λ r is-blank gr. drop ! $ drop ! $
-          let is-u : u ∷ [] ≡ tok-val (eofAt 0) ∷ [] =
+          let is-u : u ∷ [] ≡ tok-val (eofAt 0 0) ∷ [] =
           LL.tells T.the-type T′.the-laws r (u ∷ []) gr ∙ ap (λ (t : Token). tok-val t ∷ []) is-blank in
           land ! (from ! (stop !)) (init ! 6 refl (LL.lawful T.the-type T′.the-laws 𝓤 H A W .typed r _ gr .0)) $
           rewrite ! 6 (λ (v : Val). ‵ (fat fullShare T′.mir l₄ 0 v)) (ap only is-u) refl $

@@ -124,7 +124,7 @@ of-cursor : (s : Stepped) → Is Sp.the-row s (step-val s ∷ []) → Is Cu.the-
 of-cursor s g = LL.owed Sp.the-type Sp′.the-laws s _ g .1 .0
 
 -- the bytes before element i are fewer than 2 ^ 64
-offset-fits : (i n : ℕ) → i < n → n * 24 < 2 ^ 63 → i * 24 < 2 ^ 64
+offset-fits : (i n : ℕ) → i < n → n * 32 < 2 ^ 63 → i * 32 < 2 ^ 64
 offset-fits i n l r = omega arith
 
 -- the contracts that the proof cites
@@ -344,7 +344,7 @@ module _ {M : Type 1} (𝓤 : URA M) (H : Heap 𝓤) (A : Atoms 𝓤) (W : Given
             assigns !
             (bin ! (load ! (from ! (fld ! refl (stop !))) (look-in ! 24 (sub ! 0 refl (whole !))))
             (load ! (from ! (stop !)) (look ! 8 refl)) tt) (from ! (stop !)) (init ! 6 refl (tt, tt)) $
-            rewrite ! 6 (λ (p : ℕ). ‵ (fat fullShare tyPtr l₁₁ 0 (vptr b p))) (sym (place-is 24 o (i .0))) refl $
+            rewrite ! 6 (λ (p : ℕ). ‵ (fat fullShare tyPtr l₁₁ 0 (vptr b p))) (sym (place-is 32 o (i .0))) refl $
             -- record i is taken out of the row, stored to, and put back
             move ! (2 ∷ []) $ elem-out ! R (Is R) (shows 𝓤 H A R) (LL.vals T.the-type T′.the-laws)
             (LL.tells T.the-type T′.the-laws) fullShare (zs (i .0)) (i .0) (stepped .token) b o in-zs (λ _.

@@ -8,10 +8,10 @@ use Rattle.spelling.proofs.put_text.Statement.{statement}
 use Rattle.spelling.proofs.put_text.Tie as tie
 
 abbrev Inv-loop : tie.InvT-loop
-Inv-loop out₀ numbers bytes records text used₀ k₀ i₀ out used k i = (i ≤ 24) × (length out ≡ length out₀)
+Inv-loop out₀ numbers bytes errors tokens text used₀ k₀ i₀ out used k i = (i ≤ 24) × (length out ≡ length out₀)
 
 abbrev μ-loop : tie.MeasureT-loop
-μ-loop out₀ numbers bytes records text used₀ k₀ i₀ out used k i = 24 - i
+μ-loop out₀ numbers bytes errors tokens text used₀ k₀ i₀ out used k i = 24 - i
 
 loop-holds : tie.Need-loop-holds Inv-loop μ-loop
 loop-holds c = search needs

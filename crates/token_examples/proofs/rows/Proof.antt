@@ -18,20 +18,11 @@ loop-holds c = search needs
 returns : tie.Need-returns Inv-loop μ-loop
 returns c = search needs
 
-mul-r : tie.Need-mul-r Inv-loop μ-loop
-mul-r c = search needs
+mul-row : tie.Need-mul-row Inv-loop μ-loop
+mul-row c = search needs
 
-shared-slice-copy-out-r : tie.Need-shared-slice-copy-out-r Inv-loop μ-loop
-shared-slice-copy-out-r c = search needs
-
-array-read-row : tie.Need-array-read-row Inv-loop μ-loop
-array-read-row c = search needs
-
-array-read-row-2 : tie.Need-array-read-row-2 Inv-loop μ-loop
-array-read-row-2 c = search needs
-
-array-read-row-3 : tie.Need-array-read-row-3 Inv-loop μ-loop
-array-read-row-3 c = search needs
+shared-slice-copy-out-row : tie.Need-shared-slice-copy-out-row Inv-loop μ-loop
+shared-slice-copy-out-row c = search needs
 
 row-requires : tie.Need-row-requires Inv-loop μ-loop
 row-requires c κs = search needs
@@ -56,11 +47,8 @@ rows-spec =
     μ-loop
     loop-holds
     returns
-    mul-r
-    shared-slice-copy-out-r
-    array-read-row
-    array-read-row-2
-    array-read-row-3
+    mul-row
+    shared-slice-copy-out-row
     row-requires
     add-i
     loop-less

@@ -1,9 +1,9 @@
 -- `step` is right because its tests are the definition's, in its order.
 -- Assumes nothing.
-use mathlib.Core.Path.{_∙_}
 use borrow.Author.Tests.{lt-ltb, le-ltb, eq-eqb, ne-eqb}
 use Rattle.lexer.specs.Steps.{stepOf}
 use borrow.Author.Needs.{needs}
+use native.Mathlib.Omega.{arith}
 use Rattle.lexer.proofs.NumberLaws.{stepped}
 use Rattle.lexer.proofs.Cursor.step.Statement.{statement}
 use Rattle.lexer.proofs.Cursor.step.Tie as tie
@@ -16,25 +16,49 @@ returns-2 : tie.Need-returns-2
 unfolding stepOf
 returns-2 c = stepped (c .before .before .before .args .doc .now) (c .before .before .before .args .self) _ (simp (le-ltb _ _ (c .before .if1 .left), lt-ltb _ _ (c .if2 .taken)))
 
+add-if3 : tie.Need-add-if3
+add-if3 c = search needs
+
 returns-3 : tie.Need-returns-3
 unfolding stepOf
-returns-3 c = stepped (c .before .before .before .before .before .args .doc .now) (c .before .before .before .before .before .args .self) _ (simp (le-ltb _ _ (c .before .before .before .if1 .left), le-ltb _ _ (c .before .before .if2 .left), eq-eqb _ _ (c .before .if3 .taken), c .if4 .taken))
+returns-3 c = stepped (c .before .before .before .before .args .doc .now) (c .before .before .before .before .args .self) _ (simp (le-ltb _ _ (c .before .before .if1 .left), le-ltb _ _ (c .before .if2 .left), lt-ltb _ _ (c .if3 .taken)))
+
+returns-4 : tie.Need-returns-4
+unfolding stepOf
+returns-4 c = stepped (c .before .before .before .before .before .before .args .doc .now) (c .before .before .before .before .before .before .args .self) _ (simp (le-ltb _ _ (c .before .before .before .before .if1 .left), le-ltb _ _ (c .before .before .before .if2 .left), le-ltb _ _ (c .before .before .if3 .left), eq-eqb _ _ (c .before .if4 .taken), c .if5 .taken))
 
 token-of-requires : tie.Need-token-of-requires
 token-of-requires c κs = search needs
 
-returns-4 : tie.Need-returns-4
-unfolding stepOf
-returns-4 c = stepped (c .before .before .before .before .before .before .args .doc .now) (c .before .before .before .before .before .before .args .self) _ (simp (le-ltb _ _ (c .before .before .before .before .if1 .left), le-ltb _ _ (c .before .before .before .if2 .left), eq-eqb _ _ (c .before .before .if3 .taken), c .before .if4 .left, c .token-of .ensures))
-
-token-at-requires : tie.Need-token-at-requires
-token-at-requires c κs = search needs
+cursor-of-requires : tie.Need-cursor-of-requires
+cursor-of-requires c κs = search needs
 
 returns-5 : tie.Need-returns-5
 unfolding stepOf
-returns-5 c = stepped (c .before .before .before .before .before .args .doc .now) (c .before .before .before .before .before .args .self) _ (simp (le-ltb _ _ (c .before .before .before .if1 .left), le-ltb _ _ (c .before .before .if2 .left), ne-eqb _ _ (c .before .if3 .left), c .token-at .ensures))
+returns-5 c = stepped (c .before .before .before .before .before .before .before .before .args .doc .now) (c .before .before .before .before .before .before .before .before .args .self) _ (simp (le-ltb _ _ (c .before .before .before .before .before .before .if1 .left), le-ltb _ _ (c .before .before .before .before .before .if2 .left), le-ltb _ _ (c .before .before .before .before .if3 .left), eq-eqb _ _ (c .before .before .before .if4 .taken), c .before .before .if5 .left, c .before .token-of .ensures, c .cursor-of .ensures))
+
+token-at-requires : tie.Need-token-at-requires
+token-at-requires c κs = (omega arith, omega arith)
+
+cursor-of-requires-2 : tie.Need-cursor-of-requires-2
+cursor-of-requires-2 c κs = search needs
+
+returns-6 : tie.Need-returns-6
+unfolding stepOf
+returns-6 c = stepped (c .before .before .before .before .before .before .before .before .args .doc .now) (c .before .before .before .before .before .before .before .before .args .self) _ (simp (le-ltb _ _ (c .before .before .before .before .before .before .if1 .left), le-ltb _ _ (c .before .before .before .before .before .if2 .left), le-ltb _ _ (c .before .before .before .before .if3 .left), ne-eqb _ _ (c .before .before .before .if4 .left), c .cursor-of2 .ensures, c .before .before .token-at .ensures .0, c .before .before .token-at .ensures .1))
 
 pub step-spec : {M : Type 1} → statement M
 step-spec =
     tie.close
-    (tie.spec returns returns-2 returns-3 token-of-requires returns-4 token-at-requires returns-5)
+    (tie.spec
+    returns
+    returns-2
+    add-if3
+    returns-3
+    returns-4
+    token-of-requires
+    cursor-of-requires
+    returns-5
+    token-at-requires
+    cursor-of-requires-2
+    returns-6)

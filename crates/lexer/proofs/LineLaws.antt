@@ -1,0 +1,202 @@
+-- Lines: the LFs in a part and in the rest, at a place, and in a token, of which only a newline and the ml kinds hold any.
+-- Assumes nothing.
+use Prim.Native.Nat.{ℕ, zero, suc, _+_, _-_, _≤_, _<_}
+use mathlib.Core.Path.{_≡_, refl, sym, ap, _∙_}
+use mathlib.Core.Bool.{Bool, true, false, cond, not, _&&_}
+use mathlib.Core.List.{List, [], _∷_}
+use native.Mathlib.Omega.{arith}
+use native.Mathlib.Numerals.{add-one}
+use native.Mathlib.Decide.{decLt}
+use borrow.Author.Tests.{eq-eqb, ne-eqb, eqb-true, eqb-false}
+use lib.Dec.{eqb}
+use lib.ListN.{length, getD, take, drop, drop-of-length-le, length-take, length-drop}
+use lib.Seq.{drop-cons, drop-drop, getD-drop, getD-take, take-length}
+use Rattle.classes.specs.Classes.{wschar, tokenStart}
+use Rattle.classes.specs.Runs.{run}
+use Rattle.classes.proofs.Conds.{cond-case, both-left, both-right, not-both}
+use Rattle.classes.proofs.RunLaws.{there}
+use Rattle.token.specs.declared.TokenKind.{TokenKind}
+use Rattle.token.specs.declared.TokenKind.the-variants.{Newline, MlLiteralString, MlBasicString}
+use Rattle.lexer.specs.Bytes.{hides, closes, inComment, inAtom}
+use Rattle.lexer.specs.Extents.{lineTail, triple, newlineTail}
+use Rattle.lexer.specs.Lines.{lineEnds, lineBehind}
+use Rattle.lexer.specs.Tokens.{hasBom, startOf}
+use Rattle.lexer.specs.Table.{kindBy, kindOf, extent, tokenLen}
+use Rattle.lexer.proofs.KindLaws.{by-kind}
+
+-- ---- a byte in front
+
+pub lf-front : (b : ℕ) (s : List ℕ) → b ≡ 10 → lineEnds (b ∷ s) ≡ suc (lineEnds s)
+unfolding lineEnds
+lf-front b s e = rw (eq-eqb b 10 e)
+
+pub other-front : (b : ℕ) (s : List ℕ) → (b ≡ 10 → ⊥) → lineEnds (b ∷ s) ≡ lineEnds s
+unfolding lineEnds
+other-front b s e = rw (ne-eqb b 10 e)
+
+pub behind-front : (line b : ℕ) (s : List ℕ) → lineBehind line b + lineEnds s ≡ line + lineEnds (b ∷ s)
+unfolding lineEnds
+behind-front line b s = go (eqb b 10)
+  where
+    go : (t : Bool) → cond t (suc line) line + lineEnds s ≡ line + cond t (suc (lineEnds s)) (lineEnds s)
+    go true = omega arith
+    go false = refl
+
+pub lines-none : lineEnds [] ≡ 0
+unfolding lineEnds
+lines-none = refl
+
+pub lines-le : (s : List ℕ) → lineEnds s ≤ length s
+lines-le [] = omega (arith, lines-none)
+lines-le (b ∷ s) =
+    let r = lines-le s in
+    let e = behind-front 0 b s in
+    cond-case (λ (n : ℕ). n + lineEnds s ≡ 0 + lineEnds (b ∷ s) → lineEnds (b ∷ s) ≤ suc (length s)) (eqb b 10)
+    (λ _ k. omega arith) (λ _ k. omega arith) e
+
+-- a part and the rest
+pub lines-split : (n : ℕ) (s : List ℕ) → lineEnds (take n s) + lineEnds (drop n s) ≡ lineEnds s
+lines-split zero s = omega (arith, lines-none)
+lines-split (suc n) [] = omega (arith, lines-none)
+lines-split (suc n) (b ∷ s) = omega (arith, lines-split n s, behind-front 0 b s, behind-front 0 b (take n s))
+
+pub lines-taken : (n : ℕ) (s : List ℕ) → lineEnds (take n s) ≤ n
+lines-taken n s = omega (arith, lines-le (take n s), length-take n s)
+
+-- from one place to another
+pub lines-between : (doc : List ℕ) (i j : ℕ) → i ≤ j → lineEnds (take (j - i) (drop i doc)) + lineEnds (drop j doc) ≡ lineEnds (drop i doc)
+lines-between doc i j h =
+    let same : i + (j - i) ≡ j = omega arith in
+    let rest : drop (j - i) (drop i doc) ≡ drop j doc = drop-drop (j - i) i doc ∙ ap (λ (k : ℕ). drop k doc) same in
+    omega (arith, lines-split (j - i) (drop i doc), ap lineEnds rest)
+
+-- ---- at a place
+
+module _ (s : List ℕ) (i : ℕ) (h : i < length s) where
+  split : drop i s ≡ getD s i 0 ∷ drop (i + 1) s
+  split = rw (add-one, drop-cons s i 0)
+
+  pub line-at-lf : getD s i 0 ≡ 10 → lineEnds (drop i s) ≡ suc (lineEnds (drop (i + 1) s))
+  line-at-lf e = rw split (lf-front (getD s i 0) (drop (i + 1) s) e)
+
+  pub line-at-other : (getD s i 0 ≡ 10 → ⊥) → lineEnds (drop i s) ≡ lineEnds (drop (i + 1) s)
+  line-at-other e = rw split (other-front (getD s i 0) (drop (i + 1) s) e)
+
+pub lines-end : (s : List ℕ) (i : ℕ) → length s ≤ i → lineEnds (drop i s) ≡ 0
+lines-end s i h = rw (drop-of-length-le s h) lines-none
+
+-- ---- a byte order mark holds no LF
+
+-- passing a byte that is no LF, or that is not there, passes no line end
+line-past : (s : List ℕ) (i : ℕ) → (getD s i 0 ≡ 10 → ⊥) → lineEnds (drop i s) ≡ lineEnds (drop (i + 1) s)
+line-past s i e =
+    elim (decLt i (length s)) [
+      | yes l ↦ line-at-other s i l e
+      | no l ↦ lines-end s i (omega arith) ∙ sym (lines-end s (i + 1) (omega arith))
+    ]
+
+-- a byte that is there and no LF is none in a part from the front either
+no-lf-in : (s : List ℕ) (n i b : ℕ) → getD s i 0 ≡ b → 10 < b → getD (take n s) i 0 ≡ 10 → ⊥
+no-lf-in s n i b e h f =
+    let l = there (take n s) i (omega arith) in
+    omega (arith, getD-take n s i 0 (omega (arith, length-take n s)))
+
+pub mark-bytes : (s : List ℕ) → hasBom s ≡ true → (getD s 0 0 ≡ 0xEF) × (getD s 1 0 ≡ 0xBB) × (getD s 2 0 ≡ 0xBF)
+mark-bytes s t =
+    let first = eqb (getD s 0 0) 0xEF in
+    let second = eqb (getD s 1 0) 0xBB in
+    let third = eqb (getD s 2 0) 0xBF in
+    let behind = both-right first (second && third) t in (
+      eqb-true _ _ (both-left first (second && third) t),
+      eqb-true _ _ (both-left second third behind),
+      eqb-true _ _ (both-right second third behind),
+    )
+
+pub mark-no-line : (s : List ℕ) (n : ℕ) → lineEnds (drop (startOf s) (take n s)) ≡ lineEnds (take n s)
+unfolding startOf
+mark-no-line s n =
+    cond-case (λ (k : ℕ). lineEnds (drop k (take n s)) ≡ lineEnds (take n s)) (hasBom s)
+    (λ t.
+    let m = mark-bytes s t in
+    let past : (i b : ℕ) → getD s i 0 ≡ b → 10 < b → lineEnds (drop i (take n s)) ≡ lineEnds (drop (i + 1) (take n s)) =
+    λ i b e h. line-past (take n s) i (no-lf-in s n i b e h) in
+    sym (past 0 _ (m .0) (omega arith) ∙ past 1 _ (m .1) (omega arith) ∙ past 2 _ (m .2) (omega arith)))
+    (λ t. refl)
+
+pub start-no-line : (s : List ℕ) → lineEnds (drop (startOf s) s) ≡ lineEnds s
+start-no-line s = rw (take-length s) at (mark-no-line s (length s))
+
+-- ---- in a token
+
+run-no-lf : (p : ℕ → Bool) (s : List ℕ) → p 10 ≡ false → lineEnds (take (run p s) s) ≡ 0
+unfolding run
+run-no-lf p [] h = lines-none
+run-no-lf p (b ∷ s) h =
+    let r = run-no-lf p s h in
+    cond-case (λ (n : ℕ). lineEnds (take n (b ∷ s)) ≡ 0) (p b)
+    (λ t. other-front b (take (run p s) s) (λ e. not-both t (ap p e ∙ h)) ∙ r) (λ t. lines-none)
+
+line-no-lf : (q : ℕ) (h : Bool) (s : List ℕ) → (q ≡ 10 → ⊥) → lineEnds (take (lineTail q h s) s) ≡ 0
+unfolding lineTail
+line-no-lf q h [] k = lines-none
+line-no-lf q h (b ∷ s) k =
+    let P : ℕ → Type 0 = λ n. lineEnds (take n (b ∷ s)) ≡ 0 in
+    let r = line-no-lf q (hides q h b) s k in
+    cond-case P (closes q h b) (λ t. other-front b [] (λ e. k (sym (eqb-true b q (both-right (not h) (eqb b q) t)) ∙ e)) ∙ lines-none)
+    λ _. cond-case P (eqb b 10) (λ t. lines-none) (λ t. other-front b (take (lineTail q (hides q h b) s) s) (eqb-false b 10 t) ∙ r)
+
+-- a kind that is no newline and not on several lines
+abbrev OneLine : TokenKind → Type 0 → Type 0
+OneLine k P = (k ≡ Newline → ⊥) → (k ≡ MlLiteralString → ⊥) → (k ≡ MlBasicString → ⊥) → P
+
+lf-newline : (b : ℕ) (s : List ℕ) → b ≡ 10 → kindOf (b ∷ s) ≡ Newline
+unfolding kindOf kindBy wschar
+lf-newline b s e = rw e
+
+abbrev NoLf : List ℕ → ℕ → Type 0
+NoLf s n = lineEnds (take n s) ≡ 0
+
+pub token-no-lf : (s : List ℕ) → OneLine (kindOf s) (NoLf s (tokenLen s))
+unfolding tokenLen kindOf extent wschar tokenStart
+token-no-lf [] = λ _ _ _. lines-none
+token-no-lf (b ∷ s) = λ n l m. go (eqb b 10) refl n l m
+  where
+    go : (t : Bool) → eqb b 10 ≡ t → OneLine (kindOf (b ∷ s)) (NoLf (b ∷ s) (tokenLen (b ∷ s)))
+    go true t = λ n _ _. absurd (n (lf-newline b s (eqb-true b 10 t)))
+    go false t =
+        let rest : (k : ℕ) → NoLf s k → NoLf (b ∷ s) (suc k) = λ k e. other-front b (take k s) (eqb-false b 10 t) ∙ e in
+        let one : NoLf (b ∷ s) 1 = rest 0 lines-none in
+        by-kind (λ (k : TokenKind). OneLine k (NoLf (b ∷ s) (extent k (b ∷ s)))) b (triple b (b ∷ s))
+        (λ _ _ _ _. one) (λ _ _ _ _. one) (λ _ _ _ _. one) (λ _ _ _ _. one) (λ _ _ _ _. one) (λ _ _ _ _. one) (λ _ _ _ _. one)
+        (λ _ _ _ _. rest (run wschar s) (run-no-lf wschar s refl)) (λ _ _ _ _. rest (run inComment s) (run-no-lf inComment s refl)) (λ _ n _ _. absurd (n refl))
+        (λ _ _ _ _. rest (lineTail 39 false s) (line-no-lf 39 false s (λ e. omega arith))) (λ _ _ _ _. rest (lineTail 34 false s) (line-no-lf 34 false s (λ e. omega arith)))
+        (λ _ _ _ l _. absurd (l refl)) (λ _ _ _ _ m. absurd (m refl)) (λ _ _ _. rest (run inAtom s) (run-no-lf inAtom s refl))
+
+-- a newline holds an LF where its last byte is one
+pub newline-line : (s : List ℕ) → 0 < length s
+    → lineEnds (take (suc (newlineTail s)) s) ≡ cond (eqb (getD s (newlineTail s) 0) 10) 1 0
+unfolding newlineTail lineEnds
+newline-line [] h = absurd (omega arith)
+newline-line (b ∷ s) h =
+    cond-case (λ (n : ℕ). lineEnds (b ∷ take n s) ≡ cond (eqb (getD (b ∷ s) n 0) 10) 1 0) (eqb b 13 && eqb (getD s 0 0) 10)
+    (λ t. crlf s (eqb-true b 13 (both-left (eqb b 13) (eqb (getD s 0 0) 10) t)) (eqb-true (getD s 0 0) 10 (both-right (eqb b 13) (eqb (getD s 0 0) 10) t)))
+    (λ t. refl)
+  where
+    crlf : (s : List ℕ) → b ≡ 13 → getD s 0 0 ≡ 10 → lineEnds (b ∷ take 1 s) ≡ cond (eqb (getD s 0 0) 10) 1 0
+    crlf [] e f = absurd (omega arith)
+    crlf (x ∷ s) e f = rw (ne-eqb b 10 (λ z. omega arith), eq-eqb x 10 f)
+
+-- so by the byte before its end
+pub newline-token : (doc : List ℕ) (at end : ℕ) → at < length doc → kindOf (drop at doc) ≡ Newline → end ≡ at + tokenLen (drop at doc)
+    → (getD doc (end - 1) 0 ≡ 10 → lineEnds (take (tokenLen (drop at doc)) (drop at doc)) ≡ 1)
+    × ((getD doc (end - 1) 0 ≡ 10 → ⊥) → lineEnds (take (tokenLen (drop at doc)) (drop at doc)) ≡ 0)
+unfolding tokenLen extent
+newline-token doc at end h k e =
+    let s = drop at doc in
+    let n = newlineTail s in
+    let size : tokenLen s ≡ suc n = ap (λ (j : TokenKind). extent j s) k in
+    let same : at + n ≡ end - 1 = omega (arith, size) in
+    let byte : getD s n 0 ≡ getD doc (end - 1) 0 = getD-drop at doc n 0 ∙ ap (λ (i : ℕ). getD doc i 0) same in
+    let is : lineEnds (take (tokenLen s) s) ≡ cond (eqb (getD doc (end - 1) 0) 10) 1 0 =
+    ap (λ (i : ℕ). lineEnds (take i s)) size ∙ newline-line s (omega (arith, length-drop at doc)) ∙ ap (λ (b : ℕ). cond (eqb b 10) 1 0) byte in
+    (λ f. is ∙ rw (eq-eqb (getD doc (end - 1) 0) 10 f), λ f. is ∙ rw (ne-eqb (getD doc (end - 1) 0) 10 f))

@@ -1,0 +1,20 @@
+-- RULE. Lines: the line of an offset is 1 plus the LFs before it. A CR alone ends none.
+-- Assumes nothing.
+use Prim.Native.Nat.{ℕ, suc, _+_}
+use mathlib.Core.Bool.{cond}
+use mathlib.Core.List.{List, [], _∷_}
+use lib.ListN.{take}
+use lib.Dec.{eqb}
+
+-- the LFs in some bytes
+unfoldable pub lineEnds : List ℕ → ℕ
+lineEnds [] = 0
+lineEnds (b ∷ s) = cond (eqb b 10) (suc (lineEnds s)) (lineEnds s)
+
+-- the line is 1 plus the LFs before the offset
+abbrev pub lineOf : List ℕ → ℕ → ℕ
+lineOf doc offset = 1 + lineEnds (take offset doc)
+
+-- the line behind one byte
+abbrev pub lineBehind : ℕ → ℕ → ℕ
+lineBehind line b = cond (eqb b 10) (suc line) line
