@@ -41,4 +41,9 @@ static int is_record(const size_t record[3], size_t a, size_t b, size_t c)
     return record[0] == a && record[1] == b && record[2] == c;
 }
 
+static int is_token(const size_t record[4], size_t a, size_t b, size_t c, size_t line)
+{
+    return is_record(record, a, b, c) && record[3] == line;
+}
+
 #endif

@@ -45,7 +45,7 @@ static void lexing(void)
     FROM("docs/RULES.md, the refusals: 1 before 3, with the longest valid prefix");
     size_t one[1][4] = {T(7, 8, 9, 1)};
     EXPECT(answers(toml_lex(BYTES("a\xFF"), one, 0), 1, 1));
-    EXPECT(is_record(one[0], 7, 8, 9));
+    EXPECT(is_token(one[0], 7, 8, 9, 1));
     EXPECT(answers(toml_check_utf8(BYTES("")), 0, 0));
     EXPECT(answers(toml_check_utf8(BYTES("\xC3\xA9=1")), 0, 0));
     EXPECT(answers(toml_check_utf8(BYTES("a\xED\xA0\x80")), 1, 1));
@@ -271,7 +271,7 @@ static void at_the_limit(struct memory m, size_t len)
     EXPECT(is_position(toml_position(m.doc, len, len), 0, 0, 1, len + 1));
     FROM("crates/lexer/specs/Table.antt: a token for each dot, and Eof");
     EXPECT(answers(toml_lex(m.doc, len, m.tokens, len + 1), 0, len + 1));
-    EXPECT(is_record(m.records[0], 46, 0, 1) && is_record(m.records[len], 4, len, len));
+    EXPECT(is_token(m.tokens[0], 46, 0, 1, 1) && is_token(m.tokens[len], 4, len, len, 1));
     EXPECT(answers(toml_lex(m.doc, len, m.tokens, len), 3, len + 1));
     EXPECT(answers(toml_lex(m.doc, len, m.tokens, 0), 3, len + 1));
     FROM("crates/strings/specs/Bodies.antt: error 15 at each byte of a key of dots");
@@ -280,7 +280,7 @@ static void at_the_limit(struct memory m, size_t len)
     EXPECT(answers(toml_decode(m.doc, len, 3, m.out, len, m.records, len - 1).answer, 5, len));
     FROM("crates/strings/specs/Marks.antt: one string without its two marks");
     m.doc[0] = m.doc[len - 1] = '"';
-    EXPECT(answers(toml_lex(m.doc, len, m.tokens, 2), 0, 2) && is_record(m.records[0], 34, 0, len));
+    EXPECT(answers(toml_lex(m.doc, len, m.tokens, 2), 0, 2) && is_token(m.tokens[0], 34, 0, len, 1));
     d = toml_decode(m.doc, len, 34, m.out, len + len / 2, m.records, len + 2);
     EXPECT(answers(d.answer, 0, len - 2) && d.errors == 0 && m.out[0] == '.' && m.out[len - 3] == '.');
     EXPECT(answers(toml_decode(m.doc, len, 34, m.out, len - 2, m.records, 0).answer, 0, len - 2));
@@ -299,6 +299,7 @@ static void past_the_limit(struct memory m, size_t len)
     m.doc[0] = 0xFF;
     m.out[0] = 0xA5;
     m.records[0][0] = 7;
+    m.tokens[0][0] = 7;
     EXPECT(answers(toml_check_utf8(m.doc, len), 2, TOML_LIMIT));
     EXPECT(answers(toml_lex(m.doc, len, m.tokens, 0), 2, TOML_LIMIT));
     EXPECT(answers(toml_lex(m.doc, len, m.tokens, len + 1), 2, TOML_LIMIT));
@@ -314,7 +315,7 @@ static void past_the_limit(struct memory m, size_t len)
     EXPECT(answers(d.answer, 2, TOML_LIMIT) && d.errors == 0);
     d = toml_decode_in(m.doc, len, 12, 34, m.out, TOML_LIMIT, m.records, TOML_LIMIT);
     EXPECT(answers(d.answer, 2, TOML_LIMIT) && d.errors == 0);
-    EXPECT(m.out[0] == 0xA5 && m.records[0][0] == 7);
+    EXPECT(m.out[0] == 0xA5 && m.records[0][0] == 7 && m.tokens[0][0] == 7);
 }
 
 /* With refusal 1 the length of the faulty sequence, from every call that gives it. */
