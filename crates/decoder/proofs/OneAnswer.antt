@@ -7,7 +7,7 @@ use mathlib.Core.List.{List}
 use lib.ListN.{length}
 use Rattle.classes.proofs.OneAnswer.{Only}
 use Rattle.strings.specs.declared.Decoded.{Decoded}
-use Rattle.strings.specs.Encodings.{encodingBy}
+use Rattle.strings.specs.Encodings.{choiceBy}
 use Rattle.strings.specs.Decoding.{bytesBy, errorsBy, decodeIn, after}
 
 -- an answer, and what the output and the error records hold afterwards
@@ -19,8 +19,8 @@ pub record Outcome : Type 0 where
 -- the promise, for a text, the numbers of an edition and a kind, and what the output and the records held
 pub record Promised (text : List ℕ) (edition kind : ℕ) (output : List ℕ) (errors : List (List ℕ)) (r : Outcome) : Type 0 where
   pub answers : r .answer ≡ decodeIn text edition kind (length output) (length errors)
-  pub writes : r .output ≡ after (r .answer) (bytesBy (encodingBy edition kind) text) output
-  pub notes : r .errors ≡ after (r .answer) (errorsBy (encodingBy edition kind) text) errors
+  pub writes : r .output ≡ after (r .answer) (bytesBy (choiceBy edition kind) text) output
+  pub notes : r .errors ≡ after (r .answer) (errorsBy (choiceBy edition kind) text) errors
 
 same : (a b : Decoded) (o u : List ℕ) (e f : List (List ℕ)) → a ≡ b → o ≡ u → e ≡ f
     → _≡_ {A = Outcome} (record { answer = a; output = o; errors = e }) (record { answer = b; output = u; errors = f })
@@ -29,8 +29,8 @@ same a b o u e f p q r = rw (p, q, r)
 pub decode-in : (text : List ℕ) (edition kind : ℕ) (output : List ℕ) (errors : List (List ℕ)) → Only (Promised text edition kind output errors)
 decode-in text edition kind output errors x y p q =
     let a : x .answer ≡ y .answer = p .answers ∙ sym (q .answers) in
-    let o : x .output ≡ y .output = p .writes ∙ ap (λ (r : Decoded). after r (bytesBy (encodingBy edition kind) text) output) a ∙ sym (q .writes) in
-    let e : x .errors ≡ y .errors = p .notes ∙ ap (λ (r : Decoded). after r (errorsBy (encodingBy edition kind) text) errors) a ∙ sym (q .notes) in
+    let o : x .output ≡ y .output = p .writes ∙ ap (λ (r : Decoded). after r (bytesBy (choiceBy edition kind) text) output) a ∙ sym (q .writes) in
+    let e : x .errors ≡ y .errors = p .notes ∙ ap (λ (r : Decoded). after r (errorsBy (choiceBy edition kind) text) errors) a ∙ sym (q .notes) in
     same (x .answer) (y .answer) (x .output) (y .output) (x .errors) (y .errors) a o e
 
 -- a call that names no edition reads TOML 1.0

@@ -7,7 +7,7 @@ ghost use lib.ListN.{length};
 ghost use lib.Seq.{sets};
 ghost use Rattle.text.specs.Refusals.{limit};
 ghost use Rattle.text.specs.declared.utf8.Utf8Check.the-variants.{Valid};
-ghost use Rattle.strings.specs.Encodings.{encodingIn, unnamed, encodingBy, encodingOf};
+ghost use Rattle.strings.specs.Encodings.{choiceIn, unnamed, choiceBy, choiceOf};
 ghost use Rattle.strings.specs.Decoding.{bytesOf, errorsOf, fitted, bytesBy, errorsBy, decodedBy, decodeIn, decodeOf, after};
 
 mod marks;
@@ -33,8 +33,8 @@ use text::check_utf8;
 // front of the records; what is behind them stays. A call that is refused writes nothing.
 pub fn decode(text: &[u8], kind: usize, output: &mut [u8], errors: &mut [[usize; 3]]) -> Decoded
     ensures { λ r. ⌜ r ≡ decodeOf (now (text .entry)) kind (length (now (output .entry))) (length (now (errors .entry))) ⌝ }
-    ensures { λ r. ⌜ now (output .exit) ≡ after r (bytesBy (encodingOf kind) (now (text .entry))) (now (output .entry)) ⌝ }
-    ensures { λ r. ⌜ now (errors .exit) ≡ after r (errorsBy (encodingOf kind) (now (text .entry))) (now (errors .entry)) ⌝ }
+    ensures { λ r. ⌜ now (output .exit) ≡ after r (bytesBy (choiceOf kind) (now (text .entry))) (now (output .entry)) ⌝ }
+    ensures { λ r. ⌜ now (errors .exit) ≡ after r (errorsBy (choiceOf kind) (now (text .entry))) (now (errors .entry)) ⌝ }
 {
     decode_in(text, TOML_10, kind, output, errors)
 }
@@ -53,24 +53,24 @@ pub fn decode_in(
     errors: &mut [[usize; 3]],
 ) -> Decoded
     ensures { λ r. ⌜ r ≡ decodeIn (now (text .entry)) edition kind (length (now (output .entry))) (length (now (errors .entry))) ⌝ }
-    ensures { λ r. ⌜ now (output .exit) ≡ after r (bytesBy (encodingBy edition kind) (now (text .entry))) (now (output .entry)) ⌝ }
-    ensures { λ r. ⌜ now (errors .exit) ≡ after r (errorsBy (encodingBy edition kind) (now (text .entry))) (now (errors .entry)) ⌝ }
+    ensures { λ r. ⌜ now (output .exit) ≡ after r (bytesBy (choiceBy edition kind) (now (text .entry))) (now (output .entry)) ⌝ }
+    ensures { λ r. ⌜ now (errors .exit) ≡ after r (errorsBy (choiceBy edition kind) (now (text .entry))) (now (errors .entry)) ⌝ }
 {
     let check = check_utf8(text);
     match check {
         Utf8Check::Refused(r) => Decoded::Refused(r),
-        Utf8Check::Valid => decode_by(encoding_by(edition, kind), text, output, errors),
+        Utf8Check::Valid => decode_by(choice_by(edition, kind), text, output, errors),
     }
 }
 
 // Which encoding the two numbers ask for. A kind is asked for before an edition.
-fn encoding_by(edition: usize, kind: usize) -> Choice
-    ensures { λ r. ⌜ r ≡ encodingBy edition kind ⌝ }
+fn choice_by(edition: usize, kind: usize) -> Choice
+    ensures { λ r. ⌜ r ≡ choiceBy edition kind ⌝ }
 {
     match edition {
-        TOML_10 => encoding_in(Edition::Toml10, kind),
-        TOML_11 => encoding_in(Edition::Toml11, kind),
-        _ => no_edition(edition, encoding_in(Edition::Toml10, kind)),
+        TOML_10 => choice_in(Edition::Toml10, kind),
+        TOML_11 => choice_in(Edition::Toml11, kind),
+        _ => no_edition(edition, choice_in(Edition::Toml10, kind)),
     }
 }
 
@@ -84,8 +84,8 @@ fn no_edition(edition: usize, choice: Choice) -> Choice
 }
 
 // Which encoding the kind's number asks for in an edition.
-fn encoding_in(v: Edition, kind: usize) -> Choice
-    ensures { λ r. ⌜ r ≡ encodingIn v kind ⌝ }
+fn choice_in(v: Edition, kind: usize) -> Choice
+    ensures { λ r. ⌜ r ≡ choiceIn v kind ⌝ }
 {
     match kind {
         39 => Choice::Known(Encoding::LiteralString),

@@ -4,7 +4,7 @@ ghost use mathlib.Core.Bool.{true};
 ghost use Prim.Native.Nat.{_+_, _≤_};
 ghost use lib.ListN.{length};
 ghost use Rattle.strings.specs.Encodings.{markError};
-ghost use Rattle.strings.specs.Marks.{opens, lineStart, closes, lineEnd, lineEnds, threes, mlStart, mlClosed, trimmed, mlEnd, mlEnds, keyEnds, endsOf};
+ghost use Rattle.strings.specs.Marks.{lineOpened, lineStart, lineClosed, lineEnd, lineEnds, threes, mlStart, mlClosed, trimmed, mlEnd, mlEnds, keyEnds, endsOf};
 use pieces::strip_start_newline;
 use strings::Encoding;
 use strings::Ends;
@@ -24,7 +24,7 @@ pub(crate) fn mark_error(e: Encoding) -> usize
 
 // A mark q at the front?
 fn has_one(q: u8, t: &[u8]) -> bool
-    ensures { λ r. ⌜ r ≡ opens q (now (t .entry)) ⌝ }
+    ensures { λ r. ⌜ r ≡ lineOpened q (now (t .entry)) ⌝ }
 {
     if t.len() == 0 {
         return false;
@@ -40,7 +40,7 @@ fn line_start(opened: bool) -> usize
 
 // A mark q at the end, behind the body's start?
 fn line_closed(q: u8, start: usize, t: &[u8]) -> bool
-    ensures { λ r. ⌜ r ≡ closes start q (now (t .entry)) ⌝ }
+    ensures { λ r. ⌜ r ≡ lineClosed start q (now (t .entry)) ⌝ }
 {
     let n = t.len();
     if n <= start {

@@ -18,13 +18,13 @@ use Rattle.strings.specs.declared.Decoded.{Decoded}
 use Rattle.strings.specs.declared.Decoded.the-variants.{Written}
 use Rattle.strings.specs.declared.Edition.{Edition}
 use Rattle.strings.specs.declared.Edition.the-variants.{Toml10, Toml11}
-use Rattle.strings.specs.Encodings.{encodingIn, encodingBy, editionNumber}
+use Rattle.strings.specs.Encodings.{choiceIn, choiceBy, editionNumber}
 use Rattle.strings.specs.Decoding.{bytesOf, errorsOf, fitted, decodedBy, decodedNumber, decodedValue, decodedErrors}
 use Rattle.strings.proofs.DecodeLaws.{fitted-short, fitted-few, fitted-written, decode-valid}
 use Rattle.token.specs.KindNumbers.{kindNumber}
 use Rattle.grammar.specs.Strings.{StringKind, literal, basic, ml-literal, ml-basic, tokenKind, encoding}
 use Rattle.grammar.specs.Demand3.{TextDerived, TextMeans, answerOf, outputOf, Called}
-use Rattle.grammar.proofs.ListLaws.{nil}
+use Rattle.strings.proofs.AnswerLaws.{nil}
 
 -- ---- what is answered where it is not refused otherwise
 
@@ -88,8 +88,8 @@ module _ {b m o e n : ℕ} where
 
 -- ---- the call
 
-known-kind : (ed : Edition) (s : StringKind) → Known (encoding ed s) ≡ encodingBy (editionNumber ed) (kindNumber (tokenKind s))
-unfolding encodingBy encodingIn
+known-kind : (ed : Edition) (s : StringKind) → Known (encoding ed s) ≡ choiceBy (editionNumber ed) (kindNumber (tokenKind s))
+unfolding choiceBy choiceIn
 known-kind Toml10 literal = refl
 known-kind Toml10 basic = refl
 known-kind Toml10 ml-literal = refl

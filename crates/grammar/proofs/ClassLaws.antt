@@ -10,26 +10,14 @@ use borrow.Author.Tests.{eqb-true, leb-true, le-leb, lt-ltb, le-ltb}
 use Rattle.classes.specs.Classes.{among, wschar, literalChar, mllChar, basicUnescaped, mlbUnescaped, hexdig}
 use Rattle.text.specs.Utf8.{Scalar}
 use Rattle.strings.specs.Escapes.{hexValue}
-use Rattle.classes.proofs.Conds.{both-left, both-right}
+use Rattle.classes.proofs.Conds.{both-left, both-right, or-left, or-right, or-inv}
 use Rattle.strings.proofs.AsciiLaws.{basic-high}
 use Rattle.grammar.specs.Grammar.{Wschar, NonAscii, x80-D7FF, xE000-10FFFF, BasicUnescaped, MlbUnescaped, HexDig, LiteralChar, MllChar}
 
 pub no-true : {A : Type 0} → false ≡ true → A
 no-true e = absurd (false≢true e)
 
--- ---- a choice of tests
-
-pub or-inv : {P : Type 0} (a b : Bool) → (a || b) ≡ true → (a ≡ true → P) → (b ≡ true → P) → P
-or-inv true b t f g = f refl
-or-inv false b t f g = g t
-
-pub or-right : (a b : Bool) → b ≡ true → (a || b) ≡ true
-or-right true b e = refl
-or-right false b e = e
-
-pub or-left : (a b : Bool) → a ≡ true → (a || b) ≡ true
-or-left true b e = refl
-or-left false b e = no-true e
+-- ---- a range of bytes
 
 among-inv : (a z b : ℕ) → among a z b ≡ true → (a ≤ b) × (b ≤ z)
 among-inv a z b e = (leb-true a b (both-left (leb a b) _ e), leb-true b z (both-right (leb a b) _ e))

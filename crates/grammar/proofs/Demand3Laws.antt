@@ -18,7 +18,7 @@ use Rattle.token.specs.declared.Token.{Token}
 use Rattle.token.specs.KindNumbers.{kindNumber}
 use Rattle.token.specs.Records.{tokenOf}
 use Rattle.lexer.specs.Table.{kindOf, extent, tokenLen}
-use Rattle.lexer.specs.Lines.{lineEnds, lineOf}
+use Rattle.lexer.specs.Lines.{lineFeeds, lineOf}
 use Rattle.lexer.specs.Tokens.{tokenAt}
 use Rattle.lexer.proofs.TokenLaws.{token-fits}
 use Rattle.lexing.specs.Lexing.{textOf}
@@ -154,9 +154,9 @@ module _ (ed : Edition) where
     token-there line = rw (kind-there, long-there)
 
     -- the LFs of the token are those of the text
-    lines-there : lineEnds (take (tokenLen (drop at doc)) (drop at doc)) ≡ lineEnds (encodes cs)
+    lines-there : lineFeeds (take (tokenLen (drop at doc)) (drop at doc)) ≡ lineFeeds (encodes cs)
     lines-there =
-        ap lineEnds (ap (λ (n : ℕ). take n (drop at doc)) long-there ∙ ap (take (length (encodes cs))) e ∙ take-append-seam (encodes cs) rest)
+        ap lineFeeds (ap (λ (n : ℕ). take n (drop at doc)) long-there ∙ ap (take (length (encodes cs))) e ∙ take-append-seam (encodes cs) rest)
 
     before-end : at < length doc
     before-end = elim (decLt at (length doc)) [

@@ -18,7 +18,7 @@ use Rattle.strings.specs.declared.Ends.{Ends}
 use Rattle.strings.specs.Encodings.{markError}
 use Rattle.strings.specs.Pieces.{gives, notesAt, collect}
 use Rattle.strings.specs.Bodies.{pieceOf}
-use Rattle.strings.specs.Marks.{closes, lineEnds, endsOf, bodyOf}
+use Rattle.strings.specs.Marks.{lineClosed, lineEnds, endsOf, bodyOf}
 use Rattle.strings.specs.Decoding.{bytesOf, missing, errorsOf}
 use Rattle.classes.proofs.Conds.{both-left, both-right}
 use Rattle.strings.proofs.MarkLaws.{line-both}
@@ -68,7 +68,7 @@ body-at q m = let l = marked-long q m in take-at m (q ∷ []) (length (marked q 
 line-inv : (q : ℕ) (t : List ℕ) → lineEnds q t .opened ≡ true → lineEnds q t .closed ≡ true → (m : List ℕ) × (t ≡ marked q m)
 unfolding lineEnds
 line-inv q t o c =
-    let c₂ : closes 1 q t ≡ true = rw o at c in
+    let c₂ : lineClosed 1 q t ≡ true = rw o at c in
     let first = eqb-true (getD t 0 0) q (both-right (ltb 0 (length t)) _ o) in
     let long = ltb-true 1 (length t) (both-left (ltb 1 (length t)) _ c₂) in
     go t first long (eqb-true (getD t (length t - 1) 0) q (both-right (ltb 1 (length t)) _ c₂))

@@ -8,10 +8,6 @@ use lib.ListN.{length, take, drop, getD, take-append-drop, drop-of-length-le}
 use lib.Seq.{drop-cons}
 use Rattle.text.specs.Utf8.{All}
 
-pub nil : {A : Type 0} (r : List A) → length r ≡ 0 → r ≡ []
-nil [] h = refl
-nil (x ∷ r) h = absurd (omega arith)
-
 pub all-weaken : {P Q : ℕ → Type 0} → ((c : ℕ) → P c → Q c) → (t : List ℕ) → All P t → All Q t
 all-weaken f [] h = tt
 all-weaken f (c ∷ t) h = (f c (h .0), all-weaken f t (h .1))

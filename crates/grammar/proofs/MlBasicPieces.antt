@@ -12,7 +12,7 @@ use lib.Dec.{eqb}
 use borrow.Author.Tests.{eqb-true, ne-eqb}
 use Rattle.classes.specs.Classes.{wschar, mlbUnescaped}
 use Rattle.classes.specs.Runs.{run}
-use Rattle.classes.proofs.Conds.{cond-case, by-eq}
+use Rattle.classes.proofs.Conds.{cond-case, by-eq, or-left, or-inv}
 use Rattle.text.specs.Utf8.{encodeScalar}
 use Rattle.text.proofs.EncodeLaws.{parts}
 use Rattle.strings.specs.declared.Edition.{Edition}
@@ -21,14 +21,14 @@ use Rattle.strings.specs.declared.Encoding.the-variants.{MlBasicString as MlBas
 use Rattle.strings.specs.Encodings.{mlbPlain}
 use Rattle.strings.specs.Pieces.{Pieces, copyPiece, dropPiece}
 use Rattle.strings.specs.Escapes.{escapePiece}
-use Rattle.strings.specs.Bodies.{skips, lineEnd, escapedNl, escapedMore, mlbContent, mlBasicPiece, pieceOf}
+use Rattle.strings.specs.Bodies.{skips, escapedLine, escapedNl, escapedMore, mlbContent, mlBasicPiece, pieceOf}
 use Rattle.strings.proofs.AsciiLaws.{mlb-high}
 use Rattle.grammar.specs.Grammar.{x20, x09, Newline, x0A, x0D-0A, EscapeSeqChar, Ws, MlbUnescaped, WscharNewline, newline}
 use Rattle.grammar.specs.Scalars.{Names}
 use Rattle.grammar.proofs.ListLaws.{first-there, two-there}
 use Rattle.grammar.proofs.Encoded.{side, ascii, beyond}
 use Rattle.grammar.proofs.Reading.{Reads, reads-char, reads-plain, reads-copy, reads-for, reads-drop}
-use Rattle.grammar.proofs.ClassLaws.{or-inv, or-left, wschar-is, basic-at, mlb-basic, mlb-same}
+use Rattle.grammar.proofs.ClassLaws.{wschar-is, basic-at, mlb-basic, mlb-same}
 use Rattle.grammar.proofs.Escapes.{shape, escape-at, EscapedAt, escape-inv}
 
 -- in one edition of TOML
@@ -117,7 +117,7 @@ module _ (ed : Edition) where
       zeroth y = ap (λ (i : ℕ). getD (w ++ y) i 0) (sym (add-zero (length w))) ∙ getD-append-add w y 0 0
 
       go : {n : List ℕ} → Newline n
-          → lineEnd at (length w) (getD (w ++ (n ++ s)) (length w) 0) (getD (w ++ (n ++ s)) (length w + 1) 0)
+          → escapedLine at (length w) (getD (w ++ (n ++ s)) (length w) 0) (getD (w ++ (n ++ s)) (length w + 1) 0)
           ≡ dropPiece (1 + (length w + length n)) 0 0
       go x0A = rw (zeroth (0x0A ∷ s)) (ap (λ (i : ℕ). dropPiece i 0 0) (omega arith))
       go x0D-0A = rw (zeroth (0x0D ∷ (0x0A ∷ s)), getD-append-add w (0x0D ∷ (0x0A ∷ s)) 1 0) (ap (λ (i : ℕ). dropPiece i 0 0) (omega arith))

@@ -30,7 +30,8 @@ use Rattle.grammar.specs.Strings.{Apart}
 use Rattle.grammar.proofs.ListLaws.{all-weaken}
 use Rattle.grammar.proofs.Encoded.{side, ascii, beyond, AllAscii, ascii-whole, ascii-led}
 use Rattle.grammar.proofs.Reading.{Reads, reads-none, reads-then, first-clean}
-use Rattle.grammar.proofs.ClassLaws.{no-true, or-inv, basic-is, mlb-basic, mlb-same, non-ascii-high}
+use Rattle.classes.proofs.Conds.{or-inv}
+use Rattle.grammar.proofs.ClassLaws.{no-true, basic-is, mlb-basic, mlb-same, non-ascii-high}
 use Rattle.grammar.proofs.Escapes.{shape, escape-ascii}
 use Rattle.grammar.proofs.Passing.{Seen, k0, InMl, inside, newline-in, basic-in, digit-in, Passed, Through, pass-all, ml-pass, marks-pass, ml-hidden, all-passed, through-rest}
 use Rattle.grammar.proofs.TripleMarks.{fenced, newline-ascii, ml-bytes, ml-clean, ml-text, MlToken, ml-lexed}

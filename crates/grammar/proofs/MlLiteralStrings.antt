@@ -11,7 +11,7 @@ use lib.Dec.{eqb}
 use borrow.Author.Tests.{eqb-true}
 use Rattle.classes.specs.Classes.{mllChar}
 use Rattle.classes.specs.Runs.{run}
-use Rattle.classes.proofs.Conds.{cond-case, by-eq}
+use Rattle.classes.proofs.Conds.{cond-case, by-eq, or-left, or-inv}
 use Rattle.text.specs.Utf8.{Scalar, encodeScalar, encodes, All}
 use Rattle.text.proofs.EncodeLaws.{encode-1}
 use Rattle.text.proofs.ReadLaws.{encodes-append}
@@ -27,7 +27,7 @@ use Rattle.grammar.specs.Strings.{Apart}
 use Rattle.grammar.proofs.ListLaws.{first-there}
 use Rattle.grammar.proofs.Encoded.{side, ascii, beyond, ascii-whole, ascii-led}
 use Rattle.grammar.proofs.Reading.{Reads, reads-none, reads-then, reads-char, reads-plain, reads-copy, first-clean}
-use Rattle.grammar.proofs.ClassLaws.{or-inv, or-left, literal-at, literal-is, literal-high, mll-literal, mll-same}
+use Rattle.grammar.proofs.ClassLaws.{literal-at, literal-is, literal-high, mll-literal, mll-same}
 use Rattle.grammar.proofs.Passing.{Seen, k0, literal-in, newline-in, Passed, Through, all-passed}
 use Rattle.grammar.proofs.TripleMarks.{newline-ascii, ml-bytes, ml-clean, ml-text, MlToken, ml-lexed}
 use Rattle.grammar.proofs.MlRuns.{Flat, end, mark0, mark1, content, FlatOf, flat-through, Bodies, flat-body, Goal, mark-clean, content-clean}

@@ -27,7 +27,7 @@ use Rattle.lexer.specs.Bytes.{hides}
 use Rattle.lexer.specs.Extents.{mlTail}
 use Rattle.grammar.specs.Grammar.{Newline, x0A, x0D-0A, OptNewline, absent, present}
 use Rattle.grammar.specs.Prose.{startsNewline, Trimmed}
-use Rattle.grammar.proofs.ListLaws.{nil}
+use Rattle.strings.proofs.AnswerLaws.{nil}
 use Rattle.grammar.proofs.Encoded.{side, ascii, beyond, first-is, AllAscii, encodes-ascii, between}
 use Rattle.grammar.proofs.Reading.{Reads, reads-none}
 use Rattle.grammar.proofs.LineMarks.{both-marks}

@@ -23,13 +23,13 @@ use Rattle.text.specs.Refusals.{limit}
 use Rattle.strings.specs.declared.Edition.{Edition}
 use Rattle.strings.specs.declared.Decoded.{Decoded}
 use Rattle.strings.specs.declared.Decoded.the-variants.{Written}
-use Rattle.strings.specs.Encodings.{encodingBy, editionNumber}
+use Rattle.strings.specs.Encodings.{choiceBy, editionNumber}
 use Rattle.strings.specs.Decoding.{bytesOf, errorsOf, bytesBy, decodeIn, after, decodedNumber}
 use Rattle.token.specs.KindNumbers.{kindNumber}
 use Rattle.token.specs.Records.{tokenOf}
 use Rattle.token.specs.declared.Token.{Token}
 use Rattle.lexer.specs.Tokens.{tokensOf}
-use Rattle.lexer.specs.Lines.{lineEnds, lineOf}
+use Rattle.lexer.specs.Lines.{lineFeeds, lineOf}
 use Rattle.lexer.specs.Steps.{cursorOf, startAnswer, stepOf}
 use Rattle.lexer.specs.declared.Cursor.{Cursor}
 use Rattle.lexer.specs.declared.Start.the-variants.{At}
@@ -62,7 +62,7 @@ answerOf ed s t out e = decodeIn t (editionNumber ed) (kindNumber (tokenKind s))
 -- what the output holds afterwards
 abbrev pub outputOf : Edition → StringKind → List ℕ → List ℕ → ℕ → List ℕ
 outputOf ed s t out e =
-    after (answerOf ed s t out e) (bytesBy (encodingBy (editionNumber ed) (kindNumber (tokenKind s))) t) out
+    after (answerOf ed s t out e) (bytesBy (choiceBy (editionNumber ed) (kindNumber (tokenKind s))) t) out
 
 pub record Called (ed : Edition) (s : StringKind) (t out : List ℕ) (e : ℕ) : Type 0 where
   -- refusals 2, 1, 7 and 9 never occur
@@ -130,7 +130,7 @@ pub record Demand3 (ed : Edition) : Type 0 where
       → drop (c .place) doc ≡ encodes cs ++ rest → Apart (mark s) rest
       → stepOf doc c
       ≡ Given (tokenOf (tokenKind s) (c .place) (c .place + length (encodes cs)) (c .line))
-      (cursorOf (c .place + length (encodes cs)) (c .line + lineEnds (encodes cs)) (c .ended))
+      (cursorOf (c .place + length (encodes cs)) (c .line + lineFeeds (encodes cs)) (c .ended))
   -- and where whole lexing has a token r that starts there, r is that token
   pub token-back : (doc : List ℕ) (r : Token) → List·Memᴰ r (tokensOf doc) → (s : StringKind) (cs v rest : List ℕ) → Derived ed s cs v
       → drop (r .span .start) doc ≡ encodes cs ++ rest → Apart (mark s) rest

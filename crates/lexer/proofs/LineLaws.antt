@@ -19,56 +19,56 @@ use Rattle.token.specs.declared.TokenKind.{TokenKind}
 use Rattle.token.specs.declared.TokenKind.the-variants.{Newline, MlLiteralString, MlBasicString}
 use Rattle.lexer.specs.Bytes.{hides, closes, inComment, inAtom}
 use Rattle.lexer.specs.Extents.{lineTail, triple, newlineTail}
-use Rattle.lexer.specs.Lines.{lineEnds, lineBehind}
+use Rattle.lexer.specs.Lines.{lineFeeds, lineBehind}
 use Rattle.lexer.specs.Tokens.{hasBom, startOf}
 use Rattle.lexer.specs.Table.{kindBy, kindOf, extent, tokenLen}
 use Rattle.lexer.proofs.KindLaws.{by-kind}
 
 -- ---- a byte in front
 
-pub lf-front : (b : ℕ) (s : List ℕ) → b ≡ 10 → lineEnds (b ∷ s) ≡ suc (lineEnds s)
-unfolding lineEnds
+pub lf-front : (b : ℕ) (s : List ℕ) → b ≡ 10 → lineFeeds (b ∷ s) ≡ suc (lineFeeds s)
+unfolding lineFeeds
 lf-front b s e = rw (eq-eqb b 10 e)
 
-pub other-front : (b : ℕ) (s : List ℕ) → (b ≡ 10 → ⊥) → lineEnds (b ∷ s) ≡ lineEnds s
-unfolding lineEnds
+pub other-front : (b : ℕ) (s : List ℕ) → (b ≡ 10 → ⊥) → lineFeeds (b ∷ s) ≡ lineFeeds s
+unfolding lineFeeds
 other-front b s e = rw (ne-eqb b 10 e)
 
-pub behind-front : (line b : ℕ) (s : List ℕ) → lineBehind line b + lineEnds s ≡ line + lineEnds (b ∷ s)
-unfolding lineEnds
+pub behind-front : (line b : ℕ) (s : List ℕ) → lineBehind line b + lineFeeds s ≡ line + lineFeeds (b ∷ s)
+unfolding lineFeeds
 behind-front line b s = go (eqb b 10)
   where
-    go : (t : Bool) → cond t (suc line) line + lineEnds s ≡ line + cond t (suc (lineEnds s)) (lineEnds s)
+    go : (t : Bool) → cond t (suc line) line + lineFeeds s ≡ line + cond t (suc (lineFeeds s)) (lineFeeds s)
     go true = omega arith
     go false = refl
 
-pub lines-none : lineEnds [] ≡ 0
-unfolding lineEnds
+pub lines-none : lineFeeds [] ≡ 0
+unfolding lineFeeds
 lines-none = refl
 
-pub lines-le : (s : List ℕ) → lineEnds s ≤ length s
+pub lines-le : (s : List ℕ) → lineFeeds s ≤ length s
 lines-le [] = omega (arith, lines-none)
 lines-le (b ∷ s) =
     let r = lines-le s in
     let e = behind-front 0 b s in
-    cond-case (λ (n : ℕ). n + lineEnds s ≡ 0 + lineEnds (b ∷ s) → lineEnds (b ∷ s) ≤ suc (length s)) (eqb b 10)
+    cond-case (λ (n : ℕ). n + lineFeeds s ≡ 0 + lineFeeds (b ∷ s) → lineFeeds (b ∷ s) ≤ suc (length s)) (eqb b 10)
     (λ _ k. omega arith) (λ _ k. omega arith) e
 
 -- a part and the rest
-pub lines-split : (n : ℕ) (s : List ℕ) → lineEnds (take n s) + lineEnds (drop n s) ≡ lineEnds s
+pub lines-split : (n : ℕ) (s : List ℕ) → lineFeeds (take n s) + lineFeeds (drop n s) ≡ lineFeeds s
 lines-split zero s = omega (arith, lines-none)
 lines-split (suc n) [] = omega (arith, lines-none)
 lines-split (suc n) (b ∷ s) = omega (arith, lines-split n s, behind-front 0 b s, behind-front 0 b (take n s))
 
-pub lines-taken : (n : ℕ) (s : List ℕ) → lineEnds (take n s) ≤ n
+pub lines-taken : (n : ℕ) (s : List ℕ) → lineFeeds (take n s) ≤ n
 lines-taken n s = omega (arith, lines-le (take n s), length-take n s)
 
 -- from one place to another
-pub lines-between : (doc : List ℕ) (i j : ℕ) → i ≤ j → lineEnds (take (j - i) (drop i doc)) + lineEnds (drop j doc) ≡ lineEnds (drop i doc)
+pub lines-between : (doc : List ℕ) (i j : ℕ) → i ≤ j → lineFeeds (take (j - i) (drop i doc)) + lineFeeds (drop j doc) ≡ lineFeeds (drop i doc)
 lines-between doc i j h =
     let same : i + (j - i) ≡ j = omega arith in
     let rest : drop (j - i) (drop i doc) ≡ drop j doc = drop-drop (j - i) i doc ∙ ap (λ (k : ℕ). drop k doc) same in
-    omega (arith, lines-split (j - i) (drop i doc), ap lineEnds rest)
+    omega (arith, lines-split (j - i) (drop i doc), ap lineFeeds rest)
 
 -- ---- at a place
 
@@ -76,19 +76,19 @@ module _ (s : List ℕ) (i : ℕ) (h : i < length s) where
   split : drop i s ≡ getD s i 0 ∷ drop (i + 1) s
   split = rw (add-one, drop-cons s i 0)
 
-  pub line-at-lf : getD s i 0 ≡ 10 → lineEnds (drop i s) ≡ suc (lineEnds (drop (i + 1) s))
+  pub line-at-lf : getD s i 0 ≡ 10 → lineFeeds (drop i s) ≡ suc (lineFeeds (drop (i + 1) s))
   line-at-lf e = rw split (lf-front (getD s i 0) (drop (i + 1) s) e)
 
-  pub line-at-other : (getD s i 0 ≡ 10 → ⊥) → lineEnds (drop i s) ≡ lineEnds (drop (i + 1) s)
+  pub line-at-other : (getD s i 0 ≡ 10 → ⊥) → lineFeeds (drop i s) ≡ lineFeeds (drop (i + 1) s)
   line-at-other e = rw split (other-front (getD s i 0) (drop (i + 1) s) e)
 
-pub lines-end : (s : List ℕ) (i : ℕ) → length s ≤ i → lineEnds (drop i s) ≡ 0
+pub lines-end : (s : List ℕ) (i : ℕ) → length s ≤ i → lineFeeds (drop i s) ≡ 0
 lines-end s i h = rw (drop-of-length-le s h) lines-none
 
 -- ---- a byte order mark holds no LF
 
 -- passing a byte that is no LF, or that is not there, passes no line end
-line-past : (s : List ℕ) (i : ℕ) → (getD s i 0 ≡ 10 → ⊥) → lineEnds (drop i s) ≡ lineEnds (drop (i + 1) s)
+line-past : (s : List ℕ) (i : ℕ) → (getD s i 0 ≡ 10 → ⊥) → lineFeeds (drop i s) ≡ lineFeeds (drop (i + 1) s)
 line-past s i e =
     elim (decLt i (length s)) [
       | yes l ↦ line-at-other s i l e
@@ -112,35 +112,35 @@ mark-bytes s t =
       eqb-true _ _ (both-right second third behind),
     )
 
-pub mark-no-line : (s : List ℕ) (n : ℕ) → lineEnds (drop (startOf s) (take n s)) ≡ lineEnds (take n s)
+pub mark-no-line : (s : List ℕ) (n : ℕ) → lineFeeds (drop (startOf s) (take n s)) ≡ lineFeeds (take n s)
 unfolding startOf
 mark-no-line s n =
-    cond-case (λ (k : ℕ). lineEnds (drop k (take n s)) ≡ lineEnds (take n s)) (hasBom s)
+    cond-case (λ (k : ℕ). lineFeeds (drop k (take n s)) ≡ lineFeeds (take n s)) (hasBom s)
     (λ t.
     let m = mark-bytes s t in
-    let past : (i b : ℕ) → getD s i 0 ≡ b → 10 < b → lineEnds (drop i (take n s)) ≡ lineEnds (drop (i + 1) (take n s)) =
+    let past : (i b : ℕ) → getD s i 0 ≡ b → 10 < b → lineFeeds (drop i (take n s)) ≡ lineFeeds (drop (i + 1) (take n s)) =
     λ i b e h. line-past (take n s) i (no-lf-in s n i b e h) in
     sym (past 0 _ (m .0) (omega arith) ∙ past 1 _ (m .1) (omega arith) ∙ past 2 _ (m .2) (omega arith)))
     (λ t. refl)
 
-pub start-no-line : (s : List ℕ) → lineEnds (drop (startOf s) s) ≡ lineEnds s
+pub start-no-line : (s : List ℕ) → lineFeeds (drop (startOf s) s) ≡ lineFeeds s
 start-no-line s = rw (take-length s) at (mark-no-line s (length s))
 
 -- ---- in a token
 
-run-no-lf : (p : ℕ → Bool) (s : List ℕ) → p 10 ≡ false → lineEnds (take (run p s) s) ≡ 0
+run-no-lf : (p : ℕ → Bool) (s : List ℕ) → p 10 ≡ false → lineFeeds (take (run p s) s) ≡ 0
 unfolding run
 run-no-lf p [] h = lines-none
 run-no-lf p (b ∷ s) h =
     let r = run-no-lf p s h in
-    cond-case (λ (n : ℕ). lineEnds (take n (b ∷ s)) ≡ 0) (p b)
+    cond-case (λ (n : ℕ). lineFeeds (take n (b ∷ s)) ≡ 0) (p b)
     (λ t. other-front b (take (run p s) s) (λ e. not-both t (ap p e ∙ h)) ∙ r) (λ t. lines-none)
 
-line-no-lf : (q : ℕ) (h : Bool) (s : List ℕ) → (q ≡ 10 → ⊥) → lineEnds (take (lineTail q h s) s) ≡ 0
+line-no-lf : (q : ℕ) (h : Bool) (s : List ℕ) → (q ≡ 10 → ⊥) → lineFeeds (take (lineTail q h s) s) ≡ 0
 unfolding lineTail
 line-no-lf q h [] k = lines-none
 line-no-lf q h (b ∷ s) k =
-    let P : ℕ → Type 0 = λ n. lineEnds (take n (b ∷ s)) ≡ 0 in
+    let P : ℕ → Type 0 = λ n. lineFeeds (take n (b ∷ s)) ≡ 0 in
     let r = line-no-lf q (hides q h b) s k in
     cond-case P (closes q h b) (λ t. other-front b [] (λ e. k (sym (eqb-true b q (both-right (not h) (eqb b q) t)) ∙ e)) ∙ lines-none)
     λ _. cond-case P (eqb b 10) (λ t. lines-none) (λ t. other-front b (take (lineTail q (hides q h b) s) s) (eqb-false b 10 t) ∙ r)
@@ -154,7 +154,7 @@ unfolding kindOf kindBy wschar
 lf-newline b s e = rw e
 
 abbrev NoLf : List ℕ → ℕ → Type 0
-NoLf s n = lineEnds (take n s) ≡ 0
+NoLf s n = lineFeeds (take n s) ≡ 0
 
 pub token-no-lf : (s : List ℕ) → OneLine (kindOf s) (NoLf s (tokenLen s))
 unfolding tokenLen kindOf extent wschar tokenStart
@@ -174,22 +174,22 @@ token-no-lf (b ∷ s) = λ n l m. go (eqb b 10) refl n l m
 
 -- a newline holds an LF where its last byte is one
 pub newline-line : (s : List ℕ) → 0 < length s
-    → lineEnds (take (suc (newlineTail s)) s) ≡ cond (eqb (getD s (newlineTail s) 0) 10) 1 0
-unfolding newlineTail lineEnds
+    → lineFeeds (take (suc (newlineTail s)) s) ≡ cond (eqb (getD s (newlineTail s) 0) 10) 1 0
+unfolding newlineTail lineFeeds
 newline-line [] h = absurd (omega arith)
 newline-line (b ∷ s) h =
-    cond-case (λ (n : ℕ). lineEnds (b ∷ take n s) ≡ cond (eqb (getD (b ∷ s) n 0) 10) 1 0) (eqb b 13 && eqb (getD s 0 0) 10)
+    cond-case (λ (n : ℕ). lineFeeds (b ∷ take n s) ≡ cond (eqb (getD (b ∷ s) n 0) 10) 1 0) (eqb b 13 && eqb (getD s 0 0) 10)
     (λ t. crlf s (eqb-true b 13 (both-left (eqb b 13) (eqb (getD s 0 0) 10) t)) (eqb-true (getD s 0 0) 10 (both-right (eqb b 13) (eqb (getD s 0 0) 10) t)))
     (λ t. refl)
   where
-    crlf : (s : List ℕ) → b ≡ 13 → getD s 0 0 ≡ 10 → lineEnds (b ∷ take 1 s) ≡ cond (eqb (getD s 0 0) 10) 1 0
+    crlf : (s : List ℕ) → b ≡ 13 → getD s 0 0 ≡ 10 → lineFeeds (b ∷ take 1 s) ≡ cond (eqb (getD s 0 0) 10) 1 0
     crlf [] e f = absurd (omega arith)
     crlf (x ∷ s) e f = rw (ne-eqb b 10 (λ z. omega arith), eq-eqb x 10 f)
 
 -- so by the byte before its end
 pub newline-token : (doc : List ℕ) (at end : ℕ) → at < length doc → kindOf (drop at doc) ≡ Newline → end ≡ at + tokenLen (drop at doc)
-    → (getD doc (end - 1) 0 ≡ 10 → lineEnds (take (tokenLen (drop at doc)) (drop at doc)) ≡ 1)
-    × ((getD doc (end - 1) 0 ≡ 10 → ⊥) → lineEnds (take (tokenLen (drop at doc)) (drop at doc)) ≡ 0)
+    → (getD doc (end - 1) 0 ≡ 10 → lineFeeds (take (tokenLen (drop at doc)) (drop at doc)) ≡ 1)
+    × ((getD doc (end - 1) 0 ≡ 10 → ⊥) → lineFeeds (take (tokenLen (drop at doc)) (drop at doc)) ≡ 0)
 unfolding tokenLen extent
 newline-token doc at end h k e =
     let s = drop at doc in
@@ -197,6 +197,6 @@ newline-token doc at end h k e =
     let size : tokenLen s ≡ suc n = ap (λ (j : TokenKind). extent j s) k in
     let same : at + n ≡ end - 1 = omega (arith, size) in
     let byte : getD s n 0 ≡ getD doc (end - 1) 0 = getD-drop at doc n 0 ∙ ap (λ (i : ℕ). getD doc i 0) same in
-    let is : lineEnds (take (tokenLen s) s) ≡ cond (eqb (getD doc (end - 1) 0) 10) 1 0 =
-    ap (λ (i : ℕ). lineEnds (take i s)) size ∙ newline-line s (omega (arith, length-drop at doc)) ∙ ap (λ (b : ℕ). cond (eqb b 10) 1 0) byte in
+    let is : lineFeeds (take (tokenLen s) s) ≡ cond (eqb (getD doc (end - 1) 0) 10) 1 0 =
+    ap (λ (i : ℕ). lineFeeds (take i s)) size ∙ newline-line s (omega (arith, length-drop at doc)) ∙ ap (λ (b : ℕ). cond (eqb b 10) 1 0) byte in
     (λ f. is ∙ rw (eq-eqb (getD doc (end - 1) 0) 10 f), λ f. is ∙ rw (ne-eqb (getD doc (end - 1) 0) 10 f))

@@ -5,17 +5,16 @@ use mathlib.Core.Path.{_≡_, refl, ap, _∙_}
 use mathlib.Core.List.{List}
 use lib.ListN.{length}
 use lib.Dec.{ltb, eqb}
-use Rattle.classes.proofs.Conds.{cond-case}
+use Rattle.classes.proofs.Conds.{cond-case, of-choice}
 use Rattle.text.specs.Refusals.{limit}
 use Rattle.text.specs.Utf8Read.{validPrefix}
-use Rattle.text.specs.Answers.{checkOf}
+use Rattle.text.specs.Answers.{checkOf, checkFault}
 use Rattle.text.specs.declared.utf8.Utf8Check.{Utf8Check}
 use Rattle.text.specs.declared.utf8.Utf8Check.the-variants.{Valid}
-use Rattle.token.proofs.ChoiceLaws.{of-choice}
 use Rattle.lexer.specs.Steps.{startAnswer, startNumber, startValue, startRefusal, startReturned}
 use Rattle.lexer.specs.Steps.{stepWithin, astray, stepOf, stepNumber, stepValue, stepRefusal, stepReturned}
 use Rattle.lexer.specs.Whole.{tokenCount, lexChecked, lexAnswer, lexMemory}
-use Rattle.lexer.specs.Whole.{lexedNumber, lexedValue, lexedLength, lexRefusal, lexReturned, lexFault}
+use Rattle.lexer.specs.Whole.{lexedNumber, lexedValue, lexedLength, lexRefusal, lexReturned}
 use Rattle.lexer.specs.declared.Cursor.{Cursor}
 use Rattle.lexer.specs.declared.Start.{Start}
 use Rattle.lexer.specs.declared.Step.{Step}
@@ -49,7 +48,7 @@ stepped doc c r e =
     )
 
 lexed-numbers : (doc : List ℕ) (room : ℕ) (r : Lexed) → r ≡ lexAnswer doc room
-    → (lexedNumber r ≡ lexRefusal doc room) × ((lexedValue r ≡ lexReturned doc) × (lexedLength r ≡ lexFault doc))
+    → (lexedNumber r ≡ lexRefusal doc room) × ((lexedValue r ≡ lexReturned doc) × (lexedLength r ≡ checkFault doc))
 unfolding lexAnswer checkOf
 lexed-numbers doc room r e =
     let long = ltb limit (length doc) in
@@ -72,5 +71,5 @@ lexed-numbers doc room r e =
 -- the five promises of whole lexing, from the answer and the memory
 pub lexed : (doc : List ℕ) (old : List (List ℕ)) (r : Lexed) (new : List (List ℕ)) → (r ≡ lexAnswer doc (length old)) → (new ≡ lexMemory doc old)
     → (r ≡ lexAnswer doc (length old)) × ((lexedNumber r ≡ lexRefusal doc (length old)) × ((lexedValue r ≡ lexReturned doc)
-    × ((lexedLength r ≡ lexFault doc) × (new ≡ lexMemory doc old))))
+    × ((lexedLength r ≡ checkFault doc) × (new ≡ lexMemory doc old))))
 lexed doc old r new e m = let n = lexed-numbers doc (length old) r e in (e, (n .0, (n .1 .0, (n .1 .1, m))))

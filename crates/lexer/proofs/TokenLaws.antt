@@ -16,7 +16,7 @@ use Rattle.token.specs.declared.TokenKind.{TokenKind}
 use Rattle.token.specs.declared.Token.{Token}
 use Rattle.lexer.specs.Bytes.{hides, closes, inComment, inAtom}
 use Rattle.lexer.specs.Extents.{lineTail, triple, upToTwo, mlTail, newlineTail}
-use Rattle.lexer.specs.Lines.{lineEnds, lineBehind}
+use Rattle.lexer.specs.Lines.{lineFeeds, lineBehind}
 use Rattle.lexer.specs.Table.{kindOf, extent, tokenLen}
 use Rattle.lexer.specs.Tokens.{tokenAt, eofAt, lineAfter, walk, tokensFrom, hasBom, startOf, tokensOf}
 use Rattle.lexer.proofs.MarkLaws.{triple-fits}
@@ -89,7 +89,7 @@ token-long (b ∷ s) h =
 same-walk : {a b l m : ℕ} (s : List ℕ) → a ≡ b → l ≡ m → walk a l 0 s ≡ walk b m 0 s
 same-walk {a} {b} {l} {m} s p q = ap (λ (n : ℕ). walk n l 0 s) p ∙ ap (λ (n : ℕ). walk b n 0 s) q
 
-walk-skip : (k at line : ℕ) (s : List ℕ) → k ≤ length s → walk at line k s ≡ walk (at + k) (line + lineEnds (take k s)) 0 (drop k s)
+walk-skip : (k at line : ℕ) (s : List ℕ) → k ≤ length s → walk at line k s ≡ walk (at + k) (line + lineFeeds (take k s)) 0 (drop k s)
 unfolding walk
 walk-skip zero at line s h = same-walk s (omega arith) (omega (arith, lines-none))
 walk-skip (suc k) at line [] h = absurd (omega arith)
@@ -97,7 +97,7 @@ walk-skip (suc k) at line (b ∷ s) h =
     walk-skip k (at + 1) (lineBehind line b) s (omega arith) ∙ same-walk (drop k s) (omega arith) (behind-front line b (take k s))
 
 walk-pass : (n at line b : ℕ) (s : List ℕ) → 0 < n → n ≤ suc (length s)
-    → walk (at + 1) (lineBehind line b) (pred n) s ≡ walk (at + n) (line + lineEnds (take n (b ∷ s))) 0 (drop n (b ∷ s))
+    → walk (at + 1) (lineBehind line b) (pred n) s ≡ walk (at + n) (line + lineFeeds (take n (b ∷ s))) 0 (drop n (b ∷ s))
 walk-pass zero at line b s h l = absurd (omega arith)
 walk-pass (suc n) at line b s h l =
     walk-skip n (at + 1) (lineBehind line b) s (omega arith) ∙ same-walk (drop n s) (omega arith) (behind-front line b (take n s))

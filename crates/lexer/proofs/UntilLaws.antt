@@ -10,7 +10,7 @@ use borrow.Author.Tests.{lt-ltb, le-ltb}
 use lib.ListN.{length, getD, take, drop, set, length-drop, length-append}
 use lib.Seq.{sets, sets-eq, drop-cons, drop-drop, append-snoc, set-append-seam}
 use Rattle.token.specs.declared.Token.{Token}
-use Rattle.lexer.specs.Lines.{lineEnds, lineBehind}
+use Rattle.lexer.specs.Lines.{lineFeeds, lineBehind}
 use Rattle.lexer.specs.Table.{tokenLen}
 use Rattle.lexer.specs.Tokens.{tokenAt, eofAt, lineAfter, walk, tokensFrom, startOf, tokensOf}
 use Rattle.lexer.specs.Scans.{before, tokensUntil, linePast}
@@ -48,16 +48,16 @@ All end line ts = ts ≡ before end ts ++ (eofAt end line ∷ [])
 all-by : (ts : List Token) {a b l m : ℕ} → a ≡ b → l ≡ m → All a l ts → All b m ts
 all-by ts {a} {b} {l} {m} p q x = subst (λ (n : ℕ). All b n ts) q (subst (λ (n : ℕ). All n l ts) p x)
 
-walk-until : (at line k : ℕ) (s : List ℕ) → All (at + length s) (line + lineEnds s) (walk at line k s)
+walk-until : (at line k : ℕ) (s : List ℕ) → All (at + length s) (line + lineFeeds s) (walk at line k s)
 unfolding walk before
 walk-until at line k [] =
     let same : at + 0 ≡ at = omega arith in
-    let on : line + lineEnds [] ≡ line = omega (arith, lines-none) in
+    let on : line + lineFeeds [] ≡ line = omega (arith, lines-none) in
     rw (same, on, le-ltb at at (omega arith))
 walk-until at line zero (b ∷ s) =
     let k = pred (tokenLen (b ∷ s)) in
     let on = lineBehind line b in
-    let rest : All (at + suc (length s)) (line + lineEnds (b ∷ s)) (walk (at + 1) on k s) =
+    let rest : All (at + suc (length s)) (line + lineFeeds (b ∷ s)) (walk (at + 1) on k s) =
     all-by (walk (at + 1) on k s) (omega arith) (behind-front line b s) (walk-until (at + 1) on k s) in
     let h : at < at + suc (length s) = omega arith in
     rw (lt-ltb at (at + suc (length s)) h) (ap (λ (r : List Token). tokenAt at line (b ∷ s) ∷ r) rest)
@@ -65,7 +65,7 @@ walk-until at line (suc k) (b ∷ s) =
     let on = lineBehind line b in
     all-by (walk (at + 1) on k s) (omega arith) (behind-front line b s) (walk-until (at + 1) on k s)
 
-pub until-all : (doc : List ℕ) → tokensOf doc ≡ tokensUntil (length doc) (startOf doc) 1 doc ++ (eofAt (length doc) (1 + lineEnds (drop (startOf doc) doc)) ∷ [])
+pub until-all : (doc : List ℕ) → tokensOf doc ≡ tokensUntil (length doc) (startOf doc) 1 doc ++ (eofAt (length doc) (1 + lineFeeds (drop (startOf doc) doc)) ∷ [])
 unfolding tokensOf tokensFrom
 until-all doc =
     let same : startOf doc + length (drop (startOf doc) doc) ≡ length doc = omega (arith, length-drop (startOf doc) doc, start-fits doc) in
@@ -74,7 +74,7 @@ until-all doc =
 pub until-count : (doc : List ℕ) → length (tokensUntil (length doc) (startOf doc) 1 doc) + 1 ≡ length (tokensOf doc)
 until-count doc =
     let ts = tokensUntil (length doc) (startOf doc) 1 doc in
-    sym (ap length (until-all doc) ∙ length-append ts (eofAt (length doc) (1 + lineEnds (drop (startOf doc) doc)) ∷ []))
+    sym (ap length (until-all doc) ∙ length-append ts (eofAt (length doc) (1 + lineFeeds (drop (startOf doc) doc)) ∷ []))
 
 -- ---- the line behind them
 
@@ -84,14 +84,14 @@ unfolding linePast
 past-step doc at line ts =
     let n = tokenLen (drop at doc) in
     let same : at + n - at ≡ n = omega arith in
-    ap (λ (k : ℕ). linePast doc (line + lineEnds (take k (drop at doc))) ts) same
+    ap (λ (k : ℕ). linePast doc (line + lineFeeds (take k (drop at doc))) ts) same
 
 pub past-none : (doc : List ℕ) (line : ℕ) → linePast doc line [] ≡ line
 unfolding linePast
 past-none doc line = refl
 
 past-from : (n : ℕ) (doc : List ℕ) (at line : ℕ) → at ≤ length doc → length doc ≤ at + n
-    → linePast doc line (tokensUntil (length doc) at line doc) ≡ line + lineEnds (drop at doc)
+    → linePast doc line (tokensUntil (length doc) at line doc) ≡ line + lineFeeds (drop at doc)
 past-from zero doc at line h l =
     rw (until-stop doc (length doc) at line (omega arith)) (past-none doc line ∙ omega (arith, lines-end doc at (omega arith)))
 past-from (suc n) doc at line h l =
@@ -102,12 +102,12 @@ past-from (suc n) doc at line h l =
           rw (until-step doc (length doc) at line w (omega arith))
           (past-step doc at line (tokensUntil (length doc) (at + k) (lineAfter line (drop at doc)) doc)
           ∙ past-from n doc (at + k) (lineAfter line (drop at doc)) (token-fits-at doc at h) (omega arith)
-          ∙ omega (arith, lines-split k (drop at doc), ap lineEnds (drop-drop k at doc)))
+          ∙ omega (arith, lines-split k (drop at doc), ap lineFeeds (drop-drop k at doc)))
       | no w ↦ rw (until-stop doc (length doc) at line (omega arith)) (past-none doc line ∙ omega (arith, lines-end doc at (omega arith)))
     ]
 
 pub past-all : (doc : List ℕ) (at line : ℕ) → at ≤ length doc
-    → linePast doc line (tokensUntil (length doc) at line doc) ≡ line + lineEnds (drop at doc)
+    → linePast doc line (tokensUntil (length doc) at line doc) ≡ line + lineFeeds (drop at doc)
 past-all doc at line h = past-from (length doc) doc at line h (omega arith)
 
 -- ---- stores

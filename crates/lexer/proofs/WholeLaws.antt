@@ -20,7 +20,7 @@ use Rattle.token.specs.KindNumbers.{kindNumber, kindOfNumber}
 use Rattle.token.specs.Records.{recordOf}
 use Rattle.token.proofs.KindLaws.{kind-back}
 use Rattle.lexer.specs.Tokens.{tokenAt, eofAt, lineAfter, startOf, tokensOf}
-use Rattle.lexer.specs.Lines.{lineEnds}
+use Rattle.lexer.specs.Lines.{lineFeeds}
 use Rattle.lexer.specs.Whole.{recordsOf, tokenCount, lexAnswer, lexMemory}
 use Rattle.lexer.specs.Scans.{tokensUntil, linePast}
 use Rattle.lexer.specs.declared.Lexed.{Lexed}
@@ -32,7 +32,7 @@ use Rattle.lexer.proofs.UntilLaws.{until-one, until-all, until-count, p
 
 -- Eof, on the line behind all LFs
 abbrev last : List ℕ → Token
-last doc = eofAt (length doc) (1 + lineEnds (drop (startOf doc) doc))
+last doc = eofAt (length doc) (1 + lineFeeds (drop (startOf doc) doc))
 
 records-all : (doc : List ℕ)
     → recordsOf doc ≡ map recordOf (tokensUntil (length doc) (startOf doc) 1 doc) ++ (recordOf (last doc) ∷ [])
@@ -55,7 +55,7 @@ module _ (doc : List ℕ) (start n : ℕ) (by : start ≡ startOf doc) (count : 
         → (r : List ℕ) → r ≡ recordOf (eofAt (length doc) line) → tokenCount doc ≤ length old
         → set new n r ≡ recordsOf doc ++ drop (tokenCount doc) old
     filled line on r f l =
-        let all : line ≡ 1 + lineEnds (drop (startOf doc) doc) =
+        let all : line ≡ 1 + lineFeeds (drop (startOf doc) doc) =
         on ∙ ap (λ (s : ℕ). linePast doc 1 (tokensUntil (length doc) s 1 doc)) by ∙ past-all doc (startOf doc) 1 (start-fits doc) in
         let e : r ≡ recordOf (last doc) = f ∙ ap (λ (n : ℕ). recordOf (eofAt (length doc) n)) all in
         let ts = tokensUntil (length doc) (startOf doc) 1 doc in

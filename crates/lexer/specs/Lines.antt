@@ -7,13 +7,13 @@ use lib.ListN.{take}
 use lib.Dec.{eqb}
 
 -- the LFs in some bytes
-unfoldable pub lineEnds : List ℕ → ℕ
-lineEnds [] = 0
-lineEnds (b ∷ s) = cond (eqb b 10) (suc (lineEnds s)) (lineEnds s)
+unfoldable pub lineFeeds : List ℕ → ℕ
+lineFeeds [] = 0
+lineFeeds (b ∷ s) = cond (eqb b 10) (suc (lineFeeds s)) (lineFeeds s)
 
 -- the line is 1 plus the LFs before the offset
 abbrev pub lineOf : List ℕ → ℕ → ℕ
-lineOf doc offset = 1 + lineEnds (take offset doc)
+lineOf doc offset = 1 + lineFeeds (take offset doc)
 
 -- the line behind one byte
 abbrev pub lineBehind : ℕ → ℕ → ℕ

@@ -6,7 +6,7 @@ use mathlib.Core.List.{List, [], _∷_}
 use lib.ListN.{take, drop}
 use lib.Dec.{ltb, eqb}
 use Rattle.token.specs.declared.Token.{Token}
-use Rattle.lexer.specs.Lines.{lineEnds}
+use Rattle.lexer.specs.Lines.{lineFeeds}
 use Rattle.lexer.specs.Tokens.{tokensFrom}
 
 -- x is one of three bytes, or none of them
@@ -32,4 +32,4 @@ tokensUntil stop at line doc = before stop (tokensFrom at line (drop at doc))
 -- the line behind some tokens, or the one given where there are none
 unfoldable pub linePast : List ℕ → ℕ → List Token → ℕ
 linePast doc line [] = line
-linePast doc line (t ∷ ts) = linePast doc (t .line + lineEnds (take (t .span .end - t .span .start) (drop (t .span .start) doc))) ts
+linePast doc line (t ∷ ts) = linePast doc (t .line + lineFeeds (take (t .span .end - t .span .start) (drop (t .span .start) doc))) ts

@@ -9,7 +9,7 @@ use Rattle.token.specs.declared.TokenKind.{TokenKind}
 use Rattle.token.specs.declared.TokenKind.the-variants.{Eof}
 use Rattle.token.specs.declared.Token.{Token}
 use Rattle.token.specs.Records.{tokenOf}
-use Rattle.lexer.specs.Lines.{lineEnds, lineBehind}
+use Rattle.lexer.specs.Lines.{lineFeeds, lineBehind}
 use Rattle.lexer.specs.Table.{kindOf, extent, tokenLen}
 
 -- a token of a kind, on the bytes s that stand from `at` on, the first of them on a line
@@ -26,7 +26,7 @@ eofAt at line = tokenOf Eof at at line
 
 -- the line behind that token, counted on by the LFs in it
 abbrev pub lineAfter : ℕ → List ℕ → ℕ
-lineAfter line s = line + lineEnds (take (tokenLen s) s)
+lineAfter line s = line + lineFeeds (take (tokenLen s) s)
 
 -- tokens without gap to the end, then one Eof; `skip` counts the bytes of a token that are still to be passed, and each LF
 -- that is passed is a line more

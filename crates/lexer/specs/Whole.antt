@@ -7,7 +7,6 @@ use lib.ListN.{length, drop}
 use lib.Dec.{ltb, eqb}
 use Rattle.text.specs.Refusals.{limit, refusalNumber, refusalValue, refusalLength}
 use Rattle.text.specs.Utf8Read.{validPrefix}
-use Rattle.text.specs.Lead.{faultLen}
 use Rattle.text.specs.Answers.{checkOf}
 use Rattle.text.specs.declared.refusal.Refusal.the-variants.{FewTokens}
 use Rattle.text.specs.declared.utf8.Utf8Check.{Utf8Check}
@@ -56,15 +55,11 @@ abbrev pub lexedLength : Lexed → ℕ
 lexedLength (Tokens n) = 0
 lexedLength (Refused r) = refusalLength r
 
--- these are, by the document and the records lent: 2 with the limit, 1 with the lengths of the longest valid prefix and of
--- the faulty sequence, 3 with the tokens needed, else 0 with the tokens
+-- these are, by the document and the records lent: 2 with the limit, 1 with the length of the longest valid prefix, 3 with the
+-- tokens needed, else 0 with the tokens; the second number is the check's, `checkFault`
 abbrev pub lexRefusal : List ℕ → ℕ → ℕ
 lexRefusal doc room =
     cond (ltb limit (length doc)) 2 (cond (eqb (validPrefix doc) (length doc)) (cond (ltb room (tokenCount doc)) 3 0) 1)
 
 abbrev pub lexReturned : List ℕ → ℕ
 lexReturned doc = cond (ltb limit (length doc)) limit (cond (eqb (validPrefix doc) (length doc)) (tokenCount doc) (validPrefix doc))
-
-abbrev pub lexFault : List ℕ → ℕ
-lexFault doc =
-    cond (ltb limit (length doc)) 0 (cond (eqb (validPrefix doc) (length doc)) 0 (faultLen (drop (validPrefix doc) doc)))

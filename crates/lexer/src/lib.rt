@@ -8,12 +8,13 @@ ghost use mathlib.Core.List.{_++_, map};
 ghost use Prim.Native.Nat.{_+_, _≤_, _<_};
 ghost use lib.ListN.{length, drop, getD};
 ghost use lib.Seq.{sets};
+ghost use Rattle.text.specs.Answers.{checkFault};
 ghost use Rattle.token.specs.Records.{tokenOf, recordOf};
 ghost use Rattle.lexer.specs.Tokens.{hasBom, startOf, tokenBy, tokenAt, lineAfter};
 ghost use Rattle.lexer.specs.Steps.{cursorOf, startAnswer, startNumber, startValue, startRefusal, startReturned};
 ghost use Rattle.lexer.specs.Steps.{stepOf, stepNumber, stepValue, stepRefusal, stepReturned};
 ghost use Rattle.lexer.specs.Whole.{recordsOf, tokenCount, lexAnswer, lexMemory};
-ghost use Rattle.lexer.specs.Whole.{lexedNumber, lexedValue, lexedLength, lexRefusal, lexReturned, lexFault};
+ghost use Rattle.lexer.specs.Whole.{lexedNumber, lexedValue, lexedLength, lexRefusal, lexReturned};
 ghost use Rattle.lexer.specs.Scans.{tokensUntil, linePast};
 use text::LIMIT;
 use text::Refusal;
@@ -109,7 +110,7 @@ pub fn lex(doc: &[u8], records: &mut [[usize; 4]]) -> Lexed
     ensures answer { λ r. ⌜ r ≡ lexAnswer (now (doc .entry)) (length (now (records .entry))) ⌝ }
     ensures number { λ r. ⌜ lexedNumber r ≡ lexRefusal (now (doc .entry)) (length (now (records .entry))) ⌝ }
     ensures value { λ r. ⌜ lexedValue r ≡ lexReturned (now (doc .entry)) ⌝ }
-    ensures length { λ r. ⌜ lexedLength r ≡ lexFault (now (doc .entry)) ⌝ }
+    ensures length { λ r. ⌜ lexedLength r ≡ checkFault (now (doc .entry)) ⌝ }
     ensures memory { λ _. ⌜ now (records .exit) ≡ lexMemory (now (doc .entry)) (now (records .entry)) ⌝ }
 {
     if let Utf8Check::Refused(refusal) = text::check_utf8(doc) {

@@ -2,7 +2,7 @@
 ghost use mathlib.Core.Path.{_≡_};
 ghost use Prim.Native.Nat.{_+_, _-_, _≤_, _<_};
 ghost use lib.ListN.{length, take, drop};
-ghost use Rattle.lexer.specs.Lines.{lineEnds};
+ghost use Rattle.lexer.specs.Lines.{lineFeeds};
 ghost use Rattle.lexer.specs.Tokens.{tokenAt, lineAfter};
 use token::Token;
 use token::TokenKind;
@@ -24,16 +24,16 @@ pub(crate) fn line_after(doc: &[u8], token: Token) -> usize
                 line
             }
         }
-        TokenKind::MlLiteralString => line + line_ends(doc, start, end),
-        TokenKind::MlBasicString => line + line_ends(doc, start, end),
+        TokenKind::MlLiteralString => line + line_feeds(doc, start, end),
+        TokenKind::MlBasicString => line + line_feeds(doc, start, end),
         _ => line,
     }
 }
 
 // The LFs from a start up to an end.
-fn line_ends(doc: &[u8], start: usize, end: usize) -> usize
+fn line_feeds(doc: &[u8], start: usize, end: usize) -> usize
     requires { ⌜ (start ≤ end) × (end ≤ length (now doc)) ⌝ }
-    ensures { λ r. ⌜ r ≡ lineEnds (take (end - start) (drop start (now (doc .entry)))) ⌝ }
+    ensures { λ r. ⌜ r ≡ lineFeeds (take (end - start) (drop start (now (doc .entry)))) ⌝ }
 {
     let mut n: usize = 0;
     let mut i = start;

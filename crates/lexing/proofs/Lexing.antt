@@ -11,19 +11,16 @@ use borrow.Author.Tests.{eqb-true, lt-ltb, le-ltb, eq-eqb, ne-eqb}
 use lib.Dec.{eqb, ltb}
 use lib.ListN.{length, getD, take, drop, length-drop, drop-of-length-le}
 use lib.Seq.{drop-drop}
-use Rattle.classes.proofs.Conds.{cond-case}
 use Rattle.text.specs.Refusals.{limit}
 use Rattle.text.specs.Utf8.{Utf8, encodeScalar, encodes}
 use Rattle.text.specs.Utf8Read.{scalars}
-use Rattle.text.proofs.EncodeLaws.{encode-1}
 use Rattle.text.proofs.ReadLaws.{scalars-char, encodes-of, front}
-use Rattle.text.proofs.CutLaws.{cut, ascii-cut, utf8-append}
+use Rattle.text.proofs.CutLaws.{one-utf8, cut, ascii-cut, utf8-append}
 use Rattle.text.specs.declared.refusal.Refusal.the-variants.{TooLong, OutOfPlace}
-use Rattle.token.proofs.ChoiceLaws.{of-choice}
 use Rattle.token.specs.declared.TokenKind.the-variants.{Eof}
 use Rattle.token.specs.declared.Token.{Token}
 use Rattle.token.specs.Records.{tokenOf, recordOf}
-use Rattle.lexer.specs.Lines.{lineEnds, lineOf}
+use Rattle.lexer.specs.Lines.{lineFeeds, lineOf}
 use Rattle.lexer.specs.Table.{kindOf, extent, tokenLen}
 use Rattle.lexer.specs.Tokens.{tokenAt, eofAt, lineAfter, walk, tokensFrom, hasBom, startOf, tokensOf}
 use Rattle.lexer.specs.Steps.{cursorOf, startAnswer, startCursor, stepWithin, astray, stepOf}
@@ -31,7 +28,7 @@ use Rattle.lexer.specs.Whole.{recordsOf}
 use Rattle.lexer.specs.declared.Cursor.{Cursor}
 use Rattle.lexer.specs.declared.Step.{Step}
 use Rattle.lexer.specs.declared.Step.the-variants.{Token as Given, End, Refused}
-use Rattle.classes.proofs.Conds.{both-left, both-right}
+use Rattle.classes.proofs.Conds.{cond-case, of-choice, both-left, both-right}
 use Rattle.lexer.proofs.LineLaws.{lines-none, lines-split, start-no-line, lines-taken}
 use Rattle.lexer.proofs.TokenLaws.{token-fits, token-long, token-fits-at, line-fits-at, tokens-cons, tokens-step, tokens-end, start-fits}
 use Rattle.place.specs.Positions.{positionAnswer}
@@ -96,9 +93,6 @@ steps-whole doc l k = rw (starts doc l) (from-place doc l k (startOf doc) 1 (sta
 
 -- ---- a clean place cuts no character
 
-one-utf8 : (b : ℕ) → b < 0x80 → Utf8 (b ∷ [])
-one-utf8 b h = (b ∷ [], (inl (omega arith), tt), rw (encode-1 b h))
-
 clean-from : {s : List ℕ} {n : ℕ} → Clean s n → (p : List ℕ) → Utf8 (p ++ s) → Utf8 (p ++ take n s) × Utf8 (drop n s)
 clean-from at-end p u = (u, ([], tt, refl))
 clean-from (before {b} {s} h) p u = let w = cut p (b ∷ s) u (inl h) in (rw (append-nil p) (w .0), w .1)
@@ -119,7 +113,7 @@ token-cut s u = clean-cut s (tokenLen s) (token-clean s) u
 pub record Stands (at line : ℕ) (s : List ℕ) (t : Token) : Type 0 where
   pub place : ℕ
   pub within : place ≤ length s
-  pub is : t ≡ tokenAt (at + place) (line + lineEnds (take place s)) (drop place s)
+  pub is : t ≡ tokenAt (at + place) (line + lineFeeds (take place s)) (drop place s)
   pub whole : Utf8 s → Utf8 (drop place s)
 
 token-by : {a b l m : ℕ} {s t : List ℕ} → a ≡ b → l ≡ m → s ≡ t → tokenAt a l s ≡ tokenAt b m t
@@ -127,12 +121,12 @@ token-by {a} {b} {l} {m} {s} {t} p q e =
     ap (λ (k : ℕ). tokenAt k l s) p ∙ ap (λ (k : ℕ). tokenAt b k s) q ∙ ap (tokenAt b m) e
 
 later : (at line n : ℕ) (s : List ℕ) (t : Token) → n ≤ length s → (Utf8 s → Utf8 (drop n s))
-    → Stands (at + n) (line + lineEnds (take n s)) (drop n s) t → Stands at line s t
+    → Stands (at + n) (line + lineFeeds (take n s)) (drop n s) t → Stands at line s t
 later at line n s t h u w =
     let e : drop (w .place) (drop n s) ≡ drop (n + w .place) s = drop-drop (w .place) n s in
     let same : at + n + w .place ≡ at + (n + w .place) = omega arith in
-    let on : line + lineEnds (take n s) + lineEnds (take (w .place) (drop n s)) ≡ line + lineEnds (take (n + w .place) s) =
-    omega (arith, lines-split n s, lines-split (w .place) (drop n s), lines-split (n + w .place) s, ap lineEnds e) in
+    let on : line + lineFeeds (take n s) + lineFeeds (take (w .place) (drop n s)) ≡ line + lineFeeds (take (n + w .place) s) =
+    omega (arith, lines-split n s, lines-split (w .place) (drop n s), lines-split (n + w .place) s, ap lineFeeds e) in
     record {
       place = n + w .place;
       within = omega (arith, w .within, length-drop n s);
@@ -194,10 +188,10 @@ start-cut s u =
 -- ---- each token of a document
 
 -- lines counted from the start on are those counted from byte 0 on: a byte order mark holds no LF
-line-by : (doc : List ℕ) (n place : ℕ) → place ≡ startOf doc + n → 1 + lineEnds (take n (drop (startOf doc) doc)) ≡ lineOf doc place
+line-by : (doc : List ℕ) (n place : ℕ) → place ≡ startOf doc + n → 1 + lineFeeds (take n (drop (startOf doc) doc)) ≡ lineOf doc place
 line-by doc n place e =
     let rest : drop n (drop (startOf doc) doc) ≡ drop place doc = drop-drop n (startOf doc) doc ∙ ap (λ (k : ℕ). drop k doc) (sym e) in
-    omega (arith, lines-split n (drop (startOf doc) doc), lines-split place doc, start-no-line doc, ap lineEnds rest)
+    omega (arith, lines-split n (drop (startOf doc) doc), lines-split place doc, start-no-line doc, ap lineFeeds rest)
 
 pub record Lexed (doc : List ℕ) (t : Token) : Type 0 where
   pub within : t .span .start ≤ length doc

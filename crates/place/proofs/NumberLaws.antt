@@ -7,7 +7,7 @@ use lib.ListN.{length}
 use lib.Dec.{ltb}
 use Rattle.text.specs.Refusals.{limit}
 use Rattle.token.specs.declared.Span.{Span}
-use Rattle.token.proofs.ChoiceLaws.{of-choice}
+use Rattle.classes.proofs.Conds.{of-choice}
 use Rattle.place.specs.Spans.{misplaced, spanAnswer, spanNumber, spanValue, spanRefusal, spanReturned}
 use Rattle.place.specs.Positions.{positionAnswer, positionNumber, positionValue, positionRefusal, positionReturned}
 use Rattle.place.specs.declared.SpanCheck.{SpanCheck}

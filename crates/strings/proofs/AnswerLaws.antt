@@ -19,7 +19,7 @@ use Rattle.strings.specs.declared.Encoding.{Encoding}
 use Rattle.strings.specs.declared.Choice.{Choice}
 use Rattle.strings.specs.declared.Choice.the-variants.{Known, Unknown}
 use Rattle.strings.specs.declared.Decoded.the-variants.{Written, Refused}
-use Rattle.strings.specs.Encodings.{encodingBy}
+use Rattle.strings.specs.Encodings.{choiceBy}
 use Rattle.strings.specs.Decoding.{bytesOf, errorsOf, fitted, decodedBy, decodeIn}
 use Rattle.strings.proofs.Bounds.{bytes-most, bytes-quiet, errors-few}
 use Rattle.strings.proofs.Utf8Laws.{decoded-utf8}
@@ -28,7 +28,7 @@ use Rattle.strings.proofs.Utf8Laws.{decoded-utf8}
 pub record Answered (t : List ℕ) (edition kind o e n m : ℕ) : Type 0 where
   pub check : (length t ≤ limit) × Utf8 t
   pub encoding : Encoding
-  pub chosen : encodingBy edition kind ≡ Known encoding
+  pub chosen : choiceBy edition kind ≡ Known encoding
   pub bytes : n ≡ length (bytesOf encoding t)
   pub errors : m ≡ length (errorsOf encoding t)
   pub room : (n ≤ o) × (m ≤ e)
@@ -37,7 +37,7 @@ pub record Answered (t : List ℕ) (edition kind o e n m : ℕ) : Type 0 where
   pub quiet : m ≡ 0 → n ≤ length t
   pub few : m ≤ length t + 2
 
-nil : {A : Type 0} (l : List A) → length l ≡ 0 → l ≡ []
+pub nil : {A : Type 0} (l : List A) → length l ≡ 0 → l ≡ []
 nil [] h = refl
 nil (x ∷ l) h = absurd (omega arith)
 
@@ -59,9 +59,9 @@ fitted-answered bs es o e n m h = go (ltb o (length bs)) (ltb e (length es)) ref
 pub decode-answered : (t : List ℕ) (edition kind o e n m : ℕ) → decodeIn t edition kind o e ≡ Written n m
     → Answered t edition kind o e n m
 unfolding decodeIn
-decode-answered t edition kind o e n m h = go (checkOf t) (encodingBy edition kind) refl refl h
+decode-answered t edition kind o e n m h = go (checkOf t) (choiceBy edition kind) refl refl h
   where
-    go : (x : Utf8Check) (y : Choice) → checkOf t ≡ x → encodingBy edition kind ≡ y → decodedBy x y t o e ≡ Written n m
+    go : (x : Utf8Check) (y : Choice) → checkOf t ≡ x → choiceBy edition kind ≡ y → decodedBy x y t o e ≡ Written n m
         → Answered t edition kind o e n m
     go (NotValid r) y p q f = let z : _≡_ {A = ℕ} 0 1 = cc in absurd (omega arith)
     go Valid (Unknown r) p q f = let z : _≡_ {A = ℕ} 0 1 = cc in absurd (omega arith)

@@ -13,12 +13,10 @@ use lib.Seq.{take-add}
 use borrow.Author.Tests.{eqb-true, leb-true, le-leb}
 use Rattle.classes.specs.Classes.{among, wschar, basicUnescaped, mlbUnescaped, hexdig}
 use Rattle.classes.specs.Runs.{run}
-use Rattle.classes.proofs.Conds.{not-both, both-right}
+use Rattle.classes.proofs.Conds.{not-both, both-right, or-left, or-right, or-inv}
 use Rattle.text.specs.Utf8.{Scalar, encodeScalar, Utf8}
-use Rattle.text.proofs.MendLaws.{scalar-utf8}
-use Rattle.text.proofs.EncodeLaws.{encode-1}
 use Rattle.text.proofs.ReadLaws.{valid-append, utf8-iff}
-use Rattle.text.proofs.CutLaws.{utf8-append, cut-at}
+use Rattle.text.proofs.CutLaws.{one-utf8, utf8-append, cut-at}
 use Rattle.strings.specs.Encodings.{mlbPlain, basicInvalid, mlbInvalid}
 use Rattle.strings.specs.Bodies.{skips}
 
@@ -30,23 +28,12 @@ High p = (b : ℕ) → 0x80 ≤ b → p b ≡ true
 abbrev pub Low : (ℕ → Bool) → Type 0
 Low p = (b : ℕ) → p b ≡ true → b < 0x80
 
-or-right : (x : Bool) {y : Bool} → y ≡ true → (x || y) ≡ true
-or-right true e = refl
-or-right false e = e
-
-or-left : {x : Bool} (y : Bool) → x ≡ true → (x || y) ≡ true
-or-left y e = rw e
-
-or-cases : (x y : Bool) → (x || y) ≡ true → (x ≡ true) ⊎ (y ≡ true)
-or-cases true y e = inl e
-or-cases false y e = inr e
-
 -- the last of the alternatives of basic-unescaped and of mlb-unescaped
 last-high : (b : ℕ) → 0x80 ≤ b
     → ((eqb b 0x20 || eqb b 0x09) || (eqb b 0x21 || (among 0x23 0x5B b || (among 0x5D 0x7E b || leb 0x80 b)))) ≡ true
 last-high b h =
-    or-right (eqb b 0x20 || eqb b 0x09)
-    (or-right (eqb b 0x21) (or-right (among 0x23 0x5B b) (or-right (among 0x5D 0x7E b) (le-leb 0x80 b h))))
+    or-right (eqb b 0x20 || eqb b 0x09) _
+    (or-right (eqb b 0x21) _ (or-right (among 0x23 0x5B b) _ (or-right (among 0x5D 0x7E b) _ (le-leb 0x80 b h))))
 
 pub basic-high : High basicUnescaped
 unfolding basicUnescaped
@@ -54,7 +41,7 @@ basic-high b h = last-high b h
 
 pub mlb-high : High mlbPlain
 unfolding mlbPlain mlbUnescaped
-mlb-high b h = or-left (eqb b 0x22 || eqb b 0x0A) (last-high b h)
+mlb-high b h = or-left (mlbUnescaped b) _ (last-high b h)
 
 -- what holds of no byte beyond ASCII
 low-by : (p : ℕ → Bool) → ((b : ℕ) → 0x80 ≤ b → p b ≡ false) → Low p
@@ -76,29 +63,24 @@ among-low a e b l h = omega (arith, leb-true b e (both-right (leb a b) (leb b e)
 
 pub wschar-low : Low wschar
 unfolding wschar
-wschar-low b e = ⊎-elim (one-low b 0x20 (omega arith)) (one-low b 0x09 (omega arith)) (or-cases (eqb b 0x20) _ e)
+wschar-low b e = or-inv (eqb b 0x20) _ e (one-low b 0x20 (omega arith)) (one-low b 0x09 (omega arith))
 
 pub hexdig-low : Low hexdig
 unfolding hexdig
 hexdig-low b e =
-    ⊎-elim (among-low 0x30 0x39 b (omega arith))
-    (λ f. ⊎-elim (among-low 0x41 0x46 b (omega arith)) (among-low 0x61 0x66 b (omega arith)) (or-cases (among 0x41 0x46 b) _ f))
-    (or-cases (among 0x30 0x39 b) _ e)
+    or-inv (among 0x30 0x39 b) _ e (among-low 0x30 0x39 b (omega arith))
+    (λ f. or-inv (among 0x41 0x46 b) _ f (among-low 0x41 0x46 b (omega arith)) (among-low 0x61 0x66 b (omega arith)))
 
 pub skips-low : Low skips
 unfolding skips
 skips-low b e =
-    ⊎-elim (wschar-low b)
-    (λ f. ⊎-elim (one-low b 0x0A (omega arith)) (one-low b 0x0D (omega arith)) (or-cases (eqb b 0x0A) _ f))
-    (or-cases (wschar b) _ e)
+    or-inv (wschar b) _ e (wschar-low b)
+    (λ f. or-inv (eqb b 0x0A) _ f (one-low b 0x0A (omega arith)) (one-low b 0x0D (omega arith)))
 
 -- ---- fronts that are UTF-8
 
 pub nil-utf8 : Utf8 []
 nil-utf8 = ([], tt, refl)
-
-one-utf8 : (b : ℕ) → b < 0x80 → Utf8 (b ∷ [])
-one-utf8 b h = subst Utf8 (encode-1 b h) (scalar-utf8 b (inl (omega arith)))
 
 -- one ASCII byte
 pub front-one : (s : List ℕ) → 0 < length s → getD s 0 0 < 0x80 → Utf8 (take 1 s)

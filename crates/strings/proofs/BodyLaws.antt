@@ -17,7 +17,7 @@ use Rattle.strings.specs.declared.Encoding.{Encoding}
 use Rattle.strings.specs.declared.Encoding.the-variants.{LiteralString, BasicString, MlLiteralString, MlBasicString, UnquotedKey}
 use Rattle.strings.specs.Encodings.{mllPlain, mlbPlain, basicInvalid, mlbInvalid}
 use Rattle.strings.specs.Pieces.{copyPiece}
-use Rattle.strings.specs.Bodies.{literalPiece, crError, mlLiteralPiece, basicPiece, skips, lineEnd, escapedNl, escapedMore, mlbContent, mlBasicPiece, keyPiece, pieceOf}
+use Rattle.strings.specs.Bodies.{literalPiece, crError, mlLiteralPiece, basicPiece, skips, escapedLine, escapedNl, escapedMore, mlbContent, mlBasicPiece, keyPiece, pieceOf}
 use Rattle.strings.proofs.Fine.{FineAt, Fine, fine-copy, fine-drop}
 use Rattle.strings.proofs.EscapeLaws.{escape-fine}
 
@@ -62,7 +62,7 @@ module _ (at : ℕ) (s : List ℕ) (h : 0 < length s) where
       (λ f. fine-run basicInvalid 7 at _ (invalid-basic (getD s 0 0) e f))
 
   -- a line-ending escape, where t stands behind the backslash at the front of s
-  line-fine : (t : List ℕ) (w : ℕ) → length s ≡ suc (length t) → w ≤ length t → FineAt (lineEnd at w (getD t w 0) (getD t (w + 1) 0)) s
+  line-fine : (t : List ℕ) (w : ℕ) → length s ≡ suc (length t) → w ≤ length t → FineAt (escapedLine at w (getD t w 0) (getD t (w + 1) 0)) s
   line-fine t w long l =
       by-eq Good (getD t w 0) 0x0A (λ e. let k = there t w (omega arith) in fine-drop (2 + w) 0 0 s (omega arith) (omega arith))
       λ e. by-eq Good (getD t w 0) 0x0D

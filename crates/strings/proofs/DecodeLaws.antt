@@ -14,7 +14,7 @@ use Rattle.text.specs.declared.utf8.Utf8Check.the-variants.{Valid, Refused as N
 use Rattle.strings.specs.declared.Encoding.{Encoding}
 use Rattle.strings.specs.declared.Ends.{Ends}
 use Rattle.strings.specs.declared.Decoded.the-variants.{Written, Refused}
-use Rattle.strings.specs.Encodings.{encodingBy, markError}
+use Rattle.strings.specs.Encodings.{choiceBy, markError}
 use Rattle.strings.specs.Pieces.{gives, notesAt, collect}
 use Rattle.strings.specs.Bodies.{pieceOf}
 use Rattle.strings.specs.Marks.{endsOf, bodyOf}
@@ -53,6 +53,6 @@ module _ (t : List ℕ) (edition kind o e : ℕ) where
   unfolding decodeIn
   decode-invalid r h = rw (← h)
 
-  pub decode-valid : Valid ≡ checkOf t → decodedBy Valid (encodingBy edition kind) t o e ≡ decodeIn t edition kind o e
+  pub decode-valid : Valid ≡ checkOf t → decodedBy Valid (choiceBy edition kind) t o e ≡ decodeIn t edition kind o e
   unfolding decodeIn
   decode-valid h = rw (← h)

@@ -22,7 +22,7 @@ use Rattle.strings.specs.declared.Encoding.the-variants.{LiteralString, 
 use Rattle.strings.specs.declared.Choice.{Choice}
 use Rattle.strings.specs.declared.Choice.the-variants.{Known, Unknown}
 use Rattle.strings.specs.declared.Piece.{Piece}
-use Rattle.strings.specs.Encodings.{mlbPlain, basicInvalid, encodingIn, encodingBy, markError}
+use Rattle.strings.specs.Encodings.{mlbPlain, basicInvalid, choiceIn, choiceBy, markError}
 use Rattle.strings.specs.Pieces.{gives, notes, notesAt, Pieces, collect, charPiece, copyPiece}
 use Rattle.strings.specs.Escapes.{newEscape, simpleEscape, newHexLength, hexLength, hexValue, hexFrom, hexPiece, escapePiece}
 use Rattle.strings.specs.Bodies.{basicPiece, skips, escapedNl, escapedMore, mlbContent, mlBasicPiece, pieceOf}
@@ -178,8 +178,8 @@ abbrev laterChoice : Choice → Choice
 laterChoice (Known e) = Known (later e)
 laterChoice (Unknown r) = Unknown r
 
-chosen-later : (kind : ℕ) → encodingIn Toml11 kind ≡ laterChoice (encodingIn Toml10 kind)
-unfolding encodingIn
+chosen-later : (kind : ℕ) → choiceIn Toml11 kind ≡ laterChoice (choiceIn Toml10 kind)
+unfolding choiceIn
 chosen-later kind = go (eqb kind 39) (eqb kind 34) (eqb kind 1) (eqb kind 2) (eqb kind 3) (NoKind kind)
   where
     pick : Edition → (p q r s t : Bool) → Refusal → Choice
@@ -197,13 +197,13 @@ chosen-later kind = go (eqb kind 39) (eqb kind 34) (eqb kind 1) (eqb kind 2) (eq
 
 -- what the call makes of a text, its errors and its bytes, in the edition of that number
 pub record SameIn (t : List ℕ) (kind : ℕ) : Type 0 where
-  pub errors : errorsBy (encodingBy 11 kind) t ≡ []
-  pub bytes : bytesBy (encodingBy 11 kind) t ≡ bytesBy (encodingBy 10 kind) t
+  pub errors : errorsBy (choiceBy 11 kind) t ≡ []
+  pub bytes : bytesBy (choiceBy 11 kind) t ≡ bytesBy (choiceBy 10 kind) t
 
-pub same-value : (t : List ℕ) (kind : ℕ) → errorsBy (encodingBy 10 kind) t ≡ [] → SameIn t kind
-unfolding encodingBy
+pub same-value : (t : List ℕ) (kind : ℕ) → errorsBy (choiceBy 10 kind) t ≡ [] → SameIn t kind
+unfolding choiceBy
 same-value t kind free =
-    let s = go (encodingIn Toml10 kind) free in
+    let s = go (choiceIn Toml10 kind) free in
     record { errors = rw (chosen-later kind) (s .0); bytes = rw (chosen-later kind) (s .1) }
   where
     go : (c : Choice) → errorsBy c t ≡ [] → (errorsBy (laterChoice c) t ≡ []) × (bytesBy (laterChoice c) t ≡ bytesBy c t)
@@ -215,7 +215,7 @@ same-value t kind free =
 abbrev escape-e : List ℕ
 escape-e = 0x22 ∷ 0x5C ∷ 0x65 ∷ 0x22 ∷ []
 
-pub later-only : (errorsBy (encodingBy 11 34) escape-e ≡ []) × (bytesBy (encodingBy 11 34) escape-e ≡ 0x1B ∷ [])
-    × (errorsBy (encodingBy 10 34) escape-e ≡ (8 ∷ 2 ∷ 2 ∷ []) ∷ [])
-unfolding encodingBy encodingIn errorsOf bytesOf lineEnds notes gives basicPiece run basicUnescaped escapePiece simpleEscape hexLength encodeScalar
+pub later-only : (errorsBy (choiceBy 11 34) escape-e ≡ []) × (bytesBy (choiceBy 11 34) escape-e ≡ 0x1B ∷ [])
+    × (errorsBy (choiceBy 10 34) escape-e ≡ (8 ∷ 2 ∷ 2 ∷ []) ∷ [])
+unfolding choiceBy choiceIn errorsOf bytesOf lineEnds notes gives basicPiece run basicUnescaped escapePiece simpleEscape hexLength encodeScalar
 later-only = (refl, refl, refl)

@@ -14,28 +14,28 @@ use Rattle.classes.proofs.Conds.{cond-case, by-eq, both-left, both-right}
 use Rattle.strings.specs.declared.Encoding.{Encoding}
 use Rattle.strings.specs.declared.Encoding.the-variants.{LiteralString, BasicString, MlLiteralString, MlBasicString, UnquotedKey}
 use Rattle.strings.specs.declared.Ends.{Ends}
-use Rattle.strings.specs.Marks.{opens, lineStart, closes, lineEnd, lineEnds, threes, newlineLen, mlStart, mlClosed, trimmed, mlEnd, mlEnds, keyEnds, endsOf}
+use Rattle.strings.specs.Marks.{lineOpened, lineStart, lineClosed, lineEnd, lineEnds, threes, newlineLen, mlStart, mlClosed, trimmed, mlEnd, mlEnds, keyEnds, endsOf}
 use Rattle.classes.proofs.RunLaws.{there}
 
 -- ---- one mark at each end
 
 module _ (q : ℕ) (t : List ℕ) where
-  pub opens-none : length t ≡ 0 → false ≡ opens q t
-  opens-none e = simp e
+  pub opened-none : length t ≡ 0 → false ≡ lineOpened q t
+  opened-none e = simp e
 
-  pub opens-by : (length t ≡ 0 → ⊥) → eqb (getD t 0 0) q ≡ opens q t
-  opens-by n = simp (lt-ltb 0 (length t) (omega arith))
+  pub opened-by : (length t ≡ 0 → ⊥) → eqb (getD t 0 0) q ≡ lineOpened q t
+  opened-by n = simp (lt-ltb 0 (length t) (omega arith))
 
-  pub closes-none : (start : ℕ) → length t ≤ start → false ≡ closes start q t
-  closes-none start h = simp (le-ltb start (length t) h)
+  pub closed-none : (start : ℕ) → length t ≤ start → false ≡ lineClosed start q t
+  closed-none start h = simp (le-ltb start (length t) h)
 
-  pub closes-by : (start : ℕ) → start < length t → eqb (getD t (length t - 1) 0) q ≡ closes start q t
-  closes-by start h = simp (lt-ltb start (length t) h)
+  pub closed-by : (start : ℕ) → start < length t → eqb (getD t (length t - 1) 0) q ≡ lineClosed start q t
+  closed-by start h = simp (lt-ltb start (length t) h)
 
-  pub closes-some : (start : ℕ) → closes start q t ≡ true → 1 ≤ length t
-  closes-some start e = omega (arith, ltb-true start (length t) (both-left _ _ e))
+  pub closed-some : (start : ℕ) → lineClosed start q t ≡ true → 1 ≤ length t
+  closed-some start e = omega (arith, ltb-true start (length t) (both-left _ _ e))
 
-  pub line-is : (o : Bool) (n : ℕ) (c : Bool) (e : ℕ) → o ≡ opens q t → n ≡ lineStart o → c ≡ closes n q t → e ≡ lineEnd c t
+  pub line-is : (o : Bool) (n : ℕ) (c : Bool) (e : ℕ) → o ≡ lineOpened q t → n ≡ lineStart o → c ≡ lineClosed n q t → e ≡ lineEnd c t
       → record { opened = o; closed = c; start = n; end = e } ≡ lineEnds q t
   unfolding lineEnds
   line-is o n c e p r s u = rw (u, s, r, p)
@@ -164,7 +164,7 @@ abbrev pub Within : Ends → List ℕ → Type 0
 Within d t = (d .start ≤ d .end) × (d .end ≤ length t)
 
 module _ (q : ℕ) (t : List ℕ) where
-  line-cases : (o c : Bool) → opens q t ≡ o → closes (cond o 1 0) q t ≡ c
+  line-cases : (o c : Bool) → lineOpened q t ≡ o → lineClosed (cond o 1 0) q t ≡ c
       → (cond o 1 0 ≤ cond c (length t - 1) (length t)) × (cond c (length t - 1) (length t) ≤ length t)
   line-cases true true eo ec = omega (arith, ltb-true 1 (length t) (both-left (ltb 1 (length t)) _ ec))
   line-cases true false eo ec = omega (arith, ltb-true 0 (length t) (both-left (ltb 0 (length t)) _ eo))
@@ -173,7 +173,7 @@ module _ (q : ℕ) (t : List ℕ) where
 
   line-within : Within (lineEnds q t) t
   unfolding lineEnds
-  line-within = line-cases (opens q t) (closes (cond (opens q t) 1 0) q t) refl refl
+  line-within = line-cases (lineOpened q t) (lineClosed (cond (lineOpened q t) 1 0) q t) refl refl
 
 end-within : (trims : Bool) (q a : ℕ) (t : List ℕ) (c : Bool) → a ≤ length t → (c ≡ true → a + 3 ≤ length t)
     → (a ≤ mlEnd trims q a t c) × (mlEnd trims q a t c ≤ length t)

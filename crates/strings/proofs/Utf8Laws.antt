@@ -17,9 +17,8 @@ use Rattle.classes.specs.Runs.{run}
 use Rattle.classes.proofs.Conds.{cond-case, by-lt, by-eq, both-left, both-right}
 use Rattle.text.specs.Utf8.{Scalar, Utf8}
 use Rattle.text.specs.Utf8Read.{isScalar}
-use Rattle.text.proofs.MendLaws.{scalar-utf8}
 use Rattle.text.proofs.EncodeLaws.{true-scalar}
-use Rattle.text.proofs.CutLaws.{utf8-append, cut-at}
+use Rattle.text.proofs.CutLaws.{scalar-utf8, utf8-append, cut-at}
 use Rattle.strings.specs.declared.Piece.{Piece}
 use Rattle.strings.specs.declared.Ends.{Ends}
 use Rattle.strings.specs.declared.Given.the-variants.{Copy}
@@ -29,8 +28,8 @@ use Rattle.strings.specs.declared.Encoding.the-variants.{LiteralString, 
 use Rattle.strings.specs.Encodings.{mllPlain, mlbPlain, basicInvalid, mlbInvalid}
 use Rattle.strings.specs.Pieces.{gives, Pieces, collect, copyPiece, charPiece, dropPiece}
 use Rattle.strings.specs.Escapes.{simpleEscape, hexLength, hexFrom, hexPiece, escapePiece}
-use Rattle.strings.specs.Bodies.{literalPiece, mlLiteralPiece, basicPiece, skips, lineEnd, escapedNl, escapedMore, mlbContent, mlBasicPiece, keyPiece, pieceOf}
-use Rattle.strings.specs.Marks.{opens, closes, lineEnds, threes, newlineLen, mlStart, mlClosed, trimmed, mlEnd, mlEnds, keyEnds, endsOf, bodyOf}
+use Rattle.strings.specs.Bodies.{literalPiece, mlLiteralPiece, basicPiece, skips, escapedLine, escapedNl, escapedMore, mlbContent, mlBasicPiece, keyPiece, pieceOf}
+use Rattle.strings.specs.Marks.{lineOpened, lineClosed, lineEnds, threes, newlineLen, mlStart, mlClosed, trimmed, mlEnd, mlEnds, keyEnds, endsOf, bodyOf}
 use Rattle.strings.specs.Decoding.{bytesOf}
 use Rattle.classes.proofs.RunLaws.{there}
 use Rattle.strings.proofs.PieceLaws.{gives-copy}
@@ -133,7 +132,7 @@ module _ (at : ℕ) (s : List ℕ) (slash : getD s 0 0 ≡ 0x5C) where
   same-front : (n m : ℕ) → n ≡ m → Utf8 (take n s) → Utf8 (take m s)
   same-front n m e u = subst (λ (k : ℕ). Utf8 (take k s)) e u
 
-  line-whole : (w : ℕ) → w ≤ run wschar (drop 1 s) → Whole s (lineEnd at w (getD (drop 1 s) w 0) (getD (drop 1 s) (w + 1) 0))
+  line-whole : (w : ℕ) → w ≤ run wschar (drop 1 s) → Whole s (escapedLine at w (getD (drop 1 s) w 0) (getD (drop 1 s) (w + 1) 0))
   line-whole w h =
       let u = blanks w h in
       by-eq (Whole s) (getD (drop 1 s) w 0) 0x0A (λ e. whole-drop s (2 + w) 0 0 (same-front (1 + w + 1) (2 + w) (omega arith) (behind w (omega arith) (omega arith) u)))
@@ -219,17 +218,17 @@ abbrev Body : List ℕ → Ends → Type 0
 Body t d = (d .start ≤ d .end) × Utf8 (take (d .start) t) × Utf8 (take (d .end) t)
 
 module _ (q : ℕ) (low : q < 0x80) (t : List ℕ) (u : Utf8 t) where
-  line-cuts : (o c : Bool) → opens q t ≡ o → closes (cond o 1 0) q t ≡ c
+  line-cuts : (o c : Bool) → lineOpened q t ≡ o → lineClosed (cond o 1 0) q t ≡ c
       → Utf8 (take (cond o 1 0) t) × Utf8 (take (cond c (length t - 1) (length t)) t)
   line-cuts o c eo ec = (first o eo, last o c ec)
     where
-      first : (o : Bool) → opens q t ≡ o → Utf8 (take (cond o 1 0) t)
+      first : (o : Bool) → lineOpened q t ≡ o → Utf8 (take (cond o 1 0) t)
       first true e =
           let l = ltb-true 0 (length t) (both-left (ltb 0 (length t)) _ e) in
           front-one t l (omega (arith, eqb-true (getD t 0 0) q (both-right (ltb 0 (length t)) _ e)))
       first false e = nil-utf8
 
-      last : (o c : Bool) → closes (cond o 1 0) q t ≡ c → Utf8 (take (cond c (length t - 1) (length t)) t)
+      last : (o c : Bool) → lineClosed (cond o 1 0) q t ≡ c → Utf8 (take (cond c (length t - 1) (length t)) t)
       last o true e =
           let l = ltb-true (cond o 1 0) (length t) (both-left (ltb (cond o 1 0) (length t)) _ e) in
           cut-mark t q (length t - 1) low u (omega arith) (eqb-true _ q (both-right (ltb (cond o 1 0) (length t)) _ e))
@@ -237,7 +236,7 @@ module _ (q : ℕ) (low : q < 0x80) (t : List ℕ) (u : Utf8 t) where
 
   line-utf8 : Utf8 (take (lineEnds q t .start) t) × Utf8 (take (lineEnds q t .end) t)
   unfolding lineEnds
-  line-utf8 = line-cuts (opens q t) (closes (cond (opens q t) 1 0) q t) refl refl
+  line-utf8 = line-cuts (lineOpened q t) (lineClosed (cond (lineOpened q t) 1 0) q t) refl refl
 
 newline-utf8 : (s : List ℕ) → Utf8 (take (newlineLen s) s)
 unfolding newlineLen

@@ -46,8 +46,8 @@ unfoldable pub skips : ℕ → Bool
 skips b = wschar b || (eqb b 0x0A || eqb b 0x0D)
 
 -- a line-ending escape's own line, whose backslash is at place `at`: w blanks, and then the bytes b and next
-abbrev pub lineEnd : ℕ → ℕ → ℕ → ℕ → Piece
-lineEnd at w b next =
+abbrev pub escapedLine : ℕ → ℕ → ℕ → ℕ → Piece
+escapedLine at w b next =
     cond (eqb b 0x0A) (dropPiece (2 + w) 0 0)
     (cond (eqb b 0x0D) (cond (eqb next 0x0A) (dropPiece (3 + w) 0 0) (dropPiece (2 + w) 4 (at + (2 + w))))
     (dropPiece (1 + w) 13 (at + (1 + w))))
@@ -55,7 +55,7 @@ lineEnd at w b next =
 -- mlb-escaped-nl = escape ws newline *( wschar / newline )
 -- the backslash, the blanks behind it and the newline; s stands behind the backslash. No newline: error 13 behind the blanks
 unfoldable pub escapedNl : ℕ → List ℕ → Piece
-escapedNl at s = lineEnd at (run wschar s) (getD s (run wschar s) 0) (getD s (run wschar s + 1) 0)
+escapedNl at s = escapedLine at (run wschar s) (getD s (run wschar s) 0) (getD s (run wschar s + 1) 0)
 
 -- what it drops in the lines that follow, a piece for each blank and each newline
 unfoldable pub escapedMore : ℕ → List ℕ → Piece

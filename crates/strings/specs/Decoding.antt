@@ -16,7 +16,7 @@ use Rattle.strings.specs.declared.Choice.{Choice}
 use Rattle.strings.specs.declared.Choice.the-variants.{Known, Unknown}
 use Rattle.strings.specs.declared.Decoded.{Decoded}
 use Rattle.strings.specs.declared.Decoded.the-variants.{Written, Refused}
-use Rattle.strings.specs.Encodings.{encodingBy, markError}
+use Rattle.strings.specs.Encodings.{choiceBy, markError}
 use Rattle.strings.specs.Pieces.{gives, errorAt, notesAt, collect}
 use Rattle.strings.specs.Bodies.{pieceOf}
 use Rattle.strings.specs.Marks.{endsOf, bodyOf}
@@ -63,7 +63,7 @@ decodedBy Valid (Known k) t o e = fitted (bytesOf k t) (errorsOf k t) o e
 
 -- the answer for a text, the numbers of an edition and a kind, an output of o bytes and e error records
 unfoldable pub decodeIn : List ℕ → ℕ → ℕ → ℕ → ℕ → Decoded
-decodeIn t edition kind o e = decodedBy (checkOf t) (encodingBy edition kind) t o e
+decodeIn t edition kind o e = decodedBy (checkOf t) (choiceBy edition kind) t o e
 
 -- a call that names no edition reads TOML 1.0
 abbrev pub decodeOf : List ℕ → ℕ → ℕ → ℕ → Decoded

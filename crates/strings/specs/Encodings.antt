@@ -14,8 +14,8 @@ use Rattle.strings.specs.declared.Choice.{Choice}
 use Rattle.strings.specs.declared.Choice.the-variants.{Known, Unknown}
 
 -- the numbers of the four string kinds, and 3 for a key; any other is refused, and told
-unfoldable pub encodingIn : Edition → ℕ → Choice
-encodingIn v kind =
+unfoldable pub choiceIn : Edition → ℕ → Choice
+choiceIn v kind =
     cond (eqb kind 39) (Known LiteralString)
     (cond (eqb kind 34) (Known (BasicString v))
     (cond (eqb kind 1) (Known MlLiteralString)
@@ -34,15 +34,15 @@ editionNumber Toml10 = 10
 editionNumber Toml11 = 11
 
 -- what the numbers of an edition and a kind ask for
-unfoldable pub encodingBy : ℕ → ℕ → Choice
-encodingBy edition kind =
-    cond (eqb edition 10) (encodingIn Toml10 kind)
-    (cond (eqb edition 11) (encodingIn Toml11 kind)
-    (unnamed edition (encodingIn Toml10 kind)))
+unfoldable pub choiceBy : ℕ → ℕ → Choice
+choiceBy edition kind =
+    cond (eqb edition 10) (choiceIn Toml10 kind)
+    (cond (eqb edition 11) (choiceIn Toml11 kind)
+    (unnamed edition (choiceIn Toml10 kind)))
 
 -- a call that names no edition reads TOML 1.0
-abbrev pub encodingOf : ℕ → Choice
-encodingOf kind = encodingBy 10 kind
+abbrev pub choiceOf : ℕ → Choice
+choiceOf kind = choiceBy 10 kind
 
 -- the error of a quote mark that is missing, at either end; a key has no mark, and its error is that it is empty
 abbrev pub markError : Encoding → ℕ

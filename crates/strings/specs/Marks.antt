@@ -12,16 +12,16 @@ use Rattle.strings.specs.declared.Ends.{Ends}
 
 -- ---- one mark q at each end
 
-abbrev pub opens : ℕ → List ℕ → Bool
-opens q t = ltb 0 (length t) && eqb (getD t 0 0) q
+abbrev pub lineOpened : ℕ → List ℕ → Bool
+lineOpened q t = ltb 0 (length t) && eqb (getD t 0 0) q
 
 -- the body starts behind the opening, where it is there
 abbrev pub lineStart : Bool → ℕ
 lineStart opened = cond opened 1 0
 
 -- a closing mark, not before the body's start
-abbrev pub closes : ℕ → ℕ → List ℕ → Bool
-closes start q t = ltb start (length t) && eqb (getD t (length t - 1) 0) q
+abbrev pub lineClosed : ℕ → ℕ → List ℕ → Bool
+lineClosed start q t = ltb start (length t) && eqb (getD t (length t - 1) 0) q
 
 -- and ends before the closing, where that is there
 abbrev pub lineEnd : Bool → List ℕ → ℕ
@@ -29,8 +29,8 @@ lineEnd closed t = cond closed (length t - 1) (length t)
 
 unfoldable pub lineEnds : ℕ → List ℕ → Ends
 lineEnds q t =
-    let start : ℕ = lineStart (opens q t) in
-    record { opened = opens q t; closed = closes start q t; start = start; end = lineEnd (closes start q t) t }
+    let start : ℕ = lineStart (lineOpened q t) in
+    record { opened = lineOpened q t; closed = lineClosed start q t; start = start; end = lineEnd (lineClosed start q t) t }
 
 -- ---- three marks q at each end, and a newline behind the opening
 

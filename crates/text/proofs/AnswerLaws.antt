@@ -1,23 +1,23 @@
 -- The check's answer, case by case, and what each case says of the bytes.
 -- Assumes nothing.
 use Prim.Native.Nat.{ℕ, _≤_, _<_}
-use mathlib.Core.Path.{_≡_, sym, _∙_}
+use mathlib.Core.Path.{_≡_, refl, sym, ap, _∙_}
 use mathlib.Core.Logic.{_↔_}
 use mathlib.Core.List.{List}
 use native.Mathlib.Omega.{arith}
 use lib.ListN.{length, drop, length-drop}
-use lib.Dec.{eqb}
+use lib.Dec.{ltb, eqb}
 use borrow.Author.Tests.{eqb-true, eqb-false, lt-ltb, le-ltb, eq-eqb, ne-eqb}
 use Rattle.text.specs.Refusals.{limit}
 use Rattle.text.specs.Utf8.{Utf8}
 use Rattle.text.specs.Utf8Read.{validPrefix}
 use Rattle.text.specs.Lead.{faultLen}
-use Rattle.text.specs.Answers.{checkOf}
+use Rattle.text.specs.Answers.{checkOf, checkNumber, checkValue, checkLength, checkRefusal, checkReturned, checkFault}
 use Rattle.text.specs.CheckMeans.{Longest, CheckMeans}
 use Rattle.text.specs.declared.refusal.Refusal.the-variants.{NotUtf8, TooLong, FewTokens, ShortOutput, FewErrors, OutOfPlace, NoKind, NoEdition}
 use Rattle.text.specs.declared.utf8.Utf8Check.{Utf8Check}
 use Rattle.text.specs.declared.utf8.Utf8Check.the-variants.{Valid, Refused}
-use Rattle.classes.proofs.Conds.{by-lt, cond-case}
+use Rattle.classes.proofs.Conds.{by-lt, cond-case, of-choice}
 use Rattle.text.proofs.ReadLaws.{utf8-iff, valid-is, valid-le, valid-longest}
 use Rattle.text.proofs.FaultLaws.{fault-is, fault-one}
 
@@ -38,6 +38,23 @@ module _ (s : List ℕ) where
   answer-broken at r h e k f =
       let d : at ≡ length s → ⊥ = omega arith in
       rw f (simp (le-ltb _ _ h, e, ne-eqb _ _ d))
+
+-- and its numbers: which refusal, the number returned, and the second one
+pub told : (s : List ℕ) (r : Utf8Check) → r ≡ checkOf s
+    → (r ≡ checkOf s) × ((checkNumber r ≡ checkRefusal s) × ((checkValue r ≡ checkReturned s) × (checkLength r ≡ checkFault s)))
+unfolding checkOf
+told s r e =
+    let long = ltb limit (length s) in
+    let whole = eqb (validPrefix s) (length s) in (
+      e,
+      (
+        ap checkNumber e ∙ of-choice checkNumber long refl (of-choice checkNumber whole refl refl),
+        (
+          ap checkValue e ∙ of-choice checkValue long refl (of-choice checkValue whole refl refl),
+          ap checkLength e ∙ of-choice checkLength long refl (of-choice checkLength whole refl refl),
+        ),
+      ),
+    )
 
 -- ---- from the answer to the bytes: what the check promises, without a computed definition in it
 

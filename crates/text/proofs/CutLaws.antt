@@ -4,7 +4,7 @@
 use Prim.Native.Nat.{ℕ, _≤_, _<_}
 use mathlib.Core.Path.{_≡_, refl, sym, ap, _∙_, subst}
 use mathlib.Core.Logic.{_⊎_, inl, inr, ⊎-elim, _↔_}
-use mathlib.Core.List.{List, [], _∷_, _++_}
+use mathlib.Core.List.{List, [], _∷_, _++_, append-nil}
 use native.Mathlib.Omega.{arith}
 use native.Mathlib.Decide.{decLt}
 use lib.ListN.{length, getD, take, drop, take-append-drop}
@@ -23,6 +23,12 @@ all-append P (x ∷ xs) ys h k = (h .0, all-append P xs ys (h .1) k)
 pub all-parts : (P : ℕ → Type 0) (xs ys : List ℕ) → All P (xs ++ ys) → All P xs × All P ys
 all-parts P [] ys h = (tt, h)
 all-parts P (x ∷ xs) ys h = let r = all-parts P xs ys (h .1) in ((h .0, r .0), r .1)
+
+pub scalar-utf8 : (c : ℕ) → Scalar c → Utf8 (encodeScalar c)
+scalar-utf8 c h = (c ∷ [], (h, tt), append-nil (encodeScalar c))
+
+pub one-utf8 : (b : ℕ) → b < 0x80 → Utf8 (b ∷ [])
+one-utf8 b h = subst Utf8 (encode-1 b h) (scalar-utf8 b (inl (omega arith)))
 
 pub utf8-append : (p q : List ℕ) → Utf8 p → Utf8 q → Utf8 (p ++ q)
 utf8-append p q (cs, h, e) (ds, k, f) = (cs ++ ds, all-append Scalar cs ds h k, rw (encodes-append cs ds, e, f))

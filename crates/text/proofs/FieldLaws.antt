@@ -23,8 +23,8 @@ module _ (c : ℕ) where
   lead-4 h = or-shifted-r 30 3 (c / 262144) (omega arith)
 
 -- bits joined are no less than either part
-pub or-left : (a b : ℕ) → a ≤ bitOr a b
-or-left a b = omega (arith, or-add-and a b, and-le-r a b)
+pub bits-left : (a b : ℕ) → a ≤ bitOr a b
+bits-left a b = omega (arith, or-add-and a b, and-le-r a b)
 
-pub or-right : (a b : ℕ) → b ≤ bitOr a b
-or-right a b = omega (arith, or-add-and a b, and-le-l a b)
+pub bits-right : (a b : ℕ) → b ≤ bitOr a b
+bits-right a b = omega (arith, or-add-and a b, and-le-l a b)

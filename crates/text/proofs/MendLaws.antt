@@ -24,7 +24,7 @@ use Rattle.text.specs.declared.utf8.Utf8Check.the-variants.{Refused}
 use Rattle.classes.proofs.Conds.{by-eq}
 use Rattle.text.proofs.EncodeLaws.{encode-length}
 use Rattle.text.proofs.ReadLaws.{utf8-iff, valid-append, valid-longest}
-use Rattle.text.proofs.CutLaws.{utf8-append}
+use Rattle.text.proofs.CutLaws.{scalar-utf8, utf8-append}
 use Rattle.text.proofs.AnswerLaws.{longest-one, check-means}
 
 faulty-none : (n left : ℕ) → faulty n left ≡ 0 → n ≡ left
@@ -36,9 +36,6 @@ faulty-few : (n left : ℕ) → n ≤ 3 → faulty n left ≤ 3
 faulty-few n left h =
     by-eq (λ (r : ℕ). r ≤ 3) n left (λ e. omega arith)
     λ d. by-eq (λ (r : ℕ). r ≤ 3) n 0 (λ e. omega arith) (λ e. h)
-
-pub scalar-utf8 : (c : ℕ) → Scalar c → Utf8 (encodeScalar c)
-scalar-utf8 c h = (c ∷ [], (h, tt), append-nil (encodeScalar c))
 
 -- ---- what is left behind the longest valid prefix
 

@@ -9,6 +9,7 @@ ghost use Rattle.text.specs.Utf8.{encodeScalar};
 ghost use Rattle.text.specs.Utf8Read.{isScalar, ascii, charLen, Passed};
 ghost use Rattle.text.specs.Lead.{leadOf, Among, BegunAt, faultLen};
 ghost use Rattle.text.specs.Answers.{padded, encodedOf, checkOf};
+ghost use Rattle.text.specs.Answers.{checkNumber, checkValue, checkLength, checkRefusal, checkReturned, checkFault};
 use crate::refusal::LIMIT;
 use crate::refusal::Refusal;
 
@@ -20,7 +21,10 @@ pub enum Utf8Check {
 
 // Is all of s UTF-8, and within the limit?
 pub fn check_utf8(s: &[u8]) -> Utf8Check
-    ensures { λ r. ⌜ r ≡ checkOf (now (s .entry)) ⌝ }
+    ensures answer { λ r. ⌜ r ≡ checkOf (now (s .entry)) ⌝ }
+    ensures number { λ r. ⌜ checkNumber r ≡ checkRefusal (now (s .entry)) ⌝ }
+    ensures value { λ r. ⌜ checkValue r ≡ checkReturned (now (s .entry)) ⌝ }
+    ensures length { λ r. ⌜ checkLength r ≡ checkFault (now (s .entry)) ⌝ }
 {
     if LIMIT < s.len() {
         return Utf8Check::Refused(Refusal::TooLong);

@@ -1,4 +1,3 @@
-pub mod ChoiceLaws
 pub mod CopyLaws
 pub mod KindLaws
 pub mod NumberLaws

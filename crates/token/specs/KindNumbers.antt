@@ -1,7 +1,7 @@
 -- RULE. The sixteen kinds of token and their numbers.
 -- Assumes nothing.
 use Prim.Native.Nat.{ℕ}
-use mathlib.Core.Bool.{cond}
+use mathlib.Core.Bool.{Bool, cond, _||_}
 use lib.Dec.{eqb}
 use Rattle.text.specs.Refusals.{refusalNumber, refusalValue}
 use Rattle.text.specs.declared.refusal.Refusal.the-variants.{NoKind}
@@ -50,7 +50,7 @@ kindOfNumber n =
     (cond (eqb n 4) (Kind Eof)
     (Refused (NoKind n)))))))))))))))))
 
--- the number with which it is answered, 0 or the refusal's, and the number returned beside the kind
+-- the number with which it is answered, 0 or the refusal's, and the number returned
 abbrev pub kindReadNumber : KindRead → ℕ
 kindReadNumber (Kind k) = 0
 kindReadNumber (Refused r) = refusalNumber r
@@ -58,3 +58,17 @@ kindReadNumber (Refused r) = refusalNumber r
 abbrev pub kindReadValue : KindRead → ℕ
 kindReadValue (Kind k) = 0
 kindReadValue (Refused r) = refusalValue r
+
+-- the numbers that are a kind's
+abbrev pub isKind : ℕ → Bool
+isKind n =
+    eqb n 46 || (eqb n 61 || (eqb n 44 || (eqb n 91 || (eqb n 93 || (eqb n 123 || (eqb n 125
+    || (eqb n 32 || (eqb n 35 || (eqb n 10 || (eqb n 39 || (eqb n 34 || (eqb n 1
+    || (eqb n 2 || (eqb n 3 || (eqb n 4)))))))))))))))
+
+-- these are, by the number: 7 with the number itself where it is no kind's, else 0
+abbrev pub kindRefusal : ℕ → ℕ
+kindRefusal n = cond (isKind n) 0 7
+
+abbrev pub kindReturned : ℕ → ℕ
+kindReturned n = cond (isKind n) 0 n

@@ -4,7 +4,7 @@
 ghost use mathlib.Core.Path.{_≡_};
 ghost use Prim.Native.Nat.{_≤_};
 ghost use lib.ListN.{length};
-ghost use Rattle.token.specs.KindNumbers.{kindNumber, kindOfNumber, kindReadNumber, kindReadValue};
+ghost use Rattle.token.specs.KindNumbers.{kindNumber, kindOfNumber, kindReadNumber, kindReadValue, kindRefusal, kindReturned};
 ghost use Rattle.token.specs.Descriptions.{describedBy, kindText, descriptionOf, answerNumber, answerValue};
 ghost use Rattle.token.specs.Encodings.{kindEncoding, encodingOf};
 ghost use Rattle.token.specs.Records.{spanOf, tokenOf, recordOf};
@@ -169,7 +169,9 @@ impl TokenKind {
 
     // The kind that has a number.
     pub fn from_number(number: usize) -> KindRead
-        ensures { λ r. ⌜ r ≡ kindOfNumber number ⌝ }
+        ensures answer { λ r. ⌜ r ≡ kindOfNumber number ⌝ }
+        ensures number { λ r. ⌜ kindReadNumber r ≡ kindRefusal number ⌝ }
+        ensures value { λ r. ⌜ kindReadValue r ≡ kindReturned number ⌝ }
     {
         match number {
             TokenKind::DOT => KindRead::Kind(TokenKind::Dot),
@@ -195,8 +197,8 @@ impl TokenKind {
     // The words for the kind that has a number.
     pub fn description(number: usize) -> Description
         ensures answer { λ r. ⌜ r ≡ descriptionOf number ⌝ }
-        ensures number { λ r. ⌜ answerNumber (r .answer) ≡ kindReadNumber (kindOfNumber number) ⌝ }
-        ensures value { λ r. ⌜ answerValue (r .answer) ≡ kindReadValue (kindOfNumber number) ⌝ }
+        ensures number { λ r. ⌜ answerNumber (r .answer) ≡ kindRefusal number ⌝ }
+        ensures value { λ r. ⌜ answerValue (r .answer) ≡ kindReturned number ⌝ }
     {
         match TokenKind::from_number(number) {
             KindRead::Kind(kind) => kind.described(),
@@ -234,8 +236,8 @@ impl TokenKind {
     // The encoding of the kind that has a number.
     pub fn encoding(number: usize) -> Encoding
         ensures answer { λ r. ⌜ r ≡ encodingOf number ⌝ }
-        ensures number { λ r. ⌜ answerNumber (r .answer) ≡ kindReadNumber (kindOfNumber number) ⌝ }
-        ensures value { λ r. ⌜ answerValue (r .answer) ≡ kindReadValue (kindOfNumber number) ⌝ }
+        ensures number { λ r. ⌜ answerNumber (r .answer) ≡ kindRefusal number ⌝ }
+        ensures value { λ r. ⌜ answerValue (r .answer) ≡ kindReturned number ⌝ }
     {
         match TokenKind::from_number(number) {
             KindRead::Kind(kind) => Encoding {

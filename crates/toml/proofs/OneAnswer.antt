@@ -14,7 +14,7 @@ use Rattle.lexer.specs.Steps.{startAnswer, stepOf, cursorOf}
 use Rattle.lexer.specs.Whole.{lexAnswer, lexMemory}
 use Rattle.place.specs.Spans.{spanAnswer}
 use Rattle.place.specs.Positions.{positionAnswer}
-use Rattle.strings.specs.Encodings.{encodingBy as decoderBy}
+use Rattle.strings.specs.Encodings.{choiceBy}
 use Rattle.strings.specs.Decoding.{decodeIn, bytesBy, errorsBy, after}
 use Rattle.toml.specs.Numbers.{flag, checkNumbers, startNumbers, stepNumbers, lexNumbers, spanNumbers, partOf}
 use Rattle.toml.specs.Numbers.{positionNumbers, decodeNumbers, describedNumbers, encodedNumbers}
@@ -55,19 +55,19 @@ toml-position doc offset = only-equal (positionNumbers (positionAnswer doc offse
 -- the answer, the output and the error records afterwards
 pub toml-decode-in : (text : List ℕ) (edition kind : ℕ) (output : List ℕ) (errors : List (List ℕ))
     → Only (λ (r : DecodedText). r ≡ decodeNumbers (decodeIn text edition kind (length output) (length errors)))
-    × (Only (λ (new : List ℕ). new ≡ after (decodeIn text edition kind (length output) (length errors)) (bytesBy (decoderBy edition kind) text) output)
-    × Only (λ (new : List (List ℕ)). new ≡ after (decodeIn text edition kind (length output) (length errors)) (errorsBy (decoderBy edition kind) text) errors))
+    × (Only (λ (new : List ℕ). new ≡ after (decodeIn text edition kind (length output) (length errors)) (bytesBy (choiceBy edition kind) text) output)
+    × Only (λ (new : List (List ℕ)). new ≡ after (decodeIn text edition kind (length output) (length errors)) (errorsBy (choiceBy edition kind) text) errors))
 toml-decode-in text edition kind output errors =
     let d = decodeIn text edition kind (length output) (length errors) in (
       only-equal (decodeNumbers d),
-      (only-equal (after d (bytesBy (decoderBy edition kind) text) output), only-equal (after d (errorsBy (decoderBy edition kind) text) errors)),
+      (only-equal (after d (bytesBy (choiceBy edition kind) text) output), only-equal (after d (errorsBy (choiceBy edition kind) text) errors)),
     )
 
 -- the same for a call that names no edition, which reads TOML 1.0
 pub toml-decode : (text : List ℕ) (kind : ℕ) (output : List ℕ) (errors : List (List ℕ))
     → Only (λ (r : DecodedText). r ≡ decodeNumbers (decodeIn text 10 kind (length output) (length errors)))
-    × (Only (λ (new : List ℕ). new ≡ after (decodeIn text 10 kind (length output) (length errors)) (bytesBy (decoderBy 10 kind) text) output)
-    × Only (λ (new : List (List ℕ)). new ≡ after (decodeIn text 10 kind (length output) (length errors)) (errorsBy (decoderBy 10 kind) text) errors))
+    × (Only (λ (new : List ℕ). new ≡ after (decodeIn text 10 kind (length output) (length errors)) (bytesBy (choiceBy 10 kind) text) output)
+    × Only (λ (new : List (List ℕ)). new ≡ after (decodeIn text 10 kind (length output) (length errors)) (errorsBy (choiceBy 10 kind) text) errors))
 toml-decode text kind output errors = toml-decode-in text 10 kind output errors
 
 pub toml-description : (kind : ℕ) → Only (λ (r : Described). r ≡ describedNumbers (descriptionOf kind))

@@ -10,7 +10,7 @@ ghost use Rattle.lexer.specs.Steps.{startAnswer, stepOf, cursorOf};
 ghost use Rattle.lexer.specs.Whole.{lexAnswer, lexMemory};
 ghost use Rattle.place.specs.Spans.{spanAnswer, spanText};
 ghost use Rattle.place.specs.Positions.{positionAnswer};
-ghost use Rattle.strings.specs.Encodings.{encodingOf as decoderOf, encodingBy as decoderBy};
+ghost use Rattle.strings.specs.Encodings.{choiceOf, choiceBy};
 ghost use Rattle.strings.specs.Decoding.{decodeOf, decodeIn, bytesBy, errorsBy, after};
 ghost use Rattle.toml.specs.Numbers.{bitOf, flag, given, refusedBy, toldBy, cursorNumbers, noToken, partFrom};
 ghost use Rattle.toml.specs.Numbers.{checkNumbers, startNumbers, stepNumbers, lexNumbers, spanNumbers, partOf};
@@ -220,8 +220,8 @@ pub extern "C" fn toml_decode(
     errors: &mut [[usize; 3]],
 ) -> DecodedText
     ensures answer { λ r. ⌜ r ≡ decodeNumbers (decodeOf (now (text .entry)) kind (length (now (output .entry))) (length (now (errors .entry)))) ⌝ }
-    ensures bytes { λ _. ⌜ now (output .exit) ≡ after (decodeOf (now (text .entry)) kind (length (now (output .entry))) (length (now (errors .entry)))) (bytesBy (decoderOf kind) (now (text .entry))) (now (output .entry)) ⌝ }
-    ensures records { λ _. ⌜ now (errors .exit) ≡ after (decodeOf (now (text .entry)) kind (length (now (output .entry))) (length (now (errors .entry)))) (errorsBy (decoderOf kind) (now (text .entry))) (now (errors .entry)) ⌝ }
+    ensures bytes { λ _. ⌜ now (output .exit) ≡ after (decodeOf (now (text .entry)) kind (length (now (output .entry))) (length (now (errors .entry)))) (bytesBy (choiceOf kind) (now (text .entry))) (now (output .entry)) ⌝ }
+    ensures records { λ _. ⌜ now (errors .exit) ≡ after (decodeOf (now (text .entry)) kind (length (now (output .entry))) (length (now (errors .entry)))) (errorsBy (choiceOf kind) (now (text .entry))) (now (errors .entry)) ⌝ }
 {
     toml_decode_in(text, TOML_10, kind, output, errors)
 }
@@ -239,8 +239,8 @@ pub extern "C" fn toml_decode_in(
     errors: &mut [[usize; 3]],
 ) -> DecodedText
     ensures answer { λ r. ⌜ r ≡ decodeNumbers (decodeIn (now (text .entry)) edition kind (length (now (output .entry))) (length (now (errors .entry)))) ⌝ }
-    ensures bytes { λ _. ⌜ now (output .exit) ≡ after (decodeIn (now (text .entry)) edition kind (length (now (output .entry))) (length (now (errors .entry)))) (bytesBy (decoderBy edition kind) (now (text .entry))) (now (output .entry)) ⌝ }
-    ensures records { λ _. ⌜ now (errors .exit) ≡ after (decodeIn (now (text .entry)) edition kind (length (now (output .entry))) (length (now (errors .entry)))) (errorsBy (decoderBy edition kind) (now (text .entry))) (now (errors .entry)) ⌝ }
+    ensures bytes { λ _. ⌜ now (output .exit) ≡ after (decodeIn (now (text .entry)) edition kind (length (now (output .entry))) (length (now (errors .entry)))) (bytesBy (choiceBy edition kind) (now (text .entry))) (now (output .entry)) ⌝ }
+    ensures records { λ _. ⌜ now (errors .exit) ≡ after (decodeIn (now (text .entry)) edition kind (length (now (output .entry))) (length (now (errors .entry)))) (errorsBy (choiceBy edition kind) (now (text .entry))) (now (errors .entry)) ⌝ }
 {
     match decoder::decode_in(text, edition, kind, output, errors) {
         Decoded::Written { bytes, errors } => DecodedText {

@@ -5,7 +5,7 @@ use Prim.Native.Nat.{ℕ}
 use mathlib.Core.Path.{_≡_}
 use mathlib.Core.List.{List, [], _∷_}
 use Rattle.lexer.specs.Whole.{recordsOf}
-use Rattle.strings.specs.Encodings.{encodingOf}
+use Rattle.strings.specs.Encodings.{choiceOf}
 use Rattle.strings.specs.Decoding.{bytesBy, errorsBy}
 
 pub data Example : Type 0 where
@@ -15,15 +15,15 @@ pub data Example : Type 0 where
 abbrev pub Holds : Example → Type 0
 Holds (lexes text tokens) = recordsOf text ≡ tokens
 Holds (decodes kind text bytes errors) =
-    (bytesBy (encodingOf kind) text ≡ bytes) × (errorsBy (encodingOf kind) text ≡ errors)
+    (bytesBy (choiceOf kind) text ≡ bytes) × (errorsBy (choiceOf kind) text ≡ errors)
 
 abbrev pub Hold : List Example → Type 0
 Hold [] = Unit {0}
 Hold (x ∷ xs) = Holds x × Hold xs
 
 -- a token: its kind number, start, end and line
-abbrev pub row : ℕ → ℕ → ℕ → ℕ → List ℕ
-row kind start end line = kind ∷ start ∷ end ∷ line ∷ []
+abbrev pub token : ℕ → ℕ → ℕ → ℕ → List ℕ
+token kind start end line = kind ∷ start ∷ end ∷ line ∷ []
 
 -- an error with an empty span
 abbrev pub at : ℕ → ℕ → List ℕ
@@ -32,14 +32,14 @@ at number place = number ∷ place ∷ place ∷ []
 abbrev pub examples : List Example
 examples =
     -- the empty document, and only a byte order mark
-    lexes [] (row 4 0 0 1 ∷ [])
-    ∷ lexes (0xEF ∷ 0xBB ∷ 0xBF ∷ []) (row 4 3 3 1 ∷ [])
+    lexes [] (token 4 0 0 1 ∷ [])
+    ∷ lexes (0xEF ∷ 0xBB ∷ 0xBF ∷ []) (token 4 3 3 1 ∷ [])
     -- '''a''''', and with one more apostrophe
-    ∷ lexes (0x27 ∷ 0x27 ∷ 0x27 ∷ 0x61 ∷ 0x27 ∷ 0x27 ∷ 0x27 ∷ 0x27 ∷ 0x27 ∷ []) (row 1 0 9 1 ∷ row 4 9 9 1 ∷ [])
+    ∷ lexes (0x27 ∷ 0x27 ∷ 0x27 ∷ 0x61 ∷ 0x27 ∷ 0x27 ∷ 0x27 ∷ 0x27 ∷ 0x27 ∷ []) (token 1 0 9 1 ∷ token 4 9 9 1 ∷ [])
     ∷ lexes (0x27 ∷ 0x27 ∷ 0x27 ∷ 0x61 ∷ 0x27 ∷ 0x27 ∷ 0x27 ∷ 0x27 ∷ 0x27 ∷ 0x27 ∷ [])
-    (row 1 0 9 1 ∷ row 39 9 10 1 ∷ row 4 10 10 1 ∷ [])
+    (token 1 0 9 1 ∷ token 39 9 10 1 ∷ token 4 10 10 1 ∷ [])
     -- 'a CR LF: only the LF stops it
-    ∷ lexes (0x27 ∷ 0x61 ∷ 0x0D ∷ 0x0A ∷ []) (row 39 0 3 1 ∷ row 10 3 4 1 ∷ row 4 4 4 2 ∷ [])
+    ∷ lexes (0x27 ∷ 0x61 ∷ 0x0D ∷ 0x0A ∷ []) (token 39 0 3 1 ∷ token 10 3 4 1 ∷ token 4 4 4 2 ∷ [])
     -- basic "\u\u\u": U+FFFD three times, nine bytes of eight
     ∷ decodes 34 (0x22 ∷ 0x5C ∷ 0x75 ∷ 0x5C ∷ 0x75 ∷ 0x5C ∷ 0x75 ∷ 0x22 ∷ [])
     (0xEF ∷ 0xBF ∷ 0xBD ∷ 0xEF ∷ 0xBF ∷ 0xBD ∷ 0xEF ∷ 0xBF ∷ 0xBD ∷ []) (at 9 3 ∷ at 9 5 ∷ at 9 7 ∷ [])

@@ -17,20 +17,20 @@ enum-known-check c = search needs
 enum-told : tie.Need-enum-told
 enum-told c = search needs
 
-encoding-by-requires : tie.Need-encoding-by-requires
-encoding-by-requires c κs = search needs
+choice-by-requires : tie.Need-choice-by-requires
+choice-by-requires c κs = search needs
 
 decode-by-requires : tie.Need-decode-by-requires
 decode-by-requires c κs =
     let args = c .before .before .before .before .before .before .before .before .args in
     let check-utf8 = c .before .before .before .before .before .check-utf8 in
     let enum-told = c .before .before .before .enum-told in
-    checked (args .text .now) (sym (check-utf8 .ensures) ∙ enum-told .given .1) .0
+    checked (args .text .now) (sym (check-utf8 .ensures .0) ∙ enum-told .given .1) .0
 
 returns : tie.Need-returns
 returns c =
     let a = c .before .before .before .before .before .before .args in
-    let refused = sym (c .before .check .given .1) ∙ c .before .before .before .check-utf8 .ensures in
+    let refused = sym (c .before .check .given .1) ∙ c .before .before .before .check-utf8 .ensures .0 in
     (decode-invalid (a .text .now) (a .edition) (a .kind) (length (a .output .now)) (length (a .errors .now)) _ refused, (refl, refl))
 
 same-length : tie.Need-same-length
@@ -45,12 +45,12 @@ returns-2 c =
     let enum-told = c .before .before .before .before .before .before .before .enum-told in
     let check-utf8 = c .before .before .before .before .before .before .before .before .before .check-utf8 in
     let decode-by = c .before .before .before .decode-by in
-    let encoding-by = c .before .before .before .before .before .before .encoding-by in
+    let choice-by = c .before .before .before .before .before .before .choice-by in
     let a = args in
-    let valid = sym (enum-told .given .1) ∙ check-utf8 .ensures in
+    let valid = sym (enum-told .given .1) ∙ check-utf8 .ensures .0 in
     let d = decode-by in
     let answer = decode-valid (a .text .now) (a .edition) (a .kind) (length (a .output .now)) (length (a .errors .now)) valid in
-    let e = encoding-by .ensures in
+    let e = choice-by .ensures in
     (rw e at (d .ensures .0) ∙ answer, (rw e at (d .ensures .1 .0), rw e at (d .ensures .1 .1)))
 
 pub decode-in-spec : {M : Type 1} → statement M
@@ -60,7 +60,7 @@ decode-in-spec =
     check-utf8-requires
     enum-known-check
     enum-told
-    encoding-by-requires
+    choice-by-requires
     decode-by-requires
     returns
     same-length

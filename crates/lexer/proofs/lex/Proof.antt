@@ -23,7 +23,7 @@ returns : tie.Need-returns
 returns c =
     let doc = c .before .before .before .before .before .args .doc .now in
     let old = c .before .before .before .before .before .args .records .now in
-    let is = lex-broken doc old _ (sym (c .before .before .before .check-utf8 .ensures) ∙ c .before .refusal .given .1) in
+    let is = lex-broken doc old _ (sym (c .before .before .before .check-utf8 .ensures .0) ∙ c .before .refusal .given .1) in
     lexed doc old _ _ (is .0) (is .1)
 
 enum-told : tie.Need-enum-told
@@ -39,7 +39,7 @@ returns-2 : tie.Need-returns-2
 returns-2 c =
     let doc = c .before .before .before .before .before .before .before .before .args .doc .now in
     let old = c .before .before .before .before .before .before .before .before .args .records .now in
-    let valid = sym (c .before .before .before .before .before .before .check-utf8 .ensures) ∙ c .before .before .before .before .enum-told .given .1 in
+    let valid = sym (c .before .before .before .before .before .before .check-utf8 .ensures .0) ∙ c .before .before .before .before .enum-told .given .1 in
     let is = lex-answered doc old valid (omega (arith, tokens-count doc)) in
     lexed doc old _ _ (ap Tokens (c .before .fill .ensures .0) ∙ is .0) (c .before .fill .ensures .1 ∙ is .1)
 
@@ -50,7 +50,7 @@ returns-3 : tie.Need-returns-3
 returns-3 c =
     let doc = c .before .before .before .before .before .before .before .args .doc .now in
     let old = c .before .before .before .before .before .before .before .args .records .now in
-    let valid = sym (c .before .before .before .before .before .check-utf8 .ensures) ∙ c .before .before .before .enum-told .given .1 in
+    let valid = sym (c .before .before .before .before .before .check-utf8 .ensures .0) ∙ c .before .before .before .enum-told .given .1 in
     let is = lex-few doc old valid (omega arith) in
     lexed doc old _ _ (ap (λ (n : ℕ). Refused (FewTokens n)) (c .before .count .ensures) ∙ is .0) (is .1)
 
@@ -64,7 +64,7 @@ returns-4 : tie.Need-returns-4
 returns-4 c =
     let doc = c .before .before .before .before .before .before .before .before .before .before .args .doc .now in
     let old = c .before .before .before .before .before .before .before .before .before .before .args .records .now in
-    let valid = sym (c .before .before .before .before .before .before .before .before .check-utf8 .ensures) ∙ c .before .before .before .before .before .before .enum-told .given .1 in
+    let valid = sym (c .before .before .before .before .before .before .before .before .check-utf8 .ensures .0) ∙ c .before .before .before .before .before .before .enum-told .given .1 in
     let is = lex-answered doc old valid (omega arith) in
     lexed doc old _ _ (ap Tokens (c .before .fill2 .ensures .0) ∙ is .0) (c .before .fill2 .ensures .1 ∙ is .1)
 

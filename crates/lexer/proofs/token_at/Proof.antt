@@ -61,7 +61,7 @@ returns c = let doc = c .before .before .before .before .before .before .before 
     let t = tokenAt at line (drop at doc) in
     let new = c .before .before .before .before .before .before .before .lex-until .last .1 .1 .1 .1 .0 in
     let read : new ≡ recordOf t ∷ [] = one-record doc at line new (omega arith) (c .before .before .before .before .before .before .before .lex-until .ensures .1 .1) in
-    let number : c .before .before .before .before .from-number .result ≡ kindOfNumber (kindNumber (t .kind)) = rw read at (c .before .before .before .before .from-number .ensures) in
+    let number : c .before .before .before .before .from-number .result ≡ kindOfNumber (kindNumber (t .kind)) = rw read at (c .before .before .before .before .from-number .ensures .0) in
     let kind = read-back (t .kind) _ number _ (c .before .before .kind .given .1) in
     let made : c .token-of .result ≡ tokenOf (c .before .before .kind .given .0 .0) at (at + tokenLen (drop at doc)) line = rw read at (c .token-of .ensures) in
     let token : c .token-of .result ≡ t = made ∙ ap (λ (k : TokenKind). tokenOf k at (at + tokenLen (drop at doc)) line) kind in
@@ -74,7 +74,7 @@ returns-2 c = let doc = c .before .before .before .before .before .before .befor
     let t = tokenAt at line (drop at doc) in
     let new = c .before .before .before .before .before .before .lex-until .last .1 .1 .1 .1 .0 in
     let read : new ≡ recordOf t ∷ [] = one-record doc at line new (omega arith) (c .before .before .before .before .before .before .lex-until .ensures .1 .1) in
-    let number : c .before .before .before .from-number .result ≡ kindOfNumber (kindNumber (t .kind)) = rw read at (c .before .before .before .from-number .ensures) in
+    let number : c .before .before .before .from-number .result ≡ kindOfNumber (kindNumber (t .kind)) = rw read at (c .before .before .before .from-number .ensures .0) in
     absurd (never-refused (t .kind) _ number _ (c .before .enum-told .given .1))
 
 pub token-at-spec : {M : Type 1} → statement M

@@ -8,7 +8,7 @@ use borrow.Author.Tests.{lt-ltb, le-ltb, not-true, not-false}
 use lib.ListN.{length, getD, take, drop}
 use lib.Seq.{getD-take, length-take-le}
 use Rattle.classes.specs.Classes.{continuation}
-use Rattle.lexer.specs.Lines.{lineEnds}
+use Rattle.lexer.specs.Lines.{lineFeeds}
 use Rattle.lexer.specs.Tokens.{startOf}
 use Rattle.lexer.proofs.LineLaws.{line-at-lf, line-at-other, lines-end, mark-no-line}
 use Rattle.place.specs.Positions.{columnBehind, positionAnswer}
@@ -22,7 +22,7 @@ use Rattle.place.proofs.position_of.Tie as tie
 abbrev Inv-loop : tie.InvT-loop
 Inv-loop doc offset line₀ column₀ i₀ line column i =
     (line ≤ i + 1) × (column ≤ i + 1)
-    × (line + lineEnds (drop i (take offset doc)) ≡ 1 + lineEnds (take offset doc))
+    × (line + lineFeeds (drop i (take offset doc)) ≡ 1 + lineFeeds (take offset doc))
     × (columnBehind column (drop i (take offset doc)) ≡ columnBehind 1 (drop (startOf doc) (take offset doc)))
 
 abbrev μ-loop : tie.MeasureT-loop
@@ -45,7 +45,7 @@ loop-holds c =
     let mark : c .start-of .result ≡ startOf (c .before .before .before .before .args .doc .now) = c .start-of .ensures in (
       omega arith,
       omega arith,
-      omega (arith, mark-no-line (c .before .before .before .before .args .doc .now) (c .before .before .before .before .args .offset), ap (λ (k : ℕ). lineEnds (drop k before)) mark),
+      omega (arith, mark-no-line (c .before .before .before .before .args .doc .now) (c .before .before .before .before .args .offset), ap (λ (k : ℕ). lineFeeds (drop k before)) mark),
       ap (λ (k : ℕ). columnBehind 1 (drop k before)) mark,
     )
 
@@ -101,7 +101,7 @@ returns-3 c =
     let at = c .before .loop in
     let all : length before ≡ c .before .before .before .before .before .before .args .offset = length-take-le (c .before .before .before .before .before .before .args .offset) (c .before .before .before .before .before .before .args .doc .now) (omega arith) in
     let done : length before ≤ at .i = omega arith in
-    let line : at .line ≡ 1 + lineEnds before = omega (arith, lines-end before (at .i) done) in
+    let line : at .line ≡ 1 + lineFeeds before = omega (arith, lines-end before (at .i) done) in
     let column : at .column ≡ columnBehind 1 (drop (startOf (c .before .before .before .before .before .before .args .doc .now)) before) = sym (column-end before (at .i) done (at .column)) ∙ at .inv .3 in
     positioned (c .before .before .before .before .before .before .args .doc .now) (c .before .before .before .before .before .before .args .offset) _ (simp (le-ltb _ _ (c .before .before .before .before .if1 .left), le-ltb _ _ (c .before .before .before .if2 .left), line, column))
 

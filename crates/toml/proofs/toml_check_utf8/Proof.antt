@@ -22,10 +22,10 @@ refused-requires : tie.Need-refused-requires
 refused-requires c κs = search needs
 
 returns : tie.Need-returns
-returns c = rw (c .answer-of .ensures) (ap checkNumbers (sym (c .before .enum-told .given .1) ∙ c .before .before .before .check-utf8 .ensures))
+returns c = rw (c .answer-of .ensures) (ap checkNumbers (sym (c .before .enum-told .given .1) ∙ c .before .before .before .check-utf8 .ensures .0))
 
 returns-2 : tie.Need-returns-2
-returns-2 c = rw (c .refused .ensures) (ap checkNumbers (sym (c .before .before .r .given .1) ∙ c .before .before .before .before .check-utf8 .ensures))
+returns-2 c = rw (c .refused .ensures) (ap checkNumbers (sym (c .before .before .r .given .1) ∙ c .before .before .before .before .check-utf8 .ensures .0))
 
 pub toml-check-utf8-spec : {M : Type 1} → statement M
 toml-check-utf8-spec =

@@ -1,12 +1,12 @@
 -- `line_closed` is right because behind the start the last byte is asked.
 -- Assumes nothing.
 use borrow.Author.Needs.{needs}
-use Rattle.strings.proofs.MarkLaws.{closes-none, closes-by}
+use Rattle.strings.proofs.MarkLaws.{closed-none, closed-by}
 use Rattle.decoder.proofs.marks.line_closed.Statement.{statement}
 use Rattle.decoder.proofs.marks.line_closed.Tie as tie
 
 returns : tie.Need-returns
-returns c = closes-none (c .before .args .q) (c .before .args .t .now) (c .before .args .start) (c .if1 .taken)
+returns c = closed-none (c .before .args .q) (c .before .args .t .now) (c .before .args .start) (c .if1 .taken)
 
 sub-result : tie.Need-sub-result
 sub-result c = search needs
@@ -16,7 +16,7 @@ shared-slice-read-result c = search needs
 
 returns-2 : tie.Need-returns-2
 returns-2 c =
-    closes-by (c .before .before .args .q) (c .before .before .args .t .now) (c .before .before .args .start) (c .before .if1 .left)
+    closed-by (c .before .before .args .q) (c .before .before .args .t .now) (c .before .before .args .start) (c .before .if1 .left)
 
 pub line-closed-spec : {M : Type 1} → statement M
 line-closed-spec = tie.close (tie.spec returns sub-result shared-slice-read-result returns-2)

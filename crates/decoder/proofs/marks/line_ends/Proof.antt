@@ -2,7 +2,7 @@
 -- Assumes nothing.
 use mathlib.Core.Path.{sym, _∙_}
 use borrow.Author.Needs.{needs}
-use Rattle.strings.proofs.MarkLaws.{closes-some, line-is}
+use Rattle.strings.proofs.MarkLaws.{closed-some, line-is}
 use Rattle.decoder.proofs.marks.line_ends.Statement.{statement}
 use Rattle.decoder.proofs.marks.line_ends.Tie as tie
 
@@ -16,7 +16,7 @@ line-closed-requires : tie.Need-line-closed-requires
 line-closed-requires c κs = search needs
 
 line-end-requires : tie.Need-line-end-requires
-line-end-requires c κs = λ e. closes-some (c .before .before .before .before .args .q) (c .before .before .before .before .args .t .now) (c .before .line-start .result) (sym (c .line-closed .ensures) ∙ e)
+line-end-requires c κs = λ e. closed-some (c .before .before .before .before .args .q) (c .before .before .before .before .args .t .now) (c .before .line-start .result) (sym (c .line-closed .ensures) ∙ e)
 
 returns : tie.Need-returns
 returns c =

@@ -14,7 +14,7 @@ use Rattle.token.specs.declared.TokenKind.{TokenKind}
 use Rattle.token.specs.declared.TokenKind.the-variants.{Newline, MlLiteralString, MlBasicString}
 use Rattle.token.specs.declared.Token.{Token}
 use Rattle.token.proofs.TokenKind as kind
-use Rattle.lexer.specs.Lines.{lineEnds}
+use Rattle.lexer.specs.Lines.{lineFeeds}
 use Rattle.lexer.specs.Table.{kindOf, tokenLen}
 use Rattle.lexer.specs.Tokens.{tokenAt, lineAfter}
 use Rattle.lexer.proofs.TokenLaws.{token-fits-at, token-long-at}
@@ -42,11 +42,11 @@ facts doc t h e =
     }
 
 -- the LFs counted are those of the token
-ml : (doc : List ℕ) (t : Token) → Facts doc t → (n r : ℕ) → n ≡ lineEnds (take (t .span .end - t .span .start) (drop (t .span .start) doc))
+ml : (doc : List ℕ) (t : Token) → Facts doc t → (n r : ℕ) → n ≡ lineFeeds (take (t .span .end - t .span .start) (drop (t .span .start) doc))
     → r ≡ t .line + n → r ≡ lineAfter (t .line) (drop (t .span .start) doc)
 ml doc t f n r e g =
     let size : t .span .end - t .span .start ≡ tokenLen (drop (t .span .start) doc) = omega (arith, f .end) in
-    g ∙ ap (λ (k : ℕ). t .line + k) (e ∙ ap (λ (k : ℕ). lineEnds (take k (drop (t .span .start) doc))) size)
+    g ∙ ap (λ (k : ℕ). t .line + k) (e ∙ ap (λ (k : ℕ). lineFeeds (take k (drop (t .span .start) doc))) size)
 
 enum-told : tie.Need-enum-told
 enum-told c = search needs
@@ -69,28 +69,28 @@ add-result c =
 enum-told-2 : tie.Need-enum-told-2
 enum-told-2 c = search needs
 
-line-ends-requires : tie.Need-line-ends-requires
-line-ends-requires c κs =
+line-feeds-requires : tie.Need-line-feeds-requires
+line-feeds-requires c κs =
     let f = facts (c .before .before .before .args .doc .now) (c .before .before .before .args .token) (c .before .before .before .pre .0) (c .before .before .before .pre .1) in
     omega (arith, f .long, f .fits)
 
 add-result-2 : tie.Need-add-result-2
 add-result-2 c =
     let f = facts (c .before .before .before .before .args .doc .now) (c .before .before .before .before .args .token) (c .before .before .before .before .pre .0) (c .before .before .before .before .pre .1) in
-    omega (arith, f .long, f .fits, c .line-ends .ensures, lines-taken (c .before .before .before .before .args .token .span .end - c .before .before .before .before .args .token .span .start) (drop (c .before .before .before .before .args .token .span .start) (c .before .before .before .before .args .doc .now)))
+    omega (arith, f .long, f .fits, c .line-feeds .ensures, lines-taken (c .before .before .before .before .args .token .span .end - c .before .before .before .before .args .token .span .start) (drop (c .before .before .before .before .args .token .span .start) (c .before .before .before .before .args .doc .now)))
 
 enum-told-3 : tie.Need-enum-told-3
 enum-told-3 c = search needs
 
-line-ends-requires-2 : tie.Need-line-ends-requires-2
-line-ends-requires-2 c κs =
+line-feeds-requires-2 : tie.Need-line-feeds-requires-2
+line-feeds-requires-2 c κs =
     let f = facts (c .before .before .before .args .doc .now) (c .before .before .before .args .token) (c .before .before .before .pre .0) (c .before .before .before .pre .1) in
     omega (arith, f .long, f .fits)
 
 add-result-3 : tie.Need-add-result-3
 add-result-3 c =
     let f = facts (c .before .before .before .before .args .doc .now) (c .before .before .before .before .args .token) (c .before .before .before .before .pre .0) (c .before .before .before .before .pre .1) in
-    omega (arith, f .long, f .fits, c .line-ends2 .ensures, lines-taken (c .before .before .before .before .args .token .span .end - c .before .before .before .before .args .token .span .start) (drop (c .before .before .before .before .args .token .span .start) (c .before .before .before .before .args .doc .now)))
+    omega (arith, f .long, f .fits, c .line-feeds2 .ensures, lines-taken (c .before .before .before .before .args .token .span .end - c .before .before .before .before .args .token .span .start) (drop (c .before .before .before .before .args .token .span .start) (c .before .before .before .before .args .doc .now)))
 
 returns : tie.Need-returns
 returns c =
@@ -107,12 +107,12 @@ returns-2 c =
 returns-3 : tie.Need-returns-3
 returns-3 c =
     let f = facts (c .before .before .before .before .args .doc .now) (c .before .before .before .before .args .token) (c .before .before .before .before .pre .0) (c .before .before .before .before .pre .1) in
-    ml (c .before .before .before .before .args .doc .now) (c .before .before .before .before .args .token) f _ _ (c .line-ends .ensures) refl
+    ml (c .before .before .before .before .args .doc .now) (c .before .before .before .before .args .token) f _ _ (c .line-feeds .ensures) refl
 
 returns-4 : tie.Need-returns-4
 returns-4 c =
     let f = facts (c .before .before .before .before .args .doc .now) (c .before .before .before .before .args .token) (c .before .before .before .before .pre .0) (c .before .before .before .before .pre .1) in
-    ml (c .before .before .before .before .args .doc .now) (c .before .before .before .before .args .token) f _ _ (c .line-ends2 .ensures) refl
+    ml (c .before .before .before .before .args .doc .now) (c .before .before .before .before .args .token) f _ _ (c .line-feeds2 .ensures) refl
 
 -- by their tags, the kinds that hold no LF
 abbrev plain : ℕ → Bool
@@ -136,10 +136,10 @@ line-after-spec =
     shared-slice-read-if1
     add-result
     enum-told-2
-    line-ends-requires
+    line-feeds-requires
     add-result-2
     enum-told-3
-    line-ends-requires-2
+    line-feeds-requires-2
     add-result-3
     returns
     returns-2

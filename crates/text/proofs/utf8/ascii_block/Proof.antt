@@ -7,7 +7,7 @@ use native.Mathlib.Omega.{arith}
 use borrow.Author.Tests.{ltb-true, lt-ltb}
 use lib.ListN.{getD}
 use Rattle.text.specs.Utf8Read.{ascii}
-use Rattle.text.proofs.FieldLaws.{or-left, or-right}
+use Rattle.text.proofs.FieldLaws.{bits-left, bits-right}
 use Rattle.classes.proofs.RunLaws.{Block, block-start, block-step, block-end}
 use Rattle.text.proofs.utf8.ascii_block.Statement.{statement}
 use Rattle.text.proofs.utf8.ascii_block.Tie as tie
@@ -41,8 +41,8 @@ loop-again c =
     let byte = getD s (i + at .j) 0 in (
       omega arith,
       λ h.
-          let low : byte < 0x80 = omega (arith, or-right (at .bits) byte) in
-          block-step ascii s i (at .j) (omega arith) (lt-ltb byte 0x80 low) (at .inv .1 (omega (arith, or-left (at .bits) byte))),
+          let low : byte < 0x80 = omega (arith, bits-right (at .bits) byte) in
+          block-step ascii s i (at .j) (omega arith) (lt-ltb byte 0x80 low) (at .inv .1 (omega (arith, bits-left (at .bits) byte))),
     )
 
 returns : tie.Need-returns Inv-loop μ-loop

@@ -7,7 +7,7 @@ use native.Mathlib.Omega.{arith}
 use lib.ListN.{length, drop}
 use Rattle.text.specs.Utf8Read.{validPrefix}
 use Rattle.text.proofs.ReadLaws.{valid-end}
-use Rattle.text.proofs.AnswerLaws.{answer-long, answer-valid, answer-broken}
+use Rattle.text.proofs.AnswerLaws.{answer-long, answer-valid, answer-broken, told}
 use Rattle.text.proofs.utf8.check_utf8.Statement.{statement}
 use Rattle.text.proofs.utf8.check_utf8.Tie as tie
 
@@ -18,7 +18,9 @@ abbrev μ-loop : tie.MeasureT-loop
 μ-loop s at₀ at = length s - at
 
 returns : tie.Need-returns Inv-loop μ-loop
-returns c = answer-long (c .before .before .args .s .now) (c .if1 .taken)
+returns c =
+    let s = c .before .before .args .s .now in
+    told s _ (answer-long s (c .if1 .taken))
 
 loop-holds : tie.Need-loop-holds Inv-loop μ-loop
 loop-holds c = omega arith
@@ -32,7 +34,8 @@ fault-at-requires c κs = omega arith
 returns-2 : tie.Need-returns-2 Inv-loop μ-loop
 returns-2 c =
     let none = c .before .before .passed .ensures .stuck (c .before .if2 .taken) in
-    answer-broken (c .before .before .before .before .before .before .before .args .s .now) _ _ (omega arith) (omega arith) (omega arith) (c .fault-at .ensures)
+    let s = c .before .before .before .before .before .before .before .args .s .now in
+    told s _ (answer-broken s _ _ (omega arith) (omega arith) (omega arith) (c .fault-at .ensures))
 
 loop-less : tie.Need-loop-less Inv-loop μ-loop
 loop-less c = omega arith
@@ -43,7 +46,7 @@ loop-again c = omega arith
 returns-3 : tie.Need-returns-3 Inv-loop μ-loop
 returns-3 c =
     let s = c .before .before .before .before .args .s .now in
-    answer-valid s (omega arith) (omega (arith, valid-end s (c .before .loop .at) (omega arith)))
+    told s _ (answer-valid s (omega arith) (omega (arith, valid-end s (c .before .loop .at) (omega arith))))
 
 pub check-utf8-spec : {M : Type 1} → statement M
 check-utf8-spec =

@@ -23,13 +23,13 @@ returns : tie.Need-returns
 unfolding encodingOf
 returns c =
     encoded-numbers (c .before .before .before .before .before .args .number) _
-    (rw (c .encoded .ensures) (ap encodingBy (sym (c .before .before .kind .given .1) ∙ c .before .before .before .before .from-number .ensures)))
+    (rw (c .encoded .ensures) (ap encodingBy (sym (c .before .before .kind .given .1) ∙ c .before .before .before .before .from-number .ensures .0)))
 
 returns-2 : tie.Need-returns-2
 unfolding encodingOf
 returns-2 c =
     encoded-numbers (c .before .before .before .before .args .number) _
-    (ap encodingBy (sym (c .before .refusal .given .1) ∙ c .before .before .before .from-number .ensures))
+    (ap encodingBy (sym (c .before .refusal .given .1) ∙ c .before .before .before .from-number .ensures .0))
 
 pub encoding-spec : {M : Type 1} → statement M
 encoding-spec =

@@ -1,35 +1,35 @@
--- `encoding_in` is right because each number has its arm.
+-- `choice_in` is right because each number has its arm.
 -- Assumes nothing.
 use borrow.Author.Tests.{ne-eqb}
-use Rattle.strings.specs.Encodings.{encodingIn}
-use Rattle.decoder.proofs.encoding_in.Statement.{statement}
-use Rattle.decoder.proofs.encoding_in.Tie as tie
+use Rattle.strings.specs.Encodings.{choiceIn}
+use Rattle.decoder.proofs.choice_in.Statement.{statement}
+use Rattle.decoder.proofs.choice_in.Tie as tie
 
 returns : tie.Need-returns
-unfolding encodingIn
+unfolding choiceIn
 returns c = simp (c .match .keys1)
 
 returns-2 : tie.Need-returns-2
-unfolding encodingIn
+unfolding choiceIn
 returns-2 c = simp (c .match .keys2)
 
 returns-3 : tie.Need-returns-3
-unfolding encodingIn
+unfolding choiceIn
 returns-3 c = simp (c .match .keys3)
 
 returns-4 : tie.Need-returns-4
-unfolding encodingIn
+unfolding choiceIn
 returns-4 c = simp (c .match .keys4)
 
 returns-5 : tie.Need-returns-5
-unfolding encodingIn
+unfolding choiceIn
 returns-5 c = simp (c .match .keys5)
 
 returns-6 : tie.Need-returns-6
-unfolding encodingIn
+unfolding choiceIn
 returns-6 c =
     let match = c .match in
     simp (ne-eqb _ 39 (match .rest .0 .0 .0 .0 .1), ne-eqb _ 34 (match .rest .0 .0 .0 .1), ne-eqb _ 1 (match .rest .0 .0 .1), ne-eqb _ 2 (match .rest .0 .1), ne-eqb _ 3 (match .rest .1))
 
-pub encoding-in-spec : {M : Type 1} → statement M
-encoding-in-spec = tie.close (tie.spec returns returns-2 returns-3 returns-4 returns-5 returns-6)
+pub choice-in-spec : {M : Type 1} → statement M
+choice-in-spec = tie.close (tie.spec returns returns-2 returns-3 returns-4 returns-5 returns-6)

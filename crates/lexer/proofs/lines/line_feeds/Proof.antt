@@ -1,17 +1,17 @@
--- `line_ends` is right because the LFs passed and those still to come are always the same.
+-- `line_feeds` is right because the LFs passed and those still to come are always the same.
 -- Assumes nothing.
 use Prim.Native.Nat.{ℕ, suc, _+_, _-_, _≤_}
 use mathlib.Core.Path.{_≡_}
 use mathlib.Core.Logic.{⊎-elim}
 use lib.ListN.{length, drop}
-use Rattle.lexer.specs.Lines.{lineEnds}
+use Rattle.lexer.specs.Lines.{lineFeeds}
 use Rattle.lexer.proofs.LineLaws.{line-at-lf, line-at-other, lines-between}
 use native.Mathlib.Omega.{arith}
-use Rattle.lexer.proofs.lines.line_ends.Statement.{statement}
-use Rattle.lexer.proofs.lines.line_ends.Tie as tie
+use Rattle.lexer.proofs.lines.line_feeds.Statement.{statement}
+use Rattle.lexer.proofs.lines.line_feeds.Tie as tie
 
 abbrev Inv-loop : tie.InvT-loop
-Inv-loop doc start end n₀ i₀ n i = (start ≤ i) × (i ≤ end) × (n ≤ i) × (n + lineEnds (drop i doc) ≡ lineEnds (drop start doc))
+Inv-loop doc start end n₀ i₀ n i = (start ≤ i) × (i ≤ end) × (n ≤ i) × (n + lineFeeds (drop i doc) ≡ lineFeeds (drop start doc))
 
 abbrev μ-loop : tie.MeasureT-loop
 μ-loop doc start end n₀ i₀ n i = end - i
@@ -45,11 +45,11 @@ returns c =
     let doc = c .before .before .args .doc .now in
     let end = c .before .before .args .end in
     let done : c .before .loop .i ≡ end = omega arith in
-    let here : c .before .loop .n + lineEnds (drop end doc) ≡ lineEnds (drop (c .before .before .args .start) doc) = rw done at (c .before .loop .inv .3) in
+    let here : c .before .loop .n + lineFeeds (drop end doc) ≡ lineFeeds (drop (c .before .before .args .start) doc) = rw done at (c .before .loop .inv .3) in
     omega (arith, lines-between doc (c .before .before .args .start) end (omega arith))
 
-pub line-ends-spec : {M : Type 1} → statement M
-line-ends-spec =
+pub line-feeds-spec : {M : Type 1} → statement M
+line-feeds-spec =
     tie.close
     (tie.spec
     Inv-loop
