@@ -1,5 +1,6 @@
 -- The promises of `decode` and `decode_in` admit one answer only, with one final content of each lent memory. Each theorem
--- bears its function's name, and says so of the three parts of the promise as the function's `ensures` have them.
+-- bears its function's name, and says so of the first three parts of the promise, as the function's `ensures` have them; the
+-- others say the numbers of the answer, which the first one fixes.
 -- Assumes nothing.
 use Prim.Native.Nat.{ℕ}
 use mathlib.Core.Path.{_≡_, sym, ap, _∙_}
@@ -26,11 +27,13 @@ same : (a b : Decoded) (o u : List ℕ) (e f : List (List ℕ)) → a ≡ b → 
     → _≡_ {A = Outcome} (record { answer = a; output = o; errors = e }) (record { answer = b; output = u; errors = f })
 same a b o u e f p q r = rw (p, q, r)
 
-pub decode-in : (text : List ℕ) (edition kind : ℕ) (output : List ℕ) (errors : List (List ℕ)) → Only (Promised text edition kind output errors)
+pub decode-in : (text : List ℕ) (edition kind : ℕ) (output : List ℕ) (errors : List (List ℕ))
+    → Only (Promised text edition kind output errors)
 decode-in text edition kind output errors x y p q =
+    let c = choiceBy edition kind in
     let a : x .answer ≡ y .answer = p .answers ∙ sym (q .answers) in
-    let o : x .output ≡ y .output = p .writes ∙ ap (λ (r : Decoded). after r (bytesBy (choiceBy edition kind) text) output) a ∙ sym (q .writes) in
-    let e : x .errors ≡ y .errors = p .notes ∙ ap (λ (r : Decoded). after r (errorsBy (choiceBy edition kind) text) errors) a ∙ sym (q .notes) in
+    let o : x .output ≡ y .output = p .writes ∙ ap (λ (r : Decoded). after r (bytesBy c text) output) a ∙ sym (q .writes) in
+    let e : x .errors ≡ y .errors = p .notes ∙ ap (λ (r : Decoded). after r (errorsBy c text) errors) a ∙ sym (q .notes) in
     same (x .answer) (y .answer) (x .output) (y .output) (x .errors) (y .errors) a o e
 
 -- a call that names no edition reads TOML 1.0

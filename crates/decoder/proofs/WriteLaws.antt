@@ -15,7 +15,7 @@ use Rattle.text.proofs.EncodeLaws.{scalar-true}
 use Rattle.strings.specs.declared.Encoding.{Encoding}
 use Rattle.strings.specs.declared.Piece.{Piece}
 use Rattle.strings.specs.Bodies.{pieceOf}
-use Rattle.strings.proofs.Fine.{rest, rest-is, rest-some}
+use Rattle.strings.proofs.Fine.{rest, rest-is, rest-some, Turn}
 use Rattle.pieces.specs.Places.{pieceAt}
 use Rattle.pieces.proofs.PlaceLaws.{piece-is}
 
@@ -34,10 +34,12 @@ module _ (c : ℕ) (h : Scalar c) (e : Encoded) (f : e ≡ encodedOf c) where
 
   pub encoded-bytes : take (e .len) (e .bytes) ≡ encodeScalar c
   encoded-bytes =
-      ap (λ (x : Encoded). take (x .len) (x .bytes)) encoded-is ∙ take-append-seam (encodeScalar c) (replicate (4 - length (encodeScalar c)) 0)
+      ap (λ (x : Encoded). take (x .len) (x .bytes)) encoded-is
+      ∙ take-append-seam (encodeScalar c) (replicate (4 - length (encodeScalar c)) 0)
 
-pub turn-reads : (e : Encoding) (d : Bool) (s : List ℕ) (base i : ℕ) → i < length s → base + length s ≤ limit
-    → (p : Piece) → p ≡ pieceAt e d (base + i) (rest s i) → p ≡ pieceOf e d (base + i) (rest s i)
-turn-reads e d s base i h l p f =
+-- what `piece_at` answers in a turn of a loop is the rule's piece there
+pub turn-at : (e : Encoding) (s : List ℕ) (base i : ℕ) (d : Bool) → base + length s ≤ limit → i < length s
+    → (p : Piece) → p ≡ pieceAt e d (base + i) (rest s i) → Turn (pieceOf e) s base i d p
+turn-at e s base i d l h p f =
     let long : length (rest s i) ≤ limit = rw rest-is (omega (arith, length-drop i s)) in
-    f ∙ sym (piece-is e d (base + i) (rest s i) (rest-some s i h) long (omega arith))
+    record { more = h; reads = f ∙ sym (piece-is e d (base + i) (rest s i) (rest-some s i h) long (omega arith)) }

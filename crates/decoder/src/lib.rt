@@ -4,11 +4,14 @@ ghost use mathlib.Core.Path.{_≡_};
 ghost use mathlib.Core.Bool.{true};
 ghost use Prim.Native.Nat.{_+_, _/_, _≤_};
 ghost use lib.ListN.{length};
-ghost use lib.Seq.{sets};
 ghost use Rattle.text.specs.Refusals.{limit};
+ghost use Rattle.text.specs.Answers.{checkFault};
 ghost use Rattle.text.specs.declared.utf8.Utf8Check.the-variants.{Valid};
 ghost use Rattle.strings.specs.Encodings.{choiceIn, unnamed, choiceBy, choiceOf};
-ghost use Rattle.strings.specs.Decoding.{bytesOf, errorsOf, fitted, bytesBy, errorsBy, decodedBy, decodeIn, decodeOf, after};
+ghost use Rattle.strings.specs.declared.Choice.the-variants.{Known};
+ghost use Rattle.strings.specs.Decoding.{bytesOf, errorsOf, bytesBy, errorsBy, decodedBy, decodeIn, decodeOf, after};
+ghost use Rattle.strings.specs.Decoding.{decodedNumber, decodedValue, decodedErrors, decodedLength, decodeRefusal, decodeReturned, decodeNoted};
+ghost use Rattle.strings.proofs.StoreLaws.{Stored};
 
 mod marks;
 mod write;
@@ -27,22 +30,28 @@ use strings::Encoding;
 use text::Refusal;
 use text::Utf8Check;
 use text::check_utf8;
+use token::TokenKind;
 
 // Decodes a text of the kind that the number says: 39 literal, 34 basic, 1 ml-literal, 2 ml-basic,
 // 3 a key. The bytes go to the front of the output; the errors, as number, start and end, to the
 // front of the records; what is behind them stays. A call that is refused writes nothing.
 pub fn decode(text: &[u8], kind: usize, output: &mut [u8], errors: &mut [[usize; 3]]) -> Decoded
-    ensures { λ r. ⌜ r ≡ decodeOf (now (text .entry)) kind (length (now (output .entry))) (length (now (errors .entry))) ⌝ }
-    ensures { λ r. ⌜ now (output .exit) ≡ after r (bytesBy (choiceOf kind) (now (text .entry))) (now (output .entry)) ⌝ }
-    ensures { λ r. ⌜ now (errors .exit) ≡ after r (errorsBy (choiceOf kind) (now (text .entry))) (now (errors .entry)) ⌝ }
+    ensures answer { λ r.
+        ⌜ r ≡ decodeOf (now (text .entry)) kind (length (now (output .entry))) (length (now (errors .entry))) ⌝ }
+    ensures output { λ r.
+        ⌜ now (output .exit) ≡ after r (bytesBy (choiceOf kind) (now (text .entry))) (now (output .entry)) ⌝ }
+    ensures records { λ r.
+        ⌜ now (errors .exit) ≡ after r (errorsBy (choiceOf kind) (now (text .entry))) (now (errors .entry)) ⌝ }
+    ensures number { λ r.
+        ⌜ decodedNumber r ≡ decodeRefusal (now (text .entry)) 10 kind (length (now (output .entry))) (length (now (errors .entry))) ⌝ }
+    ensures value { λ r.
+        ⌜ decodedValue r ≡ decodeReturned (now (text .entry)) 10 kind (length (now (output .entry))) (length (now (errors .entry))) ⌝ }
+    ensures noted { λ r.
+        ⌜ decodedErrors r ≡ decodeNoted (now (text .entry)) 10 kind (length (now (output .entry))) (length (now (errors .entry))) ⌝ }
+    ensures length { λ r. ⌜ decodedLength r ≡ checkFault (now (text .entry)) ⌝ }
 {
-    decode_in(text, TOML_10, kind, output, errors)
+    decode_in(text, Edition::TOML_10, kind, output, errors)
 }
-
-// The numbers of the editions.
-const TOML_10: usize = 10;
-
-const TOML_11: usize = 11;
 
 // The same in the edition of TOML that a number names: 10 for TOML 1.0, 11 for TOML 1.1.
 pub fn decode_in(
@@ -52,9 +61,19 @@ pub fn decode_in(
     output: &mut [u8],
     errors: &mut [[usize; 3]],
 ) -> Decoded
-    ensures { λ r. ⌜ r ≡ decodeIn (now (text .entry)) edition kind (length (now (output .entry))) (length (now (errors .entry))) ⌝ }
-    ensures { λ r. ⌜ now (output .exit) ≡ after r (bytesBy (choiceBy edition kind) (now (text .entry))) (now (output .entry)) ⌝ }
-    ensures { λ r. ⌜ now (errors .exit) ≡ after r (errorsBy (choiceBy edition kind) (now (text .entry))) (now (errors .entry)) ⌝ }
+    ensures answer { λ r.
+        ⌜ r ≡ decodeIn (now (text .entry)) edition kind (length (now (output .entry))) (length (now (errors .entry))) ⌝ }
+    ensures output { λ r.
+        ⌜ now (output .exit) ≡ after r (bytesBy (choiceBy edition kind) (now (text .entry))) (now (output .entry)) ⌝ }
+    ensures records { λ r.
+        ⌜ now (errors .exit) ≡ after r (errorsBy (choiceBy edition kind) (now (text .entry))) (now (errors .entry)) ⌝ }
+    ensures number { λ r.
+        ⌜ decodedNumber r ≡ decodeRefusal (now (text .entry)) edition kind (length (now (output .entry))) (length (now (errors .entry))) ⌝ }
+    ensures value { λ r.
+        ⌜ decodedValue r ≡ decodeReturned (now (text .entry)) edition kind (length (now (output .entry))) (length (now (errors .entry))) ⌝ }
+    ensures noted { λ r.
+        ⌜ decodedErrors r ≡ decodeNoted (now (text .entry)) edition kind (length (now (output .entry))) (length (now (errors .entry))) ⌝ }
+    ensures length { λ r. ⌜ decodedLength r ≡ checkFault (now (text .entry)) ⌝ }
 {
     let check = check_utf8(text);
     match check {
@@ -68,8 +87,8 @@ fn choice_by(edition: usize, kind: usize) -> Choice
     ensures { λ r. ⌜ r ≡ choiceBy edition kind ⌝ }
 {
     match edition {
-        TOML_10 => choice_in(Edition::Toml10, kind),
-        TOML_11 => choice_in(Edition::Toml11, kind),
+        Edition::TOML_10 => choice_in(Edition::Toml10, kind),
+        Edition::TOML_11 => choice_in(Edition::Toml11, kind),
         _ => no_edition(edition, choice_in(Edition::Toml10, kind)),
     }
 }
@@ -88,20 +107,21 @@ fn choice_in(v: Edition, kind: usize) -> Choice
     ensures { λ r. ⌜ r ≡ choiceIn v kind ⌝ }
 {
     match kind {
-        39 => Choice::Known(Encoding::LiteralString),
-        34 => Choice::Known(Encoding::BasicString(v)),
-        1 => Choice::Known(Encoding::MlLiteralString),
-        2 => Choice::Known(Encoding::MlBasicString(v)),
-        3 => Choice::Known(Encoding::UnquotedKey),
+        TokenKind::LITERAL_STRING => Choice::Known(Encoding::LiteralString),
+        TokenKind::BASIC_STRING => Choice::Known(Encoding::BasicString(v)),
+        TokenKind::ML_LITERAL_STRING => Choice::Known(Encoding::MlLiteralString),
+        TokenKind::ML_BASIC_STRING => Choice::Known(Encoding::MlBasicString(v)),
+        TokenKind::ATOM => Choice::Known(Encoding::UnquotedKey),
         _ => Choice::Unknown(Refusal::NoKind { number: kind }),
     }
 }
 
 fn decode_by(choice: Choice, text: &[u8], output: &mut [u8], errors: &mut [[usize; 3]]) -> Decoded
     requires { ⌜ length (now text) ≤ limit ⌝ }
-    ensures { λ r. ⌜ r ≡ decodedBy Valid choice (now (text .entry)) (length (now (output .entry))) (length (now (errors .entry))) ⌝ }
-    ensures { λ r. ⌜ now (output .exit) ≡ after r (bytesBy choice (now (text .entry))) (now (output .entry)) ⌝ }
-    ensures { λ r. ⌜ now (errors .exit) ≡ after r (errorsBy choice (now (text .entry))) (now (errors .entry)) ⌝ }
+    ensures answer { λ r.
+        ⌜ r ≡ decodedBy Valid choice (now (text .entry)) (length (now (output .entry))) (length (now (errors .entry))) ⌝ }
+    ensures output { λ r. ⌜ now (output .exit) ≡ after r (bytesBy choice (now (text .entry))) (now (output .entry)) ⌝ }
+    ensures records { λ r. ⌜ now (errors .exit) ≡ after r (errorsBy choice (now (text .entry))) (now (errors .entry)) ⌝ }
 {
     match choice {
         Choice::Unknown(r) => Decoded::Refused(r),
@@ -112,9 +132,10 @@ fn decode_by(choice: Choice, text: &[u8], output: &mut [u8], errors: &mut [[usiz
 // The counting pass is left out where the lent memory cannot be too short.
 fn decode_as(e: Encoding, text: &[u8], output: &mut [u8], errors: &mut [[usize; 3]]) -> Decoded
     requires { ⌜ length (now text) ≤ limit ⌝ }
-    ensures { λ r. ⌜ r ≡ fitted (bytesOf e (now (text .entry))) (errorsOf e (now (text .entry))) (length (now (output .entry))) (length (now (errors .entry))) ⌝ }
-    ensures { λ r. ⌜ now (output .exit) ≡ after r (bytesOf e (now (text .entry))) (now (output .entry)) ⌝ }
-    ensures { λ r. ⌜ now (errors .exit) ≡ after r (errorsOf e (now (text .entry))) (now (errors .entry)) ⌝ }
+    ensures answer { λ r.
+        ⌜ r ≡ decodedBy Valid (Known e) (now (text .entry)) (length (now (output .entry))) (length (now (errors .entry))) ⌝ }
+    ensures output { λ r. ⌜ now (output .exit) ≡ after r (bytesOf e (now (text .entry))) (now (output .entry)) ⌝ }
+    ensures records { λ r. ⌜ now (errors .exit) ≡ after r (errorsOf e (now (text .entry))) (now (errors .entry)) ⌝ }
 {
     if !is_roomy(text.len(), output.len(), errors.len()) {
         let need = needed(e, text);
@@ -148,7 +169,8 @@ fn is_roomy(n: usize, o: usize, m: usize) -> bool
 // How many bytes and errors the text has.
 fn needed(e: Encoding, text: &[u8]) -> Counts
     requires { ⌜ length (now text) ≤ limit ⌝ }
-    ensures { λ r. ⌜ (r .bytes ≡ length (bytesOf e (now (text .entry)))) × (r .errors ≡ length (errorsOf e (now (text .entry)))) ⌝ }
+    ensures bytes { λ r. ⌜ r .bytes ≡ length (bytesOf e (now (text .entry))) ⌝ }
+    ensures errors { λ r. ⌜ r .errors ≡ length (errorsOf e (now (text .entry))) ⌝ }
 {
     let d = ends_of(e, text);
     let a = d.start;
@@ -162,8 +184,13 @@ fn needed(e: Encoding, text: &[u8]) -> Counts
 
 // Writes them to the front of the lent memory.
 fn fill(e: Encoding, text: &[u8], output: &mut [u8], errors: &mut [[usize; 3]]) -> Counts
-    requires { ⌜ (length (now text) ≤ limit) × (length (bytesOf e (now text)) ≤ length (now output)) × (length (errorsOf e (now text)) ≤ length (now errors)) ⌝ }
-    ensures { λ r. ⌜ (now (output .exit) ≡ sets (now (output .entry)) 0 (bytesOf e (now (text .entry)))) × (now (errors .exit) ≡ sets (now (errors .entry)) 0 (errorsOf e (now (text .entry)))) × (r .bytes ≡ length (bytesOf e (now (text .entry)))) × (r .errors ≡ length (errorsOf e (now (text .entry)))) ⌝ }
+    requires { ⌜ (length (now text) ≤ limit)
+        × (length (bytesOf e (now text)) ≤ length (now output))
+        × (length (errorsOf e (now text)) ≤ length (now errors)) ⌝ }
+    ensures output { λ r.
+        ⌜ Stored (now (output .entry)) 0 (bytesOf e (now (text .entry))) (r .bytes) (now (output .exit)) ⌝ }
+    ensures records { λ r.
+        ⌜ Stored (now (errors .entry)) 0 (errorsOf e (now (text .entry))) (r .errors) (now (errors .exit)) ⌝ }
 {
     let d = ends_of(e, text);
     let a = d.start;

@@ -8,6 +8,7 @@ ghost use Rattle.strings.specs.Marks.{lineOpened, lineStart, lineClosed, lineEn
 use pieces::strip_start_newline;
 use strings::Encoding;
 use strings::Ends;
+use token::Span;
 
 // The number of the error that a mark is missing, or that a key is empty.
 pub(crate) fn mark_error(e: Encoding) -> usize
@@ -35,7 +36,7 @@ fn has_one(q: u8, t: &[u8]) -> bool
 fn line_start(opened: bool) -> usize
     ensures { λ r. ⌜ r ≡ lineStart opened ⌝ }
 {
-    if opened { 1 } else { 0 }
+    if opened { Span::MARK } else { 0 }
 }
 
 // A mark q at the end, behind the body's start?
@@ -54,7 +55,7 @@ fn line_end(closed: bool, t: &[u8]) -> usize
     ensures { λ r. ⌜ r ≡ lineEnd closed (now (t .entry)) ⌝ }
 {
     if closed {
-        return t.len() - 1;
+        return t.len() - Span::MARK;
     }
     t.len()
 }
@@ -79,7 +80,7 @@ fn line_ends(q: u8, t: &[u8]) -> Ends
 fn has_threes(q: u8, s: &[u8]) -> bool
     ensures { λ r. ⌜ r ≡ threes q (now (s .entry)) ⌝ }
 {
-    if s.len() < 3 {
+    if s.len() < Span::ML_MARK {
         return false;
     }
     if s[0] != q {
@@ -97,7 +98,7 @@ fn ml_start(opened: bool, t: &[u8]) -> usize
     ensures { λ r. ⌜ r ≡ mlStart opened (now (t .entry)) ⌝ }
 {
     if opened {
-        3 + strip_start_newline(&t[3..])
+        Span::ML_MARK + strip_start_newline(&t[Span::ML_MARK..])
     } else {
         strip_start_newline(t)
     }
@@ -108,10 +109,10 @@ fn ml_closed(q: u8, start: usize, t: &[u8]) -> bool
     ensures { λ r. ⌜ r ≡ mlClosed q start (now (t .entry)) ⌝ }
 {
     let n = t.len();
-    if n < 3 {
+    if n < Span::ML_MARK {
         return false;
     }
-    let z = n - 3;
+    let z = n - Span::ML_MARK;
     if z < start {
         return false;
     }
@@ -138,7 +139,7 @@ fn ml_end(trims: bool, q: u8, start: usize, t: &[u8], closed: bool) -> usize
     ensures { λ r. ⌜ r ≡ mlEnd trims q start (now (t .entry)) closed ⌝ }
 {
     if closed {
-        return t.len() - 3;
+        return t.len() - Span::ML_MARK;
     }
     if trims {
         return start + trimmed_len(q, &t[start..]);

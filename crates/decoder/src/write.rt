@@ -1,17 +1,16 @@
 // The two loops over a body's pieces: one counts, one writes. What they ask of a decoder is that its
-// pieces are `Fine` (crate `strings`), so they serve all five.
+// pieces are `Fine` (crate `strings`), so they serve all five. What stores says the place behind.
 ghost use mathlib.Core.Path.{_≡_};
 ghost use mathlib.Core.Bool.{false};
-ghost use mathlib.Core.List.{[], _∷_};
 ghost use Prim.Native.Nat.{ℕ, _+_, _<_, _≤_};
-ghost use lib.ListN.{length, take, set};
-ghost use lib.Seq.{sets};
+ghost use lib.ListN.{length, take};
 ghost use Rattle.text.specs.Refusals.{limit};
 ghost use Rattle.text.specs.Utf8.{Scalar, encodeScalar};
-ghost use Rattle.strings.specs.Pieces.{gives, notes};
+ghost use Rattle.strings.specs.Pieces.{gives, errorAt, notes};
 ghost use Rattle.strings.specs.Bodies.{pieceOf};
 ghost use Rattle.strings.specs.Decoding.{missing};
-ghost use Rattle.strings.proofs.Fine.{Encodable};
+ghost use Rattle.strings.proofs.Fine.{FineAt};
+ghost use Rattle.strings.proofs.StoreLaws.{Stored};
 ghost use Rattle.strings.proofs.LoopLaws.{bytes, errors};
 use pieces::piece_at;
 use strings::Encoding;
@@ -27,7 +26,7 @@ pub(crate) struct Counts {
 
 // How many bytes the piece gives.
 fn width(p: Piece, s: &[u8]) -> usize
-    requires { ⌜ (p .take ≤ length (now s)) × Encodable (p .given) ⌝ }
+    requires { ⌜ FineAt p (now s) ⌝ }
     ensures { λ r. ⌜ r ≡ length (gives p (now (s .entry))) ⌝ }
 {
     let g = p.given;
@@ -41,7 +40,7 @@ fn width(p: Piece, s: &[u8]) -> usize
 // Copies the first n bytes of s to place o.
 fn copy_in(s: &[u8], n: usize, output: &mut [u8], o: usize) -> usize
     requires { ⌜ (n ≤ length (now s)) × (o + n ≤ length (now output)) ⌝ }
-    ensures { λ r. ⌜ (r ≡ o + n) × (now (output .exit) ≡ sets (now (output .entry)) o (take n (now (s .entry)))) ⌝ }
+    ensures { λ r. ⌜ Stored (now (output .entry)) o (take n (now (s .entry))) r (now (output .exit)) ⌝ }
 {
     let mut j = 0;
     while j < n {
@@ -53,8 +52,8 @@ fn copy_in(s: &[u8], n: usize, output: &mut [u8], o: usize) -> usize
 
 // Writes the bytes that the piece gives to place o, and says the place behind them.
 fn emit(p: Piece, s: &[u8], output: &mut [u8], o: usize) -> usize
-    requires { ⌜ (p .take ≤ length (now s)) × Encodable (p .given) × (o + length (gives p (now s)) ≤ length (now output)) ⌝ }
-    ensures { λ r. ⌜ (r ≡ o + length (gives p (now (s .entry)))) × (now (output .exit) ≡ sets (now (output .entry)) o (gives p (now (s .entry)))) ⌝ }
+    requires { ⌜ FineAt p (now s) × (o + length (gives p (now s)) ≤ length (now output)) ⌝ }
+    ensures { λ r. ⌜ Stored (now (output .entry)) o (gives p (now (s .entry))) r (now (output .exit)) ⌝ }
 {
     let g = p.given;
     match g {
@@ -67,7 +66,7 @@ fn emit(p: Piece, s: &[u8], output: &mut [u8], o: usize) -> usize
 // Writes the bytes of a scalar value to place o.
 fn put_char(c: u32, output: &mut [u8], o: usize) -> usize
     requires { ⌜ Scalar c × (o + length (encodeScalar c) ≤ length (now output)) ⌝ }
-    ensures { λ r. ⌜ (r ≡ o + length (encodeScalar c)) × (now (output .exit) ≡ sets (now (output .entry)) o (encodeScalar c)) ⌝ }
+    ensures { λ r. ⌜ Stored (now (output .entry)) o (encodeScalar c) r (now (output .exit)) ⌝ }
 {
     let e = encode(c);
     let n = e.len;
@@ -85,7 +84,7 @@ fn noted(p: Piece) -> usize
 // Writes the error that the piece has, if any, to record m, and says the record behind it.
 fn note(p: Piece, errors: &mut [[usize; 3]], m: usize) -> usize
     requires { ⌜ m + length (notes p) ≤ length (now errors) ⌝ }
-    ensures { λ r. ⌜ (r ≡ m + length (notes p)) × (now (errors .exit) ≡ sets (now (errors .entry)) m (notes p)) ⌝ }
+    ensures { λ r. ⌜ Stored (now (errors .entry)) m (notes p) r (now (errors .exit)) ⌝ }
 {
     if p.err == 0 {
         m
@@ -96,7 +95,7 @@ fn note(p: Piece, errors: &mut [[usize; 3]], m: usize) -> usize
 
 fn put_error(number: usize, start: usize, end: usize, errors: &mut [[usize; 3]], m: usize) -> usize
     requires { ⌜ m < length (now errors) ⌝ }
-    ensures { λ r. ⌜ (r ≡ m + 1) × (now (errors .exit) ≡ set (now (errors .entry)) m (number ∷ start ∷ end ∷ [])) ⌝ }
+    ensures { λ r. ⌜ Stored (now (errors .entry)) m (errorAt number start end) r (now (errors .exit)) ⌝ }
 {
     errors[m] = [number, start, end];
     m + 1
@@ -118,7 +117,7 @@ pub(crate) fn miss(
     m: usize,
 ) -> usize
     requires { ⌜ m + length (missing there number place) ≤ length (now errors) ⌝ }
-    ensures { λ r. ⌜ (r ≡ m + length (missing there number place)) × (now (errors .exit) ≡ sets (now (errors .entry)) m (missing there number place)) ⌝ }
+    ensures { λ r. ⌜ Stored (now (errors .entry)) m (missing there number place) r (now (errors .exit)) ⌝ }
 {
     if there {
         m
@@ -131,7 +130,10 @@ pub(crate) fn miss(
 // errors they have.
 pub(crate) fn count(e: Encoding, s: &[u8], base: usize) -> Counts
     requires { ⌜ base + length (now s) ≤ limit ⌝ }
-    ensures { λ r. ⌜ (r .bytes ≡ length (bytes (pieceOf e) (now (s .entry)) base)) × (r .errors ≡ length (errors (pieceOf e) (now (s .entry)) base)) × (r .errors ≤ length (now (s .entry))) ⌝ }
+    ensures { λ r.
+        ⌜ (r .bytes ≡ length (bytes (pieceOf e) (now (s .entry)) base))
+        × (r .errors ≡ length (errors (pieceOf e) (now (s .entry)) base))
+        × (r .errors ≤ length (now (s .entry))) ⌝ }
 {
     let mut i = 0;
     let mut d = false;
@@ -160,8 +162,13 @@ pub(crate) fn write(
     records: &mut [[usize; 3]],
     m0: usize,
 ) -> Counts
-    requires { ⌜ (base + length (now s) ≤ limit) × (length (bytes (pieceOf e) (now s) base) ≤ length (now output)) × (m0 + length (errors (pieceOf e) (now s) base) ≤ length (now records)) ⌝ }
-    ensures { λ r. ⌜ (now (output .exit) ≡ sets (now (output .entry)) 0 (bytes (pieceOf e) (now (s .entry)) base)) × (now (records .exit) ≡ sets (now (records .entry)) m0 (errors (pieceOf e) (now (s .entry)) base)) × (r .bytes ≡ length (bytes (pieceOf e) (now (s .entry)) base)) × (r .errors ≡ m0 + length (errors (pieceOf e) (now (s .entry)) base)) ⌝ }
+    requires { ⌜ (base + length (now s) ≤ limit)
+        × (length (bytes (pieceOf e) (now s) base) ≤ length (now output))
+        × (m0 + length (errors (pieceOf e) (now s) base) ≤ length (now records)) ⌝ }
+    ensures output { λ r.
+        ⌜ Stored (now (output .entry)) 0 (bytes (pieceOf e) (now (s .entry)) base) (r .bytes) (now (output .exit)) ⌝ }
+    ensures records { λ r.
+        ⌜ Stored (now (records .entry)) m0 (errors (pieceOf e) (now (s .entry)) base) (r .errors) (now (records .exit)) ⌝ }
 {
     let mut i = 0;
     let mut d = false;

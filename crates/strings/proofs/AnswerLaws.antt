@@ -1,6 +1,6 @@
--- What an answer of `decode` says: each refusal exactly in its case, and a call that answered gave UTF-8 within the bounds.
+-- A call of `decode` that answered gave UTF-8, within the bounds of the text's length.
 -- Assumes nothing.
-use Prim.Native.Nat.{ℕ, _+_, _*_, _≤_}
+use Prim.Native.Nat.{ℕ, _≤_}
 use mathlib.Core.Path.{_≡_, refl, sym}
 use mathlib.Core.Bool.{Bool, true, false, cond}
 use mathlib.Core.List.{List, [], _∷_}
@@ -8,34 +8,19 @@ use native.Mathlib.Omega.{arith}
 use lib.Dec.{ltb}
 use lib.ListN.{length}
 use borrow.Author.Tests.{ltb-false}
-use Rattle.text.specs.Refusals.{limit}
-use Rattle.text.specs.Utf8.{Utf8}
 use Rattle.text.specs.Answers.{checkOf}
 use Rattle.text.specs.declared.refusal.Refusal.the-variants.{ShortOutput, FewErrors}
 use Rattle.text.specs.declared.utf8.Utf8Check.{Utf8Check}
 use Rattle.text.specs.declared.utf8.Utf8Check.the-variants.{Valid, Refused as NotValid}
 use Rattle.text.proofs.AnswerLaws.{checked}
-use Rattle.strings.specs.declared.Encoding.{Encoding}
 use Rattle.strings.specs.declared.Choice.{Choice}
 use Rattle.strings.specs.declared.Choice.the-variants.{Known, Unknown}
 use Rattle.strings.specs.declared.Decoded.the-variants.{Written, Refused}
 use Rattle.strings.specs.Encodings.{choiceBy}
 use Rattle.strings.specs.Decoding.{bytesOf, errorsOf, fitted, decodedBy, decodeIn}
+use Rattle.strings.specs.Answered.{Answered}
 use Rattle.strings.proofs.Bounds.{bytes-most, bytes-quiet, errors-few}
 use Rattle.strings.proofs.Utf8Laws.{decoded-utf8}
-
--- n bytes and m errors were written: the text passed the check, edition and kind have an encoding, and both counts are right
-pub record Answered (t : List ℕ) (edition kind o e n m : ℕ) : Type 0 where
-  pub check : (length t ≤ limit) × Utf8 t
-  pub encoding : Encoding
-  pub chosen : choiceBy edition kind ≡ Known encoding
-  pub bytes : n ≡ length (bytesOf encoding t)
-  pub errors : m ≡ length (errorsOf encoding t)
-  pub room : (n ≤ o) × (m ≤ e)
-  pub utf8 : Utf8 (bytesOf encoding t)
-  pub most : 2 * n ≤ 3 * length t
-  pub quiet : m ≡ 0 → n ≤ length t
-  pub few : m ≤ length t + 2
 
 pub nil : {A : Type 0} (l : List A) → length l ≡ 0 → l ≡ []
 nil [] h = refl
@@ -47,7 +32,8 @@ unfolding fitted
 fitted-answered bs es o e n m h = go (ltb o (length bs)) (ltb e (length es)) refl refl h
   where
     go : (x y : Bool) → ltb o (length bs) ≡ x → ltb e (length es) ≡ y
-        → cond x (Refused (ShortOutput (length bs))) (cond y (Refused (FewErrors (length es))) (Written (length bs) (length es))) ≡ Written n m
+        → cond x (Refused (ShortOutput (length bs))) (cond y (Refused (FewErrors (length es))) (Written (length bs) (length es)))
+        ≡ Written n m
         → (n ≡ length bs) × (m ≡ length es) × (n ≤ o) × (m ≤ e)
     go true y p q f = let z : _≡_ {A = ℕ} 0 1 = cc in absurd (omega arith)
     go false true p q f = let z : _≡_ {A = ℕ} 0 1 = cc in absurd (omega arith)

@@ -61,21 +61,24 @@ rest-is s i = take-all (length s - i) (drop i s) (omega (arith, length-drop i s)
 pub rest-some : (s : List ℕ) (i : ℕ) → i < length s → 0 < length (rest s i)
 rest-some s i h = rw rest-is (omega (arith, length-drop i s))
 
-pub rest-fits : (s : List ℕ) (i base n : ℕ) → i < length s → base + length s < n
-    → (0 < length (rest s i)) × (base + i + length (rest s i) < n)
-rest-fits s i base n h l = (rest-some s i h, rw rest-is (omega (arith, length-drop i s)))
+-- a turn at place i of the body s, which stands at `base` of its text, reads the piece p there
+pub record Turn (P : Pieces) (s : List ℕ) (base i : ℕ) (d : Bool) (p : Piece) : Type 0 where
+  pub more : i < length s
+  pub reads : p ≡ P d (base + i) (rest s i)
 
-module _ (P : Pieces) (fine : Fine P) (s : List ℕ) (base i : ℕ) (d : Bool) (h : i < length s) (p : Piece) (e : p ≡ P d (base + i) (rest s i)) where
-  -- the piece that a turn reads is fine
+module _ {P : Pieces} {s : List ℕ} {base i : ℕ} {d : Bool} {p : Piece} (fine : Fine P) (t : Turn P s base i d p) where
+  -- the piece that it reads is fine
   pub turn-fine : FineAt p (rest s i)
-  turn-fine = rw e (fine d (base + i) (rest s i) (rest-some s i h))
+  turn-fine = rw (t .reads) (fine d (base + i) (rest s i) (rest-some s i (t .more)))
 
   pub turn-fits : i + p .take ≤ length s
   turn-fits = omega (arith, turn-fine .fits, ap length (rest-is s i), length-drop i s)
 
   -- and what was to come is what it says, and then what comes behind it
-  pub turn : {A : Type 0} (g : Piece → List ℕ → List A)
-      → collect P g zero d (base + i) (drop i s) ≡ g p (rest s i) ++ collect P g zero (p .dropping) (base + (i + p .take)) (drop (i + p .take) s)
-  turn g =
-      let l : 0 < length (drop i s) = omega (arith, length-drop i s) in
-      rw (e, rest-is s i, ← add-assoc, ← drop-drop) (collect-step P g d (base + i) (drop i s) l (fine d (base + i) (drop i s) l .some))
+  pub turn-said : {A : Type 0} (g : Piece → List ℕ → List A)
+      → collect P g zero d (base + i) (drop i s)
+      ≡ g p (rest s i) ++ collect P g zero (p .dropping) (base + (i + p .take)) (drop (i + p .take) s)
+  turn-said g =
+      let l : 0 < length (drop i s) = omega (arith, length-drop i s, t .more) in
+      rw (t .reads, rest-is s i, ← add-assoc, ← drop-drop)
+      (collect-step P g d (base + i) (drop i s) l (fine d (base + i) (drop i s) l .some))

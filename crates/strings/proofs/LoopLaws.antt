@@ -11,8 +11,8 @@ use lib.Seq.{sets, length-sets}
 use Rattle.strings.specs.declared.Piece.{Piece}
 use Rattle.strings.specs.Pieces.{gives, notes, notesAt, Pieces, collect}
 use Rattle.strings.proofs.PieceLaws.{notes-few}
-use Rattle.strings.proofs.StoreLaws.{sets-append}
-use Rattle.strings.proofs.Fine.{Fine, rest, turn, turn-fine, turn-fits}
+use Rattle.strings.proofs.StoreLaws.{Stored, sets-append}
+use Rattle.strings.proofs.Fine.{Fine, rest, Turn, turn-fine, turn-fits, turn-said}
 
 -- what the pieces of the body s, which stands at `base` of its text, give and note
 module _ (P : Pieces) (s : List ℕ) (base : ℕ) where
@@ -38,35 +38,42 @@ pub record Counting (P : Pieces) (s : List ℕ) (base i : ℕ) (d : Bool) (n m :
   pub bytes-sum : n + length (bytesFrom P s base i d) ≡ length (bytes P s base)
   pub errors-sum : m + length (errorsFrom P s base i d) ≡ length (errors P s base)
 
-module _ (P : Pieces) (s : List ℕ) (base : ℕ) where
-  pub count-start : Counting P s base 0 false 0 0
-  count-start =
-      record { within = omega arith; small = omega arith; few = omega arith; bytes-sum = rw (add-zero, zero-add); errors-sum = rw (add-zero, zero-add) }
+pub count-start : (P : Pieces) (s : List ℕ) (base : ℕ) → Counting P s base 0 false 0 0
+count-start P s base =
+    record {
+      within = omega arith;
+      small = omega arith;
+      few = omega arith;
+      bytes-sum = rw (add-zero, zero-add);
+      errors-sum = rw (add-zero, zero-add);
+    }
 
-  pub count-turn : Fine P → (i : ℕ) (d : Bool) (n m : ℕ) → i < length s → Counting P s base i d n m → (p : Piece) → p ≡ P d (base + i) (rest s i)
+module _ {P : Pieces} {s : List ℕ} {base : ℕ} where
+  pub count-turn : Fine P → {i : ℕ} {d : Bool} {n m : ℕ} {p : Piece} → Turn P s base i d p → Counting P s base i d n m
       → (w k : ℕ) → w ≡ length (gives p (rest s i)) → k ≡ length (notes p) → Counting P s base (i + p .take) (p .dropping) (n + w) (m + k)
-  count-turn fine i d n m h v p e w k ew ek =
-      let f = turn-fine P fine s base i d h p e in
-      let b = simp length-append at (ap length (turn P fine s base i d h p e gives)) in
-      let r = simp length-append at (ap length (turn P fine s base i d h p e notesAt)) in
+  count-turn fine {p = p} t v w k ew ek =
+      let f = turn-fine fine t in
+      let b = simp length-append at (ap length (turn-said fine t gives)) in
+      let r = simp length-append at (ap length (turn-said fine t notesAt)) in
       record {
-        within = turn-fits P fine s base i d h p e;
-        small = omega (arith, f .small);
-        few = omega (arith, f .some, notes-few p);
+        within = turn-fits fine t;
+        small = omega (arith, f .small, v .small);
+        few = omega (arith, f .some, notes-few p, v .few);
         bytes-sum = omega (arith, b, v .bytes-sum);
         errors-sum = omega (arith, r, v .errors-sum);
       }
 
-  pub count-end : (i : ℕ) (d : Bool) (n m : ℕ) → length s ≤ i → Counting P s base i d n m
+  pub count-end : {i : ℕ} {d : Bool} {n m : ℕ} → length s ≤ i → Counting P s base i d n m
       → (n ≡ length (bytes P s base)) × (m ≡ length (errors P s base)) × (m ≤ length s)
-  count-end i d n m h v =
+  count-end h v =
       let b = rw (drop-of-length-le s h) at (v .bytes-sum) in
       let e = rw (drop-of-length-le s h) at (v .errors-sum) in
       (omega (arith, b), omega (arith, e), omega (arith, v .few, v .within))
 
 -- ---- writing: what is left, stored from o and m on, makes the whole; m₀ records were there before
 
-pub record Writing (P : Pieces) (s : List ℕ) (base : ℕ) (out₀ : List ℕ) (errs₀ : List (List ℕ)) (m₀ : ℕ) (out : List ℕ) (errs : List (List ℕ)) (i : ℕ) (d : Bool) (o m : ℕ) : Type 0 where
+pub record Writing (P : Pieces) (s : List ℕ) (base : ℕ) (out₀ : List ℕ) (errs₀ : List (List ℕ)) (m₀ : ℕ)
+    (out : List ℕ) (errs : List (List ℕ)) (i : ℕ) (d : Bool) (o m : ℕ) : Type 0 where
   pub within : i ≤ length s
   pub out-long : length out ≡ length out₀
   pub errs-long : length errs ≡ length errs₀
@@ -77,58 +84,61 @@ pub record Writing (P : Pieces) (s : List ℕ) (base : ℕ) (out₀ : List ℕ) 
   pub out-is : sets out o (bytesFrom P s base i d) ≡ sets out₀ 0 (bytes P s base)
   pub errs-is : sets errs m (errorsFrom P s base i d) ≡ sets errs₀ m₀ (errors P s base)
 
-module _ (P : Pieces) (s : List ℕ) (base : ℕ) (out₀ : List ℕ) (errs₀ : List (List ℕ)) (m₀ : ℕ) where
-  pub write-start : length (bytes P s base) ≤ length out₀ → m₀ + length (errors P s base) ≤ length errs₀
-      → Writing P s base out₀ errs₀ m₀ out₀ errs₀ 0 false 0 m₀
-  write-start a b =
-      record {
-        within = omega arith;
-        out-long = refl;
-        errs-long = refl;
-        out-room = a;
-        errs-room = b;
-        out-sum = rw (add-zero, zero-add);
-        errs-sum = rw add-zero;
-        out-is = rw add-zero;
-        errs-is = rw add-zero;
-      }
+pub write-start : (P : Pieces) (s : List ℕ) (base : ℕ) {out₀ : List ℕ} {errs₀ : List (List ℕ)} {m₀ : ℕ}
+    → length (bytes P s base) ≤ length out₀ → m₀ + length (errors P s base) ≤ length errs₀
+    → Writing P s base out₀ errs₀ m₀ out₀ errs₀ 0 false 0 m₀
+write-start P s base a b =
+    record {
+      within = omega arith;
+      out-long = refl;
+      errs-long = refl;
+      out-room = a;
+      errs-room = b;
+      out-sum = rw (add-zero, zero-add);
+      errs-sum = rw add-zero;
+      out-is = rw add-zero;
+      errs-is = rw add-zero;
+    }
 
+module _ {P : Pieces} {s : List ℕ} {base : ℕ} {out₀ : List ℕ} {errs₀ : List (List ℕ)} {m₀ : ℕ} where
   -- there is room for what the piece gives, and for its error
-  pub write-room : Fine P → (out : List ℕ) (errs : List (List ℕ)) (i : ℕ) (d : Bool) (o m : ℕ) → i < length s
-      → Writing P s base out₀ errs₀ m₀ out errs i d o m → (p : Piece) → p ≡ P d (base + i) (rest s i)
+  pub write-room : Fine P → {out : List ℕ} {errs : List (List ℕ)} {i : ℕ} {d : Bool} {o m : ℕ} {p : Piece} → Turn P s base i d p
+      → Writing P s base out₀ errs₀ m₀ out errs i d o m
       → (o + length (gives p (rest s i)) ≤ length out) × (m + length (notes p) ≤ length errs)
-  write-room fine out errs i d o m h v p e =
-      let b = simp length-append at (ap length (turn P fine s base i d h p e gives)) in
-      let r = simp length-append at (ap length (turn P fine s base i d h p e notesAt)) in
-      (omega (arith, b, v .out-room, v .out-sum, v .out-long), omega (arith, r, v .errs-room, v .errs-sum, v .errs-long))
+  write-room fine t v =
+      let b = simp length-append at (ap length (turn-said fine t gives)) in
+      let r = simp length-append at (ap length (turn-said fine t notesAt)) in (
+        omega (arith, b, v .out-room, v .out-sum, v .out-long),
+        omega (arith, r, v .errs-room, v .errs-sum, v .errs-long),
+      )
 
-  pub write-turn : Fine P → (out : List ℕ) (errs : List (List ℕ)) (i : ℕ) (d : Bool) (o m : ℕ) → i < length s
-      → Writing P s base out₀ errs₀ m₀ out errs i d o m → (p : Piece) → p ≡ P d (base + i) (rest s i)
-      → (out′ : List ℕ) (errs′ : List (List ℕ)) (o′ m′ : ℕ)
-      → (o′ ≡ o + length (gives p (rest s i))) × (out′ ≡ sets out o (gives p (rest s i)))
-      → (m′ ≡ m + length (notes p)) × (errs′ ≡ sets errs m (notes p))
+  pub write-turn : Fine P → {out out′ : List ℕ} {errs errs′ : List (List ℕ)} {i : ℕ} {d : Bool} {o m o′ m′ : ℕ} {p : Piece}
+      → Turn P s base i d p → Writing P s base out₀ errs₀ m₀ out errs i d o m
+      → Stored out o (gives p (rest s i)) o′ out′ → Stored errs m (notes p) m′ errs′
       → Writing P s base out₀ errs₀ m₀ out′ errs′ (i + p .take) (p .dropping) o′ m′
-  write-turn fine out errs i d o m h v p e out′ errs′ o′ m′ eo em =
-      let tb = turn P fine s base i d h p e gives in
-      let tr = turn P fine s base i d h p e notesAt in
+  write-turn fine {out} {errs = errs} {i = i} {o = o} {m = m} {p = p} t v bytes-in errors-in =
+      let tb = turn-said fine t gives in
+      let tr = turn-said fine t notesAt in
       let b = simp length-append at (ap length tb) in
       let r = simp length-append at (ap length tr) in
       record {
-        within = turn-fits P fine s base i d h p e;
-        out-long = rw (eo .1) (length-sets out o (gives p (rest s i)) ∙ v .out-long);
-        errs-long = rw (em .1) (length-sets errs m (notes p) ∙ v .errs-long);
+        within = turn-fits fine t;
+        out-long = rw (bytes-in .holds) (length-sets out o (gives p (rest s i)) ∙ v .out-long);
+        errs-long = rw (errors-in .holds) (length-sets errs m (notes p) ∙ v .errs-long);
         out-room = v .out-room;
         errs-room = v .errs-room;
-        out-sum = omega (arith, b, v .out-sum, eo .0);
-        errs-sum = omega (arith, r, v .errs-sum, em .0);
-        out-is = rw (eo .0, eo .1, ← sets-append, ← tb) (v .out-is);
-        errs-is = rw (em .0, em .1, ← sets-append, ← tr) (v .errs-is);
+        out-sum = omega (arith, b, v .out-sum, bytes-in .place);
+        errs-sum = omega (arith, r, v .errs-sum, errors-in .place);
+        out-is = rw (bytes-in .place, bytes-in .holds, ← sets-append, ← tb) (v .out-is);
+        errs-is = rw (errors-in .place, errors-in .holds, ← sets-append, ← tr) (v .errs-is);
       }
 
-  pub write-end : (out : List ℕ) (errs : List (List ℕ)) (i : ℕ) (d : Bool) (o m : ℕ) → length s ≤ i → Writing P s base out₀ errs₀ m₀ out errs i d o m
-      → (out ≡ sets out₀ 0 (bytes P s base)) × (errs ≡ sets errs₀ m₀ (errors P s base))
-      × (o ≡ length (bytes P s base)) × (m ≡ m₀ + length (errors P s base))
-  write-end out errs i d o m h v =
+  pub write-end : {out : List ℕ} {errs : List (List ℕ)} {i : ℕ} {d : Bool} {o m : ℕ} → length s ≤ i
+      → Writing P s base out₀ errs₀ m₀ out errs i d o m
+      → Stored out₀ 0 (bytes P s base) o out × Stored errs₀ m₀ (errors P s base) m errs
+  write-end h v =
       let a = rw (drop-of-length-le s h) at (v .out-sum) in
-      let b = rw (drop-of-length-le s h) at (v .errs-sum) in
-      (rw (drop-of-length-le s h) at (v .out-is), rw (drop-of-length-le s h) at (v .errs-is), omega (arith, a), omega (arith, b))
+      let b = rw (drop-of-length-le s h) at (v .errs-sum) in (
+        record { place = omega (arith, a); holds = rw (drop-of-length-le s h) at (v .out-is) },
+        record { place = omega (arith, b); holds = rw (drop-of-length-le s h) at (v .errs-is) },
+      )

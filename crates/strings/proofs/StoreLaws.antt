@@ -1,27 +1,42 @@
 -- Runs of stores into lent memory: joined, copied, and what they leave.
 -- Assumes nothing.
 use Prim.Native.Nat.{ℕ, suc, _+_, _-_, _≤_, _<_}
-use mathlib.Core.Path.{_≡_}
+use mathlib.Core.Path.{_≡_, refl, sym, _∙_}
 use mathlib.Core.List.{List, [], _∷_, _++_}
 use native.Mathlib.Nat.{add-zero, add-suc, suc-add, zero-add, sub-zero}
 use native.Mathlib.Numerals.{add-one}
 use native.Mathlib.Omega.{arith}
-use lib.ListN.{length, take, drop, getD, set}
+use lib.ListN.{length, take, drop, getD, set, length-append}
 use lib.Seq.{sets, sets-eq, drop-cons}
+
+-- `new` is stored in memory that held `old`, from place `at` on: the place behind it, and what the memory then holds
+pub record Stored {A : Type 0} (old : List A) (at : ℕ) (new : List A) (behind : ℕ) (held : List A) : Type 0 where
+  pub place : behind ≡ at + length new
+  pub holds : held ≡ sets old at new
+
+pub store-none : {A : Type 0} (old : List A) (at : ℕ) → Stored old at [] at old
+store-none old at = record { place = sym (add-zero at); holds = refl }
 
 pub sets-append : {A : Type 0} (l : List A) (i : ℕ) (a b : List A) → sets l i (a ++ b) ≡ sets (sets l i a) (i + length a) b
 sets-append l i [] b = rw add-zero
 sets-append l i (x ∷ a) b = rw (add-suc, ← suc-add) (sets-append (set l i x) (suc i) a b)
 
--- three runs, one behind the other
-pub sets-three : {A : Type 0} (l l₁ l₂ l₃ a b c : List A) (m₁ m₂ : ℕ) → (m₁ ≡ 0 + length a) × (l₁ ≡ sets l 0 a)
-    → (m₂ ≡ m₁ + length b) × (l₂ ≡ sets l₁ m₁ b) → l₃ ≡ sets l₂ m₂ c → l₃ ≡ sets l 0 (a ++ (b ++ c))
-sets-three l l₁ l₂ l₃ a b c m₁ m₂ p q r =
-    rw (sets-append l 0 a (b ++ c), ← (p .0), ← (p .1), sets-append l₁ m₁ b c, ← (q .0), ← (q .1)) r
+-- one run behind another
+pub store-append : {A : Type 0} {l l₁ l₂ a b : List A} {i m₁ m₂ : ℕ} → Stored l i a m₁ l₁ → Stored l₁ m₁ b m₂ l₂ → Stored l i (a ++ b) m₂ l₂
+store-append {l = l} {a = a} {b = b} {i = i} p q =
+    record {
+      place = omega (arith, p .place, q .place, length-append a b);
+      holds = rw (sets-append l i a b, ← (p .place), ← (p .holds)) (q .holds);
+    }
 
--- stores from the front leave what was stored, and the rest as it was
-pub overwrite-is : {A : Type 0} (old new : List A) → length new ≤ length old → sets old 0 new ≡ new ++ drop (length new) old
-overwrite-is old new h = rw zero-add at (sets-eq new old 0 (rw zero-add h))
+-- stores from the front: how many
+pub front-long : {A : Type 0} {old new held : List A} {n : ℕ} → Stored old 0 new n held → n ≡ length new
+front-long s = s .place ∙ zero-add _
+
+-- and they leave what was stored, and the rest as it was
+pub overwritten : {A : Type 0} {old new held : List A} {n : ℕ} → Stored old 0 new n held → length new ≤ length old
+    → held ≡ new ++ drop (length new) old
+overwritten {old = old} {new = new} s h = s .holds ∙ rw zero-add at (sets-eq new old 0 (rw zero-add h))
 
 -- ---- the front of s, copied to place o: what is still to be copied after j bytes
 

@@ -4,3 +4,4 @@ pub mod Escapes
 pub mod Bodies
 pub mod Marks
 pub mod Decoding
+pub mod Answered

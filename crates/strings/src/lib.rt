@@ -9,6 +9,12 @@ pub enum Edition {
     Toml11,
 }
 
+impl Edition {
+    pub const TOML_10: usize = 10;
+
+    pub const TOML_11: usize = 11;
+}
+
 // How a text is read: the Rust's `Encoding`, and the key. Only the basic kinds have escapes, and
 // escapes are all that the editions differ in.
 pub enum Encoding {

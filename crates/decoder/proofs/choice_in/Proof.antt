@@ -28,8 +28,14 @@ returns-5 c = simp (c .match .keys5)
 returns-6 : tie.Need-returns-6
 unfolding choiceIn
 returns-6 c =
-    let match = c .match in
-    simp (ne-eqb _ 39 (match .rest .0 .0 .0 .0 .1), ne-eqb _ 34 (match .rest .0 .0 .0 .1), ne-eqb _ 1 (match .rest .0 .0 .1), ne-eqb _ 2 (match .rest .0 .1), ne-eqb _ 3 (match .rest .1))
+    let r = c .match .rest in
+    simp (
+      ne-eqb _ 39 (r .0 .0 .0 .0 .1),
+      ne-eqb _ 34 (r .0 .0 .0 .1),
+      ne-eqb _ 1 (r .0 .0 .1),
+      ne-eqb _ 2 (r .0 .1),
+      ne-eqb _ 3 (r .1),
+    )
 
 pub choice-in-spec : {M : Type 1} → statement M
 choice-in-spec = tie.close (tie.spec returns returns-2 returns-3 returns-4 returns-5 returns-6)

@@ -5,6 +5,7 @@ use borrow.Author.Needs.{needs}
 use lib.ListN.{length}
 use Rattle.text.proofs.AnswerLaws.{checked}
 use Rattle.strings.proofs.DecodeLaws.{decode-invalid, decode-valid}
+use Rattle.strings.proofs.NumberLaws.{decoded}
 use Rattle.decoder.proofs.decode_in.Statement.{statement}
 use Rattle.decoder.proofs.decode_in.Tie as tie
 
@@ -22,16 +23,18 @@ choice-by-requires c κs = search needs
 
 decode-by-requires : tie.Need-decode-by-requires
 decode-by-requires c κs =
-    let args = c .before .before .before .before .before .before .before .before .args in
-    let check-utf8 = c .before .before .before .before .before .check-utf8 in
-    let enum-told = c .before .before .before .enum-told in
-    checked (args .text .now) (sym (check-utf8 .ensures .0) ∙ enum-told .given .1) .0
+    let t = c .before .before .before .before .before .before .before .before .args .text .now in
+    let checks = c .before .before .before .before .before .check-utf8 .ensures .0 in
+    checked t (sym checks ∙ c .before .before .before .enum-told .given .1) .0
 
 returns : tie.Need-returns
 returns c =
     let a = c .before .before .before .before .before .before .args in
     let refused = sym (c .before .check .given .1) ∙ c .before .before .before .check-utf8 .ensures .0 in
-    (decode-invalid (a .text .now) (a .edition) (a .kind) (length (a .output .now)) (length (a .errors .now)) _ refused, (refl, refl))
+    let o = length (a .output .now) in
+    let e = length (a .errors .now) in
+    let answer = decode-invalid (a .text .now) (a .edition) (a .kind) o e _ refused in
+    decoded (a .text .now) (a .edition) (a .kind) o e _ answer refl refl
 
 same-length : tie.Need-same-length
 same-length c = search needs
@@ -41,17 +44,15 @@ same-length-2 c = search needs
 
 returns-2 : tie.Need-returns-2
 returns-2 c =
-    let args = c .before .before .before .before .before .before .before .before .before .before .before .before .args in
-    let enum-told = c .before .before .before .before .before .before .before .enum-told in
-    let check-utf8 = c .before .before .before .before .before .before .before .before .before .check-utf8 in
-    let decode-by = c .before .before .before .decode-by in
-    let choice-by = c .before .before .before .before .before .before .choice-by in
-    let a = args in
-    let valid = sym (enum-told .given .1) ∙ check-utf8 .ensures .0 in
-    let d = decode-by in
-    let answer = decode-valid (a .text .now) (a .edition) (a .kind) (length (a .output .now)) (length (a .errors .now)) valid in
-    let e = choice-by .ensures in
-    (rw e at (d .ensures .0) ∙ answer, (rw e at (d .ensures .1 .0), rw e at (d .ensures .1 .1)))
+    let a = c .before .before .before .before .before .before .before .before .before .before .before .before .args in
+    let checks = c .before .before .before .before .before .before .before .before .before .check-utf8 .ensures .0 in
+    let valid = sym (c .before .before .before .before .before .before .before .enum-told .given .1) ∙ checks in
+    let d = c .before .before .before .decode-by in
+    let chosen = c .before .before .before .before .before .before .choice-by .ensures in
+    let o = length (a .output .now) in
+    let e = length (a .errors .now) in
+    let answer = rw chosen at (d .ensures .0) ∙ decode-valid (a .text .now) (a .edition) (a .kind) o e valid in
+    decoded (a .text .now) (a .edition) (a .kind) o e _ answer (rw chosen at (d .ensures .1 .0)) (rw chosen at (d .ensures .1 .1))
 
 pub decode-in-spec : {M : Type 1} → statement M
 decode-in-spec =

@@ -1,19 +1,21 @@
 -- `needed` is right because the errors of the two marks and those of the body are all there are.
 -- Assumes nothing.
-use Prim.Native.Nat.{_≤_}
+use Prim.Native.Nat.{_+_, _≤_}
 use mathlib.Core.Path.{refl, sym, ap, _∙_}
 use native.Mathlib.Omega.{arith}
 use borrow.Author.Needs.{needs}
-use lib.ListN.{length, length-append, length-take, length-drop}
+use lib.ListN.{length, length-take, length-drop}
+use Rattle.text.specs.Refusals.{limit}
 use Rattle.strings.specs.Encodings.{markError}
 use Rattle.strings.proofs.MarkLaws.{ends-fit}
-use Rattle.strings.proofs.DecodeLaws.{bytes-is, errors-is}
+use Rattle.strings.proofs.DecodeLaws.{bytes-is, errors-sum}
 use Rattle.strings.proofs.Bounds.{missing-few}
 use Rattle.decoder.proofs.needed.Statement.{statement}
 use Rattle.decoder.proofs.needed.Tie as tie
 
 -- the body lies within the text
-fit : (c : tie.After-ends-of) → (c .ends-of .result .start ≤ c .ends-of .result .end) × (c .ends-of .result .end ≤ length (c .before .before .args .text .now))
+fit : (c : tie.After-ends-of)
+    → let d = c .ends-of .result in (d .start ≤ d .end) × (d .end ≤ length (c .before .before .args .text .now))
 fit c = ends-fit (c .before .before .args .e) (c .before .before .args .text .now) (c .ends-of .result) (c .ends-of .ensures)
 
 ends-of-requires : tie.Need-ends-of-requires
@@ -37,38 +39,40 @@ missed-requires c κs = search needs
 missed-requires-2 : tie.Need-missed-requires-2
 missed-requires-2 c κs = search needs
 
+-- the body has at most as many errors as bytes, and a mark one: so the sums stay small
+few : (c : tie.After-missed2)
+    → c .before .before .count .result .errors + (c .before .missed .result + c .missed2 .result) ≤ limit + 2
+few c =
+    let d = c .before .before .before .before .ends-of .result in
+    let body = simp (length-take, length-drop) at (c .before .before .count .ensures .2) in
+    omega (
+      arith,
+      body,
+      fit (c .before .before .before .before),
+      c .before .before .before .before .before .before .pre,
+      c .before .missed .ensures 0 0,
+      missing-few (d .opened) 0 0,
+      c .missed2 .ensures 0 0,
+      missing-few (d .closed) 0 0,
+    )
+
 add-t12 : tie.Need-add-t12
-add-t12 c =
-    let ends-of = c .before .before .before .before .before .ends-of in
-    let count = c .before .before .before .count in
-    let pre = c .before .before .before .before .before .before .before .pre in
-    let d = ends-of .result in
-    let body = simp (length-take, length-drop) at (count .ensures .2) in
-    omega (arith, body, fit (c .before .before .before .before .before), c .before .missed2 .ensures 0 0, missing-few (d .closed) 0 0, pre)
+add-t12 c = omega (arith, few (c .before))
 
 add-t13 : tie.Need-add-t13
-add-t13 c =
-    let ends-of = c .before .before .before .before .before .ends-of in
-    let count = c .before .before .before .count in
-    let missed = c .before .before .missed in
-    let pre = c .before .before .before .before .before .before .before .pre in
-    let d = ends-of .result in
-    let body = simp (length-take, length-drop) at (count .ensures .2) in
-    omega (arith, body, fit (c .before .before .before .before .before), c .before .missed2 .ensures 0 0, missing-few (d .closed) 0 0, missed .ensures 0 0, missing-few (d .opened) 0 0, pre)
+add-t13 c = omega (arith, few (c .before))
 
 returns : tie.Need-returns
 returns c =
-    let args = c .before .before .before .before .before .before .before .args in
-    let ends-of = c .before .before .before .before .before .ends-of in
+    let a = c .before .before .before .before .before .before .before .args in
+    let d = c .before .before .before .before .before .ends-of in
     let count = c .before .before .before .count in
     let missed = c .before .before .missed in
-    let a = args in
     let t = a .text .now in
-    let d = ends-of in
     let n = markError (a .e) in
-    let parts = simp length-append at (ap length (errors-is (a .e) t (d .result) (d .ensures) n refl)) in (
+    let all = errors-sum (a .e) t (d .result) (d .ensures) n refl in (
       count .ensures .0 ∙ sym (ap length (bytes-is (a .e) t (d .result) (d .ensures))),
-      omega (arith, parts, count .ensures .1, missed .ensures n 0, c .before .missed2 .ensures n (length t)),
+      omega (arith, all, count .ensures .1, missed .ensures n 0, c .before .missed2 .ensures n (length t)),
     )
 
 pub needed-spec : {M : Type 1} → statement M

@@ -16,7 +16,8 @@ shared-slice-read-result c = search needs
 
 returns-2 : tie.Need-returns-2
 returns-2 c =
-    closed-by (c .before .before .args .q) (c .before .before .args .t .now) (c .before .before .args .start) (c .before .if1 .left)
+    let a = c .before .before .args in
+    closed-by (a .q) (a .t .now) (a .start) (c .before .if1 .left)
 
 pub line-closed-spec : {M : Type 1} → statement M
 line-closed-spec = tie.close (tie.spec returns sub-result shared-slice-read-result returns-2)

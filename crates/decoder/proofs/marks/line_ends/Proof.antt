@@ -16,12 +16,16 @@ line-closed-requires : tie.Need-line-closed-requires
 line-closed-requires c κs = search needs
 
 line-end-requires : tie.Need-line-end-requires
-line-end-requires c κs = λ e. closed-some (c .before .before .before .before .args .q) (c .before .before .before .before .args .t .now) (c .before .line-start .result) (sym (c .line-closed .ensures) ∙ e)
+line-end-requires c κs =
+    let a = c .before .before .before .before .args in
+    λ e. closed-some (a .q) (a .t .now) (c .before .line-start .result) (sym (c .line-closed .ensures) ∙ e)
 
 returns : tie.Need-returns
 returns c =
     let a = c .before .before .before .before .before .args in
-    line-is (a .q) (a .t .now) _ _ _ _ (c .before .before .before .has-one .ensures) (c .before .before .line-start .ensures) (c .before .line-closed .ensures) (c .line-end .ensures)
+    let opened = c .before .before .before .has-one .ensures in
+    let start = c .before .before .line-start .ensures in
+    line-is (a .q) (a .t .now) _ _ _ _ opened start (c .before .line-closed .ensures) (c .line-end .ensures)
 
 pub line-ends-spec : {M : Type 1} → statement M
 line-ends-spec = tie.close (tie.spec has-one-requires line-start-requires line-closed-requires line-end-requires returns)

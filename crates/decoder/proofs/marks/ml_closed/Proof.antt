@@ -9,7 +9,9 @@ use Rattle.decoder.proofs.marks.ml_closed.Statement.{statement}
 use Rattle.decoder.proofs.marks.ml_closed.Tie as tie
 
 returns : tie.Need-returns
-returns c = closed-not (c .before .before .args .q) (c .before .before .args .start) (c .before .before .args .t .now) (omega arith)
+returns c =
+    let a = c .before .before .args in
+    closed-not (a .q) (a .start) (a .t .now) (omega arith)
 
 returns-2 : tie.Need-returns-2
 returns-2 c =

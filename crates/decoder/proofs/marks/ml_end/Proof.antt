@@ -36,10 +36,9 @@ add-result c =
 
 returns-2 : tie.Need-returns-2
 returns-2 c =
-    let args = c .before .before .before .before .before .args in
-    let if1 = c .before .before .before .if1 in
-    let a = args in
-    rw (if1 .left, c .before .before .if2 .taken, rw rest-is at (c .trimmed-len .ensures)) (end-trims (a .q) (a .start) (a .t .now))
+    let a = c .before .before .before .before .before .args in
+    let trimmed = rw rest-is at (c .trimmed-len .ensures) in
+    rw (c .before .before .before .if1 .left, c .before .before .if2 .taken, trimmed) (end-trims (a .q) (a .start) (a .t .now))
 
 returns-3 : tie.Need-returns-3
 returns-3 c =

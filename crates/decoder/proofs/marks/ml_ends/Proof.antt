@@ -10,7 +10,9 @@ has-threes-requires : tie.Need-has-threes-requires
 has-threes-requires c κs = search needs
 
 ml-start-requires : tie.Need-ml-start-requires
-ml-start-requires c κs = λ e. threes-long (c .before .before .args .q) (c .before .before .args .t .now) (sym (c .has-threes .ensures) ∙ e)
+ml-start-requires c κs =
+    let a = c .before .before .args in
+    λ e. threes-long (a .q) (a .t .now) (sym (c .has-threes .ensures) ∙ e)
 
 ml-closed-requires : tie.Need-ml-closed-requires
 ml-closed-requires c κs = search needs
@@ -18,18 +20,18 @@ ml-closed-requires c κs = search needs
 ml-end-requires : tie.Need-ml-end-requires
 ml-end-requires c κs =
     let a = c .before .before .before .before .args in
-    let o = c .before .before .has-threes in (
-      rw (c .before .ml-start .ensures) (start-le (a .t .now) (o .result) (λ e. threes-long (a .q) (a .t .now) (sym (o .ensures) ∙ e))),
-      λ e. closed-long (a .q) (c .before .ml-start .result) (a .t .now) (sym (c .ml-closed .ensures) ∙ e),
+    let o = c .before .before .has-threes in
+    let t = a .t .now in (
+      rw (c .before .ml-start .ensures) (start-le t (o .result) (λ e. threes-long (a .q) t (sym (o .ensures) ∙ e))),
+      λ e. closed-long (a .q) (c .before .ml-start .result) t (sym (c .ml-closed .ensures) ∙ e),
     )
 
 returns : tie.Need-returns
 returns c =
-    let args = c .before .before .before .before .before .args in
-    let has-threes = c .before .before .before .has-threes in
-    let ml-start = c .before .before .ml-start in
-    let a = args in
-    ml-is (a .trims) (a .q) (a .t .now) _ _ _ _ (has-threes .ensures) (ml-start .ensures) (c .before .ml-closed .ensures) (c .ml-end .ensures)
+    let a = c .before .before .before .before .before .args in
+    let opened = c .before .before .before .has-threes .ensures in
+    let start = c .before .before .ml-start .ensures in
+    ml-is (a .trims) (a .q) (a .t .now) _ _ _ _ opened start (c .before .ml-closed .ensures) (c .ml-end .ensures)
 
 pub ml-ends-spec : {M : Type 1} → statement M
 ml-ends-spec =

@@ -4,7 +4,7 @@ use Prim.Native.Nat.{_+_, _-_, _≤_}
 use mathlib.Core.Path.{_≡_, refl, sym, _∙_}
 use native.Mathlib.Omega.{arith}
 use lib.ListN.{length, take, drop, length-set}
-use lib.Seq.{sets}
+use lib.Seq.{sets, length-take-le}
 use Rattle.strings.proofs.StoreLaws.{copy-none, copy-more, copy-done}
 use Rattle.decoder.proofs.write.copy_in.Statement.{statement}
 use Rattle.decoder.proofs.write.copy_in.Tie as tie
@@ -53,7 +53,10 @@ returns : tie.Need-returns Inv-loop μ-loop
 returns c =
     let l = c .before .loop in
     let a = c .before .before .args in
-    (refl, sym (copy-done (a .s .now) (l .output) (a .o) (a .n) (l .j) (omega arith)) ∙ l .inv .2)
+    record {
+      place = rw (length-take-le (a .n) (a .s .now) (c .before .before .pre .0));
+      holds = sym (copy-done (a .s .now) (l .output) (a .o) (a .n) (l .j) (omega arith)) ∙ l .inv .2;
+    }
 
 pub copy-in-spec : {M : Type 1} → statement M
 copy-in-spec =

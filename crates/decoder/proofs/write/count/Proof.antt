@@ -5,11 +5,11 @@ use mathlib.Core.Path.{_≡_}
 use native.Mathlib.Omega.{arith}
 use borrow.Author.Needs.{needs}
 use lib.ListN.{length}
-use Rattle.strings.proofs.Fine.{FineAt, rest, turn-fine, turn-fits}
+use Rattle.strings.proofs.Fine.{FineAt, rest, Turn, turn-fine, turn-fits}
 use Rattle.strings.specs.Bodies.{pieceOf}
 use Rattle.strings.proofs.BodyLaws.{piece-fine}
 use Rattle.strings.proofs.LoopLaws.{Counting, count-start, count-turn, count-end}
-use Rattle.decoder.proofs.WriteLaws.{turn-reads}
+use Rattle.decoder.proofs.WriteLaws.{turn-at}
 use Rattle.decoder.proofs.write.count.Statement.{statement}
 use Rattle.decoder.proofs.write.count.Tie as tie
 
@@ -26,33 +26,30 @@ Begin c = c .before .before .before .before .before
 abbrev Head : tie.After-piece-at Inv-loop μ-loop → tie.At-loop Inv-loop μ-loop
 Head c = c .before .before .before
 
-reads : (c : tie.After-piece-at Inv-loop μ-loop)
-    → c .piece-at .result ≡ pieceOf (Begin c .args .e) (Head c .loop .d) (Begin c .args .base + Head c .loop .i) (rest (Begin c .args .s .now) (Head c .loop .i))
-reads c =
+-- a turn reads the rule's piece, which is fine
+turned : (c : tie.After-piece-at Inv-loop μ-loop)
+    → let a = Begin c .args in let l = Head c .loop in
+    Turn (pieceOf (a .e)) (a .s .now) (a .base) (l .i) (l .d) (c .piece-at .result)
+turned c =
     let a = Begin c .args in
     let l = Head c .loop in
-    turn-reads (a .e) (l .d) (a .s .now) (a .base) (l .i) (c .before .before .loop-test .taken) (Begin c .pre) (c .piece-at .result) (c .piece-at .ensures)
+    let more = c .before .before .loop-test .taken in
+    turn-at (a .e) (a .s .now) (a .base) (l .i) (l .d) (Begin c .pre) more (c .piece-at .result) (c .piece-at .ensures)
 
-fine : (c : tie.After-piece-at Inv-loop μ-loop)
-    → FineAt (c .piece-at .result) (rest (Begin c .args .s .now) (Head c .loop .i)) × (Head c .loop .i + c .piece-at .result .take ≤ length (Begin c .args .s .now))
-fine c =
-    let a = Begin c .args in
-    let l = Head c .loop in
-    let p = c .piece-at in (
-      turn-fine (pieceOf (a .e)) (piece-fine (a .e)) (a .s .now) (a .base) (l .i) (l .d) (c .before .before .loop-test .taken) (p .result) (reads c),
-      turn-fits (pieceOf (a .e)) (piece-fine (a .e)) (a .s .now) (a .base) (l .i) (l .d) (c .before .before .loop-test .taken) (p .result) (reads c),
-    )
+fine : (c : tie.After-piece-at Inv-loop μ-loop) → FineAt (c .piece-at .result) (rest (Begin c .args .s .now) (Head c .loop .i))
+fine c = turn-fine (piece-fine (Begin c .args .e)) (turned c)
+
+fits : (c : tie.After-piece-at Inv-loop μ-loop) → Head c .loop .i + c .piece-at .result .take ≤ length (Begin c .args .s .now)
+fits c = turn-fits (piece-fine (Begin c .args .e)) (turned c)
 
 again : (c : tie.After-noted Inv-loop μ-loop)
-    → Counting (pieceOf (Begin (c .before .before) .args .e)) (Begin (c .before .before) .args .s .now) (Begin (c .before .before) .args .base)
-    (Head (c .before .before) .loop .i + c .before .before .piece-at .result .take) (c .before .before .piece-at .result .dropping)
-    (Head (c .before .before) .loop .n + c .before .width .result) (Head (c .before .before) .loop .m + c .noted .result)
+    → let p = c .before .before in let a = Begin p .args in let l = Head p .loop in
+    Counting (pieceOf (a .e)) (a .s .now) (a .base) (l .i + p .piece-at .result .take) (p .piece-at .result .dropping)
+    (l .n + c .before .width .result) (l .m + c .noted .result)
 again c =
     let p = c .before .before in
     let a = Begin p .args in
-    let l = Head p .loop in
-    count-turn (pieceOf (a .e)) (a .s .now) (a .base) (piece-fine (a .e)) (l .i) (l .d) (l .n) (l .m) (p .before .before .loop-test .taken) (l .inv)
-    (p .piece-at .result) (reads p) (c .before .width .result) (c .noted .result) (c .before .width .ensures) (c .noted .ensures)
+    count-turn (piece-fine (a .e)) (turned p) (Head p .loop .inv) _ _ (c .before .width .ensures) (c .noted .ensures)
 
 loop-holds : tie.Need-loop-holds Inv-loop μ-loop
 loop-holds c = count-start (pieceOf (c .before .args .e)) (c .before .args .s .now) (c .before .args .base)
@@ -73,10 +70,10 @@ piece-at-requires : tie.Need-piece-at-requires Inv-loop μ-loop
 piece-at-requires c κs = search needs
 
 width-requires : tie.Need-width-requires Inv-loop μ-loop
-width-requires c κs = (fine c .0 .fits, fine c .0 .char)
+width-requires c κs = fine c
 
 add-n : tie.Need-add-n Inv-loop μ-loop
-add-n c = omega (arith, fine (c .before) .1, fine (c .before) .0 .small, c .width .ensures)
+add-n c = omega (arith, fits (c .before), fine (c .before) .small, c .width .ensures)
 
 noted-requires : tie.Need-noted-requires Inv-loop μ-loop
 noted-requires c κs = search needs
@@ -85,19 +82,16 @@ add-m : tie.Need-add-m Inv-loop μ-loop
 add-m c = omega (arith, again c .few, again c .within)
 
 add-i : tie.Need-add-i Inv-loop μ-loop
-add-i c = omega (arith, fine (c .before .before .before) .1)
+add-i c = omega (arith, fits (c .before .before .before))
 
 loop-less : tie.Need-loop-less Inv-loop μ-loop
-loop-less c = omega (arith, fine (c .before .before .before) .1, fine (c .before .before .before) .0 .some)
+loop-less c = omega (arith, fits (c .before .before .before), fine (c .before .before .before) .some)
 
 loop-again : tie.Need-loop-again Inv-loop μ-loop
 loop-again c = again (c .before)
 
 returns : tie.Need-returns Inv-loop μ-loop
-returns c =
-    let a = c .before .before .before .args in
-    let l = c .before .loop in
-    count-end (pieceOf (a .e)) (a .s .now) (a .base) (l .i) (l .d) (l .n) (l .m) (c .loop-test .left) (l .inv)
+returns c = count-end (c .loop-test .left) (c .before .loop .inv)
 
 pub count-spec : {M : Type 1} → statement M
 count-spec =

@@ -1,12 +1,12 @@
 -- `emit` is right because each of the three things that a piece gives has its arm.
 -- Assumes nothing.
-use mathlib.Core.Path.{refl, sym, ap, _∙_}
+use mathlib.Core.Path.{ap}
 use native.Mathlib.Omega.{arith}
-use native.Mathlib.Nat.{add-zero}
 use borrow.Author.Needs.{needs}
 use lib.ListN.{length}
 use lib.Seq.{length-take-le}
 use Rattle.strings.proofs.PieceLaws.{gives-copy, gives-char, gives-nothing}
+use Rattle.strings.proofs.StoreLaws.{store-none}
 use Rattle.decoder.proofs.write.emit.Statement.{statement}
 use Rattle.decoder.proofs.write.emit.Tie as tie
 
@@ -17,7 +17,8 @@ copy-in-requires : tie.Need-copy-in-requires
 copy-in-requires c κs =
     let a = c .before .before .before .before .before in
     let all = ap length (gives-copy (a .args .p) (a .args .s .now) (c .before .enum-told .given .1)) in
-    (a .pre .0, omega (arith, all, length-take-le (a .args .p .take) (a .args .s .now) (a .pre .0)))
+    let fits = a .pre .0 .fits in
+    (fits, omega (arith, all, length-take-le (a .args .p .take) (a .args .s .now) fits))
 
 enum-known-g : tie.Need-enum-known-g
 enum-known-g c = search needs
@@ -26,7 +27,8 @@ put-char-requires : tie.Need-put-char-requires
 put-char-requires c κs =
     let a = c .before .before .before .before .before .before in
     let g = c .before .before .g in
-    (rw (g .given .1) at (a .pre .1), omega (arith, ap length (gives-char (a .args .p) (a .args .s .now) (g .given .0 .0) (g .given .1))))
+    let all = ap length (gives-char (a .args .p) (a .args .s .now) (g .given .0 .0) (g .given .1)) in
+    (rw (g .given .1) at (a .pre .0 .char), omega (arith, all))
 
 enum-told-2 : tie.Need-enum-told-2
 enum-told-2 c = search needs
@@ -39,8 +41,7 @@ returns c =
     let enum-told = c .before .before .before .before .enum-told in
     let copy-in = c .before .before .copy-in in
     let a = c .before .before .before .before .before .before .before .before in
-    rw (gives-copy (a .args .p) (a .args .s .now) (enum-told .given .1))
-    (copy-in .ensures .0 ∙ rw (length-take-le (a .args .p .take) (a .args .s .now) (a .pre .0)), copy-in .ensures .1)
+    rw (gives-copy (a .args .p) (a .args .s .now) (enum-told .given .1)) (copy-in .ensures)
 
 same-length-2 : tie.Need-same-length-2
 same-length-2 c = search needs
@@ -54,7 +55,7 @@ returns-2 c =
 returns-3 : tie.Need-returns-3
 returns-3 c =
     let args = c .before .before .before .before .args in
-    rw (gives-nothing (args .p) (args .s .now) (c .enum-told2 .given .1)) (sym (add-zero _), refl)
+    rw (gives-nothing (args .p) (args .s .now) (c .enum-told2 .given .1)) (store-none _ _)
 
 pub emit-spec : {M : Type 1} → statement M
 emit-spec =

@@ -1,9 +1,8 @@
 -- `miss` is right because a mark that is missing is one record, and one that is there is none.
 -- Assumes nothing.
-use mathlib.Core.Path.{refl, sym}
 use native.Mathlib.Omega.{arith}
-use native.Mathlib.Nat.{add-zero}
 use borrow.Author.Needs.{needs}
+use Rattle.strings.proofs.StoreLaws.{store-none}
 use Rattle.decoder.proofs.write.miss.Statement.{statement}
 use Rattle.decoder.proofs.write.miss.Tie as tie
 
@@ -11,7 +10,7 @@ put-error-requires : tie.Need-put-error-requires
 put-error-requires c κs = omega (arith, rw (c .before .if1 .left) at (c .before .before .pre))
 
 returns : tie.Need-returns
-returns c = rw (c .if1 .taken) (sym (add-zero _), refl)
+returns c = rw (c .if1 .taken) (store-none _ _)
 
 same-length : tie.Need-same-length
 same-length c = search needs

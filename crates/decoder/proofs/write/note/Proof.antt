@@ -1,11 +1,11 @@
 -- `note` is right because a piece has at most one error, which is one record.
 -- Assumes nothing.
-use mathlib.Core.Path.{refl, sym, ap}
+use mathlib.Core.Path.{ap}
 use native.Mathlib.Omega.{arith}
-use native.Mathlib.Nat.{add-zero}
 use borrow.Author.Needs.{needs}
 use lib.ListN.{length}
 use Rattle.strings.proofs.PieceLaws.{notes-none, notes-one}
+use Rattle.strings.proofs.StoreLaws.{store-none}
 use Rattle.decoder.proofs.write.note.Statement.{statement}
 use Rattle.decoder.proofs.write.note.Tie as tie
 
@@ -13,7 +13,7 @@ put-error-requires : tie.Need-put-error-requires
 put-error-requires c κs = omega (arith, ap length (notes-one (c .before .before .before .args .p) (c .before .if1 .left)))
 
 returns : tie.Need-returns
-returns c = rw (notes-none (c .before .before .args .p) (c .if1 .taken)) (sym (add-zero _), refl)
+returns c = rw (notes-none (c .before .before .args .p) (c .if1 .taken)) (store-none _ _)
 
 same-length : tie.Need-same-length
 same-length c = search needs

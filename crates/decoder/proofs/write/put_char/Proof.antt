@@ -2,7 +2,6 @@
 -- Assumes nothing.
 use native.Mathlib.Omega.{arith}
 use borrow.Author.Needs.{needs}
-use Rattle.strings.proofs.LoopLaws.{bytes}
 use Rattle.decoder.proofs.WriteLaws.{encoded-len, encoded-fits, encoded-bytes}
 use Rattle.decoder.proofs.write.put_char.Statement.{statement}
 use Rattle.decoder.proofs.write.put_char.Tie as tie
@@ -28,9 +27,7 @@ returns : tie.Need-returns
 returns c =
     let a = c .before .before .before .before .before .before .before .before in
     let e = c .before .before .before .before .before .before .encode in
-    let long = encoded-len (a .args .c) (a .pre .0) (e .result) (e .ensures) in
-    let bytes = encoded-bytes (a .args .c) (a .pre .0) (e .result) (e .ensures) in
-    (omega (arith, c .before .before .copy-in .ensures .0), rw bytes at (c .before .before .copy-in .ensures .1))
+    rw (encoded-bytes (a .args .c) (a .pre .0) (e .result) (e .ensures)) at (c .before .before .copy-in .ensures)
 
 pub put-char-spec : {M : Type 1} → statement M
 put-char-spec =

@@ -23,18 +23,20 @@ enum-told-2 c = search needs
 returns : tie.Need-returns
 returns c =
     let a = c .before .before .before in
-    rw (gives-copy (a .args .p) (a .args .s .now) (c .enum-told .given .1)) (sym (length-take-le (a .args .p .take) (a .args .s .now) (a .pre .0)))
+    let s = a .args .s .now in
+    rw (gives-copy (a .args .p) s (c .enum-told .given .1)) (sym (length-take-le (a .args .p .take) s (a .pre .fits)))
 
 returns-2 : tie.Need-returns-2
 returns-2 c =
-    let encode = c .encode in
     let a = c .before .before .before .before .before in
-    let g = c .before .before .g in
-    let scalar = rw (g .given .1) at (a .pre .1) in
-    rw (gives-char (a .args .p) (a .args .s .now) (g .given .0 .0) (g .given .1)) (encoded-len _ scalar (encode .result) (encode .ensures))
+    let g = c .before .before .g .given in
+    let scalar = rw (g .1) at (a .pre .char) in
+    rw (gives-char (a .args .p) (a .args .s .now) (g .0 .0) (g .1)) (encoded-len _ scalar (c .encode .result) (c .encode .ensures))
 
 returns-3 : tie.Need-returns-3
-returns-3 c = rw (gives-nothing (c .before .before .before .args .p) (c .before .before .before .args .s .now) (c .enum-told2 .given .1))
+returns-3 c =
+    let a = c .before .before .before .args in
+    rw (gives-nothing (a .p) (a .s .now) (c .enum-told2 .given .1))
 
 pub width-spec : {M : Type 1} → statement M
 width-spec =
