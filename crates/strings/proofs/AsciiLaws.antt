@@ -102,14 +102,17 @@ front-low p low (suc n) (b ∷ s) h = go (p b) refl h (front-low p low n s)
     go true e l ih = utf8-append (b ∷ []) (take n s) (one-utf8 b (low b e)) (ih (omega arith))
     go false e l ih = absurd (omega arith)
 
+-- place n is the end, or a byte that is P stands there
+abbrev pub EndsAt : (ℕ → Type 0) → List ℕ → ℕ → Type 0
+EndsAt P s n = (n ≡ length s) ⊎ ((n < length s) × P (getD s n 0))
+
 -- a run goes to the end, or to a byte that is not of the class
-pub run-ends : (p : ℕ → Bool) (s : List ℕ) → (run p s ≡ length s) ⊎ ((run p s < length s) × (p (getD s (run p s) 0) ≡ false))
+pub run-ends : (p : ℕ → Bool) (s : List ℕ) → EndsAt (λ b. p b ≡ false) s (run p s)
 unfolding run
 run-ends p [] = inl refl
 run-ends p (b ∷ s) = go (p b) refl (run-ends p s)
   where
-    go : (t : Bool) → p b ≡ t → (run p s ≡ length s) ⊎ ((run p s < length s) × (p (getD s (run p s) 0) ≡ false))
-        → (cond t (suc (run p s)) 0 ≡ suc (length s)) ⊎ ((cond t (suc (run p s)) 0 < suc (length s)) × (p (getD (b ∷ s) (cond t (suc (run p s)) 0) 0) ≡ false))
+    go : (t : Bool) → p b ≡ t → EndsAt (λ b. p b ≡ false) s (run p s) → EndsAt (λ b. p b ≡ false) (b ∷ s) (cond t (suc (run p s)) 0)
     go true e (inl i) = inl (ap suc i)
     go true e (inr i) = inr (omega arith, i .1)
     go false e i = inr (omega arith, e)
@@ -118,9 +121,10 @@ run-ends p (b ∷ s) = go (p b) refl (run-ends p s)
 pub front-high : (p : ℕ → Bool) → High p → (s : List ℕ) → Utf8 s → Utf8 (take (run p s) s)
 front-high p high s u = cut-at s (run p s) u (⊎-elim inl stop (run-ends p s)) .0
   where
-    stop : (run p s < length s) × (p (getD s (run p s) 0) ≡ false)
-        → (run p s ≡ length s) ⊎ ((run p s < length s) × ((getD s (run p s) 0 < 0x80) ⊎ (0xC0 ≤ getD s (run p s) 0)))
-    stop (l, e) = elim (decLt (getD s (run p s) 0) 0x80) [ yes h ↦ inr (l, inl h) | no h ↦ not-both (high (getD s (run p s) 0) (omega arith)) e ]
+    stop : (run p s < length s) × (p (getD s (run p s) 0) ≡ false) → EndsAt (λ b. (b < 0x80) ⊎ (0xC0 ≤ b)) s (run p s)
+    stop (l, e) =
+        let b = getD s (run p s) 0 in
+        elim (decLt b 0x80) [ yes h ↦ inr (l, inl h) | no h ↦ not-both (high b (omega arith)) e ]
 
 -- what stands behind UTF-8 in UTF-8 is UTF-8
 pub utf8-behind : (p q : List ℕ) → Utf8 p → Utf8 (p ++ q) → Utf8 q

@@ -27,12 +27,14 @@ notes-clean p h = go (ℕ-discrete (p .err) 0)
     go (no e) = absurd (omega (arith, ap length (notes-one p e)))
 
 module _ (P : Pieces) (fine : Fine P) where
-  collect-most : (k : ℕ) (d : Bool) (at : ℕ) (s : List ℕ) → k ≤ length s → 2 * length (collect P gives k d at s) ≤ 3 * (length s - k)
+  collect-most : (k : ℕ) (d : Bool) (at : ℕ) (s : List ℕ) → k ≤ length s
+      → 2 * length (collect P gives k d at s) ≤ 3 * (length s - k)
   collect-most k d at [] h = omega arith
   collect-most zero d at (b ∷ r) h =
       let p = P d at (b ∷ r) in
       let f = fine d at (b ∷ r) (omega arith) in
-      rw length-append (omega (arith, f .small, f .some, f .fits, collect-most (pred (p .take)) (p .dropping) (suc at) r (omega (arith, f .fits))))
+      let on = collect-most (pred (p .take)) (p .dropping) (suc at) r (omega (arith, f .fits)) in
+      rw length-append (omega (arith, f .small, f .some, f .fits, on))
   collect-most (suc k) d at (b ∷ r) h = omega (arith, collect-most k d (suc at) r (omega arith))
 
   collect-quiet : (k : ℕ) (d : Bool) (at : ℕ) (s : List ℕ) → k ≤ length s → length (collect P notesAt k d at s) ≡ 0
@@ -43,7 +45,8 @@ module _ (P : Pieces) (fine : Fine P) where
       let f = fine d at (b ∷ r) (omega arith) in
       let n = rw length-append at e in
       let q = f .quiet (notes-clean p (omega (arith, n))) in
-      rw length-append (omega (arith, q, f .some, f .fits, collect-quiet (pred (p .take)) (p .dropping) (suc at) r (omega (arith, f .fits)) (omega (arith, n))))
+      let on = collect-quiet (pred (p .take)) (p .dropping) (suc at) r (omega (arith, f .fits)) (omega (arith, n)) in
+      rw length-append (omega (arith, q, f .some, f .fits, on))
   collect-quiet (suc k) d at (b ∷ r) h e = omega (arith, collect-quiet k d (suc at) r (omega arith) e)
 
   collect-few : (k : ℕ) (d : Bool) (at : ℕ) (s : List ℕ) → k ≤ length s → length (collect P notesAt k d at s) ≤ length s - k
@@ -51,7 +54,8 @@ module _ (P : Pieces) (fine : Fine P) where
   collect-few zero d at (b ∷ r) h =
       let p = P d at (b ∷ r) in
       let f = fine d at (b ∷ r) (omega arith) in
-      rw length-append (omega (arith, notes-few p, f .some, f .fits, collect-few (pred (p .take)) (p .dropping) (suc at) r (omega (arith, f .fits))))
+      let on = collect-few (pred (p .take)) (p .dropping) (suc at) r (omega (arith, f .fits)) in
+      rw length-append (omega (arith, notes-few p, f .some, f .fits, on))
   collect-few (suc k) d at (b ∷ r) h = omega (arith, collect-few k d (suc at) r (omega arith))
 
 body-le : (k : Encoding) (t : List ℕ) → length (bodyOf (endsOf k t) t) ≤ length t
@@ -65,14 +69,18 @@ module _ (k : Encoding) (t : List ℕ) where
   -- twice the decoded length is at most three times the text's
   pub bytes-most : 2 * length (bytesOf k t) ≤ 3 * length t
   unfolding bytesOf
-  bytes-most = omega (arith, collect-most (pieceOf k) (piece-fine k) 0 false (endsOf k t .start) (bodyOf (endsOf k t) t) (omega arith), body-le k t)
+  bytes-most =
+      let d = endsOf k t in
+      omega (arith, collect-most (pieceOf k) (piece-fine k) 0 false (d .start) (bodyOf d t) (omega arith), body-le k t)
 
   -- and without an error the decoded length is at most the text's
   pub bytes-quiet : errorsOf k t ≡ [] → length (bytesOf k t) ≤ length t
   unfolding bytesOf errorsOf
   bytes-quiet e =
       let n = simp length-append at (ap length e) in
-      omega (arith, collect-quiet (pieceOf k) (piece-fine k) 0 false (endsOf k t .start) (bodyOf (endsOf k t) t) (omega arith) (omega (arith, n)), body-le k t)
+      let d = endsOf k t in
+      let body = collect-quiet (pieceOf k) (piece-fine k) 0 false (d .start) (bodyOf d t) (omega arith) (omega (arith, n)) in
+      omega (arith, body, body-le k t)
 
   -- errors number at most the text's length plus two
   pub errors-few : length (errorsOf k t) ≤ length t + 2

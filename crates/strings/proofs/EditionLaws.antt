@@ -185,7 +185,10 @@ chosen-later kind = go (eqb kind 39) (eqb kind 34) (eqb kind 1) (eqb kind 2) (eq
     pick : Edition → (p q r s t : Bool) → Refusal → Choice
     pick v p q r s t n =
         cond p (Known LiteralString)
-        (cond q (Known (BasicString v)) (cond r (Known MlLiteralString) (cond s (Known (MlBasicString v)) (cond t (Known UnquotedKey) (Unknown n)))))
+        (cond q (Known (BasicString v))
+        (cond r (Known MlLiteralString)
+        (cond s (Known (MlBasicString v))
+        (cond t (Known UnquotedKey) (Unknown n)))))
 
     go : (p q r s t : Bool) (n : Refusal) → pick Toml11 p q r s t n ≡ laterChoice (pick Toml10 p q r s t n)
     go true q r s t n = refl

@@ -67,7 +67,8 @@ unfolding hexFrom
 hex-snoc v [] b = refl
 hex-snoc v (a ∷ s) b = hex-snoc (v * 16 + hexValue a) s b
 
-pub hex-more : (s : List ℕ) (i : ℕ) → i < length s → hexFrom 0 (take (i + 1) s) ≡ hexFrom 0 (take i s) * 16 + hexValue (getD s i 0)
+pub hex-more : (s : List ℕ) (i : ℕ) → i < length s
+    → hexFrom 0 (take (i + 1) s) ≡ hexFrom 0 (take i s) * 16 + hexValue (getD s i 0)
 hex-more s i h = rw (add-one, take-suc s i 0 h) (hex-snoc 0 (take i s) (getD s i 0))
 
 -- ---- pieces, case by case
@@ -79,11 +80,13 @@ module _ (n at : ℕ) (s : List ℕ) where
       let l : run hexdig s < n = omega arith in
       rw (lt-ltb _ _ l, e)
 
-  pub hex-char : (v : ℕ) → n ≤ run hexdig s → v ≡ hexFrom 0 (take n s) → isScalar v ≡ true → charPiece (2 + n) v 0 0 ≡ hexPiece n at s
+  pub hex-char : (v : ℕ) → n ≤ run hexdig s → v ≡ hexFrom 0 (take n s) → isScalar v ≡ true
+      → charPiece (2 + n) v 0 0 ≡ hexPiece n at s
   unfolding hexPiece
   hex-char v h e t = rw (le-ltb _ _ h, ← e, t)
 
-  pub hex-none : (v : ℕ) → n ≤ run hexdig s → v ≡ hexFrom 0 (take n s) → isScalar v ≡ false → charPiece (2 + n) 0xFFFD 10 (at + 2) ≡ hexPiece n at s
+  pub hex-none : (v : ℕ) → n ≤ run hexdig s → v ≡ hexFrom 0 (take n s) → isScalar v ≡ false
+      → charPiece (2 + n) 0xFFFD 10 (at + 2) ≡ hexPiece n at s
   unfolding hexPiece
   hex-none v h e t = rw (le-ltb _ _ h, ← e, t)
 
@@ -92,11 +95,13 @@ module _ (v : Edition) (at : ℕ) (s : List ℕ) where
   unfolding escapePiece
   escape-hex n e h = rw (← e, lt-ltb _ _ h)
 
-  pub escape-simple : (n c : ℕ) → n ≡ hexLength v (getD s 0 0) → n ≤ 0 → c ≡ simpleEscape v (getD s 0 0) → 0 < c → charPiece 2 c 0 0 ≡ escapePiece v at s
+  pub escape-simple : (n c : ℕ) → n ≡ hexLength v (getD s 0 0) → n ≤ 0 → c ≡ simpleEscape v (getD s 0 0) → 0 < c
+      → charPiece 2 c 0 0 ≡ escapePiece v at s
   unfolding escapePiece
   escape-simple n c e h f l = rw (← e, le-ltb _ _ h, ← f, lt-ltb _ _ l)
 
-  pub escape-none : (n c : ℕ) → n ≡ hexLength v (getD s 0 0) → n ≤ 0 → c ≡ simpleEscape v (getD s 0 0) → c ≤ 0 → charPiece 1 0x5C 8 (at + 1) ≡ escapePiece v at s
+  pub escape-none : (n c : ℕ) → n ≡ hexLength v (getD s 0 0) → n ≤ 0 → c ≡ simpleEscape v (getD s 0 0) → c ≤ 0
+      → charPiece 1 0x5C 8 (at + 1) ≡ escapePiece v at s
   unfolding escapePiece
   escape-none n c e h f l = rw (← e, le-ltb _ _ h, ← f, le-ltb _ _ l)
 

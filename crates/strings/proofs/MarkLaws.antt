@@ -119,7 +119,8 @@ module _ (q a : ℕ) (t : List ℕ) where
   unfolding mlEnd
   end-whole = refl
 
-pub ml-is : (trims : Bool) (q : ℕ) (t : List ℕ) (o c : Bool) (a e : ℕ) → o ≡ threes q t → a ≡ mlStart o t → c ≡ mlClosed q a t → e ≡ mlEnd trims q a t c
+pub ml-is : (trims : Bool) (q : ℕ) (t : List ℕ) (o c : Bool) (a e : ℕ)
+    → o ≡ threes q t → a ≡ mlStart o t → c ≡ mlClosed q a t → e ≡ mlEnd trims q a t c
     → record { opened = o; closed = c; start = a; end = e } ≡ mlEnds trims q t
 unfolding mlEnds
 ml-is trims q t o c a e eo ea ec ee = rw (ee, ec, ea, eo)

@@ -22,7 +22,8 @@ sets-append l i [] b = rw add-zero
 sets-append l i (x ∷ a) b = rw (add-suc, ← suc-add) (sets-append (set l i x) (suc i) a b)
 
 -- one run behind another
-pub store-append : {A : Type 0} {l l₁ l₂ a b : List A} {i m₁ m₂ : ℕ} → Stored l i a m₁ l₁ → Stored l₁ m₁ b m₂ l₂ → Stored l i (a ++ b) m₂ l₂
+pub store-append : {A : Type 0} {l l₁ l₂ a b : List A} {i m₁ m₂ : ℕ} → Stored l i a m₁ l₁ → Stored l₁ m₁ b m₂ l₂
+    → Stored l i (a ++ b) m₂ l₂
 store-append {l = l} {a = a} {b = b} {i = i} p q =
     record {
       place = omega (arith, p .place, q .place, length-append a b);
@@ -45,7 +46,8 @@ module _ (s out : List ℕ) (o : ℕ) where
   copy-none n = rw (add-zero, sub-zero)
 
   pub copy-more : (n j : ℕ) → j < n → j < length s
-      → sets (set out (o + j) (getD s j 0)) (o + (j + 1)) (take (n - (j + 1)) (drop (j + 1) s)) ≡ sets out (o + j) (take (n - j) (drop j s))
+      → sets (set out (o + j) (getD s j 0)) (o + (j + 1)) (take (n - (j + 1)) (drop (j + 1) s))
+      ≡ sets out (o + j) (take (n - j) (drop j s))
   copy-more n j h l =
       let e : n - j ≡ suc (n - (j + 1)) = omega arith in
       let f : o + (j + 1) ≡ suc (o + j) = omega arith in

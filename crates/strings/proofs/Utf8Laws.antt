@@ -37,7 +37,7 @@ use Rattle.strings.proofs.Fine.{Fine}
 use Rattle.strings.proofs.EscapeLaws.{hex-letter, simple-ascii}
 use Rattle.strings.proofs.BodyLaws.{piece-fine}
 use Rattle.strings.proofs.MarkLaws.{ends-within, threes-long, closed-long, closed-threes}
-use Rattle.strings.proofs.AsciiLaws.{basic-high, mlb-high, basic-invalid-low, mlb-invalid-low, wschar-low, hexdig-low, skips-low, nil-utf8, front-one, front-add, front-low, front-high, behind-at, between}
+use Rattle.strings.proofs.AsciiLaws.{EndsAt, basic-high, mlb-high, basic-invalid-low, mlb-invalid-low, wschar-low, hexdig-low, skips-low, nil-utf8, front-one, front-add, front-low, front-high, behind-at, between}
 
 -- ---- bodies that are given as they stand
 
@@ -98,8 +98,11 @@ module _ (at : ℕ) (s : List ℕ) (slash : getD s 0 0 ≡ 0x5C) where
   two : getD (drop 1 s) 0 0 < 0x80 → 0 < getD (drop 1 s) 0 0 → Utf8 (take 2 s)
   two l h = front-add 1 1 s one (front-one (drop 1 s) (there (drop 1 s) 0 h) l)
 
-  digits : (k : ℕ) → getD (drop 1 s) 0 0 < 0x80 → 0 < getD (drop 1 s) 0 0 → k ≤ run hexdig (drop 1 (drop 1 s)) → Utf8 (take (2 + k) s)
-  digits k l h n = front-add 2 k s (two l h) (front-low hexdig hexdig-low k (drop 2 s) (subst (λ (r : List ℕ). k ≤ run hexdig r) (drop-drop 1 1 s) n))
+  digits : (k : ℕ) → getD (drop 1 s) 0 0 < 0x80 → 0 < getD (drop 1 s) 0 0 → k ≤ run hexdig (drop 1 (drop 1 s))
+      → Utf8 (take (2 + k) s)
+  digits k l h n =
+      let there-2 = subst (λ (r : List ℕ). k ≤ run hexdig r) (drop-drop 1 1 s) n in
+      front-add 2 k s (two l h) (front-low hexdig hexdig-low k (drop 2 s) there-2)
 
   hex-whole : (n : ℕ) → getD (drop 1 s) 0 0 < 0x80 → 0 < getD (drop 1 s) 0 0 → Whole s (hexPiece n at (drop 1 (drop 1 s)))
   unfolding hexPiece
@@ -135,13 +138,17 @@ module _ (at : ℕ) (s : List ℕ) (slash : getD s 0 0 ≡ 0x5C) where
   line-whole : (w : ℕ) → w ≤ run wschar (drop 1 s) → Whole s (escapedLine at w (getD (drop 1 s) w 0) (getD (drop 1 s) (w + 1) 0))
   line-whole w h =
       let u = blanks w h in
-      by-eq (Whole s) (getD (drop 1 s) w 0) 0x0A (λ e. whole-drop s (2 + w) 0 0 (same-front (1 + w + 1) (2 + w) (omega arith) (behind w (omega arith) (omega arith) u)))
-      λ e. by-eq (Whole s) (getD (drop 1 s) w 0) 0x0D
+      let b = getD (drop 1 s) w 0 in
+      let next : 0 < b → b < 0x80 → Utf8 (take (2 + w) s) = λ some low. same-front (1 + w + 1) (2 + w) (omega arith) (behind w some low u) in
+      by-eq (Whole s) b 0x0A (λ e. whole-drop s (2 + w) 0 0 (next (omega arith) (omega arith)))
+      λ e. by-eq (Whole s) b 0x0D
       (λ f.
-      let v : Utf8 (take (2 + w) s) = same-front (1 + w + 1) (2 + w) (omega arith) (behind w (omega arith) (omega arith) u) in
+      let v = next (omega arith) (omega arith) in
       let x : Utf8 (take (1 + (w + 1)) s) = same-front (2 + w) (1 + (w + 1)) (omega arith) v in
       by-eq (Whole s) (getD (drop 1 s) (w + 1) 0) 0x0A
-      (λ g. whole-drop s (3 + w) 0 0 (same-front (1 + (w + 1) + 1) (3 + w) (omega arith) (behind (w + 1) (omega arith) (omega arith) x)))
+      (λ g.
+      let y = behind (w + 1) (omega arith) (omega arith) x in
+      whole-drop s (3 + w) 0 0 (same-front (1 + (w + 1) + 1) (3 + w) (omega arith) y))
       (λ g. whole-drop s (2 + w) 4 _ v))
       (λ f. whole-drop s (1 + w) 13 _ u)
 
@@ -264,17 +271,16 @@ module _ (q : ℕ) (low : q < 0x80) where
       let g : getD (drop 2 s) 0 0 ≡ q = getD-drop 2 s 0 0 ∙ z in
       let long-1 : 0 < length (drop 1 s) = omega (arith, length-drop 1 s) in
       let long-2 : 0 < length (drop 2 s) = omega (arith, length-drop 2 s) in
-      (x, front-add 2 1 s (front-add 1 1 s (front-one s (omega arith) (omega arith)) (front-one (drop 1 s) long-1 (omega arith))) (front-one (drop 2 s) long-2 (omega arith)))
+      let two-in = front-add 1 1 s (front-one s (omega arith) (omega arith)) (front-one (drop 1 s) long-1 (omega arith)) in
+      (x, front-add 2 1 s two-in (front-one (drop 2 s) long-2 (omega arith)))
 
-  trimmed-ends : (s : List ℕ) → (trimmed q s ≡ length s) ⊎ ((trimmed q s < length s) × (getD s (trimmed q s) 0 ≡ q))
+  trimmed-ends : (s : List ℕ) → EndsAt (λ b. b ≡ q) s (trimmed q s)
   unfolding trimmed
   trimmed-ends [] = inl refl
   trimmed-ends (b ∷ r) = go (eqb (trimmed q r) 0) (eqb b q) refl refl (trimmed-ends r)
     where
-      go : (x y : Bool) → eqb (trimmed q r) 0 ≡ x → eqb b q ≡ y
-          → (trimmed q r ≡ length r) ⊎ ((trimmed q r < length r) × (getD r (trimmed q r) 0 ≡ q))
-          → (cond x (cond y 0 1) (suc (trimmed q r)) ≡ suc (length r))
-          ⊎ ((cond x (cond y 0 1) (suc (trimmed q r)) < suc (length r)) × (getD (b ∷ r) (cond x (cond y 0 1) (suc (trimmed q r))) 0 ≡ q))
+      go : (x y : Bool) → eqb (trimmed q r) 0 ≡ x → eqb b q ≡ y → EndsAt (λ b. b ≡ q) r (trimmed q r)
+          → EndsAt (λ b. b ≡ q) (b ∷ r) (cond x (cond y 0 1) (suc (trimmed q r)))
       go true true p m i = inr (omega arith, eqb-true b q m)
       go true false p m (inl i) = inl (omega (arith, eqb-true (trimmed q r) 0 p))
       go true false p m (inr i) =
@@ -294,8 +300,9 @@ module _ (q : ℕ) (low : q < 0x80) where
     end-utf8 trims a true h =
         let l = closed-long q a t (h refl) in
         let e = threes-front (drop (length t - 3) t) (closed-threes q a t (h refl)) .0 in
-        let f : getD t (length t - 3) 0 ≡ q = ap (λ (n : ℕ). getD t n 0) (sym (add-zero (length t - 3))) ∙ sym (getD-drop (length t - 3) t 0 0) ∙ e in
-        cut-mark t q (length t - 3) low u (omega arith) f
+        let n = length t - 3 in
+        let f : getD t n 0 ≡ q = ap (λ (n : ℕ). getD t n 0) (sym (add-zero n)) ∙ sym (getD-drop n t 0 0) ∙ e in
+        cut-mark t q n low u (omega arith) f
     end-utf8 true a false h = ⊎-elim
         (λ e. elim (native.Mathlib.Decide.decLe a (length t)) [
           | yes l ↦ let same : a + trimmed q (drop a t) ≡ length t = omega (arith, length-drop a t) in rw same (cut-end t u)

@@ -1,5 +1,5 @@
--- RULE. Which numbers of a kind and an edition ask for which decoder, and what the kinds differ in: the error number of a missing mark, the
--- bytes that stand for themselves, and those that are not allowed.
+-- RULE. Which numbers of a kind and an edition ask for which decoder, and what the kinds differ in: the error number of a
+-- missing mark, the bytes that stand for themselves, and those that are not allowed.
 -- Assumes nothing.
 use Prim.Native.Nat.{ℕ}
 use mathlib.Core.Bool.{Bool, cond, not, _||_}

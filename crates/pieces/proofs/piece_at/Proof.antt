@@ -20,16 +20,17 @@ copy-piece-requires-2 c κs = search needs
 
 returns-2 : tie.Need-returns-2
 returns-2 c =
-    let args = c .before .before .before .before .args in
-    c .copy-piece2 .ensures ∙ piece-long (args .e) (args .dropping) (args .at) (args .s .now) (omega arith) (c .before .if2 .taken)
+    let a = c .before .before .before .before .args in
+    c .copy-piece2 .ensures ∙ piece-long (a .e) (a .dropping) (a .at) (a .s .now) (omega arith) (c .before .if2 .taken)
 
 copy-piece-requires-3 : tie.Need-copy-piece-requires-3
 copy-piece-requires-3 c κs = search needs
 
 returns-3 : tie.Need-returns-3
 returns-3 c =
-    let args = c .before .before .before .before .before .args in
-    c .copy-piece3 .ensures ∙ piece-far (args .e) (args .dropping) (args .at) (args .s .now) (omega arith) (c .before .before .if2 .left) (c .before .if3 .taken)
+    let a = c .before .before .before .before .before .args in
+    let fits = c .before .before .if2 .left in
+    c .copy-piece3 .ensures ∙ piece-far (a .e) (a .dropping) (a .at) (a .s .now) (omega arith) fits (c .before .if3 .taken)
 
 enum-told : tie.Need-enum-told
 enum-told c = search needs
@@ -63,23 +64,21 @@ decode-unquoted-key-requires c κs = search needs
 
 returns-4 : tie.Need-returns-4
 returns-4 c =
-    let args = c .before .before .before .before .before .before .before .args in
+    let a = c .before .before .before .before .before .before .before .args in
     let if2 = c .before .before .before .before .if2 in
     let if3 = c .before .before .before .if3 in
     let enum-told = c .before .enum-told in
     let decode-literal-string = c .decode-literal-string in
-    let a = args in
     let rule = piece-is (a .e) (a .dropping) (a .at) (a .s .now) (omega arith) (if2 .left) (if3 .left) in
     rw (enum-told .given .1) (decode-literal-string .ensures ∙ rw (enum-told .given .1) at rule)
 
 returns-5 : tie.Need-returns-5
 returns-5 c =
-    let args = c .before .before .before .before .before .before .before .args in
+    let a = c .before .before .before .before .before .before .before .args in
     let if2 = c .before .before .before .before .if2 in
     let if3 = c .before .before .before .if3 in
     let enum-told2 = c .before .enum-told2 in
     let decode-ml-literal-string = c .decode-ml-literal-string in
-    let a = args in
     let rule = piece-is (a .e) (a .dropping) (a .at) (a .s .now) (omega arith) (if2 .left) (if3 .left) in
     rw (enum-told2 .given .1) (decode-ml-literal-string .ensures ∙ rw (enum-told2 .given .1) at rule)
 

@@ -29,7 +29,9 @@ stops-of-requires : tie.Need-stops-of-requires Inv-loop μ-loop
 stops-of-requires c κs = search needs
 
 loop-holds : tie.Need-loop-holds Inv-loop μ-loop
-loop-holds c = (omega arith, λ e w q f t d l m. block-start (plain e) (c .before .before .args .s .now) (c .before .before .args .i))
+loop-holds c =
+    let a = c .before .before .args in
+    (omega arith, λ e w q f t d l m. block-start (plain e) (a .s .now) (a .i))
 
 add-b : tie.Need-add-b Inv-loop μ-loop
 add-b c = omega arith
@@ -63,7 +65,8 @@ loop-again c =
           let off-m = flag-off _ _ (c .if5 .came) m in
           let clear = clear-plain e v b (w .result) byte (omega arith) (w .ensures)
           (rw q (off-f .1 .left)) (rw q (off-t .1 .left)) (off-d .1 .left) (rw q (off-l .1 .left)) (rw q (off-m .1 .left)) in
-          block-step (plain e) s i (at .j) (omega arith) clear (at .inv .1 e v q (off-f .0) (off-t .0) (off-d .0) (off-l .0) (off-m .0)),
+          let passed = at .inv .1 e v q (off-f .0) (off-t .0) (off-d .0) (off-l .0) (off-m .0) in
+          block-step (plain e) s i (at .j) (omega arith) clear passed,
     )
 
 none-set-requires : tie.Need-none-set-requires Inv-loop μ-loop
@@ -72,10 +75,12 @@ none-set-requires c κs = search needs
 returns : tie.Need-returns Inv-loop μ-loop
 returns c = λ h.
     let a = c .before .before .before .before .before .args in
+    let wide = c .before .before .before .before .before .pre .0 in
     let at = c .before .before .loop in
+    let stops = sym (c .before .before .before .stops-of .ensures) in
     let off = c .none-set .ensures h in
-    block-end (plain (a .e)) (a .s .now) (a .i) (at .j) (a .n) (omega arith)
-    (at .inv .1 (a .e) (c .before .before .before .before .before .pre .0) (sym (c .before .before .before .stops-of .ensures)) (off .first-off) (off .second-off) (off .delete-off) (off .low-off) (off .mid-off))
+    let passed = at .inv .1 (a .e) wide stops (off .first-off) (off .second-off) (off .delete-off) (off .low-off) (off .mid-off) in
+    block-end (plain (a .e)) (a .s .now) (a .i) (at .j) (a .n) (omega arith) passed
 
 pub plain-block-spec : {M : Type 1} → statement M
 plain-block-spec =

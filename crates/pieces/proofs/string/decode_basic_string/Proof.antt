@@ -21,10 +21,9 @@ copy-piece-requires c κs = search needs
 returns : tie.Need-returns
 unfolding basicPiece
 returns c =
-    let basic-unescaped = c .before .before .basic-unescaped in
+    let n = c .before .before .basic-unescaped in
     let args = c .before .before .before .before .args in
     let pre = c .before .before .before .before .pre in
-    let n = basic-unescaped in
     c .copy-piece .ensures ∙ rw (run-first basicUnescaped (args .s .now) (pre .0) _ (n .ensures) (c .before .if1 .taken), ← (n .ensures))
 
 shared-slice-read-if2 : tie.Need-shared-slice-read-if2

@@ -17,10 +17,9 @@ copy-piece-requires c κs = search needs
 returns : tie.Need-returns
 unfolding literalPiece
 returns c =
-    let literal-chars = c .before .before .literal-chars in
+    let n = c .before .before .literal-chars in
     let args = c .before .before .before .before .args in
     let pre = c .before .before .before .before .pre in
-    let n = literal-chars in
     c .copy-piece .ensures ∙ rw (run-first literalChar (args .s .now) pre _ (n .ensures) (c .before .if1 .taken), ← (n .ensures))
 
 copy-piece-requires-2 : tie.Need-copy-piece-requires-2
@@ -29,10 +28,9 @@ copy-piece-requires-2 c κs = search needs
 returns-2 : tie.Need-returns-2
 unfolding literalPiece
 returns-2 c =
-    let literal-chars = c .before .before .literal-chars in
+    let n = c .before .before .literal-chars in
     let args = c .before .before .before .before .args in
     let pre = c .before .before .before .before .pre in
-    let n = literal-chars in
     c .copy-piece2 .ensures ∙ rw (run-none literalChar (args .s .now) pre _ (n .ensures) (c .before .if1 .left))
 
 pub decode-literal-string-spec : {M : Type 1} → statement M

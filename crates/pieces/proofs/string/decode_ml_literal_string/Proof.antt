@@ -18,10 +18,9 @@ copy-piece-requires c κs = search needs
 returns : tie.Need-returns
 unfolding mlLiteralPiece
 returns c =
-    let mll-chars = c .before .before .mll-chars in
+    let n = c .before .before .mll-chars in
     let args = c .before .before .before .before .args in
     let pre = c .before .before .before .before .pre in
-    let n = mll-chars in
     c .copy-piece .ensures ∙ rw (run-first mllPlain (args .s .now) (pre .0) _ (n .ensures) (c .before .if1 .taken), ← (n .ensures))
 
 shared-slice-read-if2 : tie.Need-shared-slice-read-if2

@@ -40,14 +40,12 @@ char-piece-requires c κs = search needs
 
 returns : tie.Need-returns Inv-loop μ-loop
 returns c =
-    let args = c .before .before .before .before .before .before .before .args in
-    let loop = c .before .before .before .before .before .loop in
-    let peek = c .before .before .before .peek in
-    let is-hexdig = c .before .before .is-hexdig in
-    let a = args in
-    let l = loop in
-    let none = rw (peek .ensures) at (sym (is-hexdig .ensures) ∙ not-true _ (c .before .if1 .taken)) in
-    c .char-piece .ensures ∙ hex-few (a .digits) (a .at) (a .s .now) (l .i) (digits-few (a .digits) (a .s .now) (l .i) (l .value) (l .inv) none) (omega arith)
+    let a = c .before .before .before .before .before .before .before .args in
+    let l = c .before .before .before .before .before .loop in
+    let byte = c .before .before .before .peek .ensures in
+    let none = rw byte at (sym (c .before .before .is-hexdig .ensures) ∙ not-true _ (c .before .if1 .taken)) in
+    let few = digits-few (a .digits) (a .s .now) (l .i) (l .value) (l .inv) none in
+    c .char-piece .ensures ∙ hex-few (a .digits) (a .at) (a .s .now) (l .i) few (omega arith)
 
 mul-value : tie.Need-mul-value Inv-loop μ-loop
 mul-value c =
@@ -91,13 +89,11 @@ char-piece-requires-2 c κs = search needs
 
 returns-2 : tie.Need-returns-2 Inv-loop μ-loop
 returns-2 c =
-    let args = c .before .before .before .before .before .before .args in
-    let loop = c .before .before .before .before .loop in
-    let is-scalar = c .before .before .is-scalar in
-    let a = args in
-    let l = loop in
+    let a = c .before .before .before .before .before .before .args in
+    let l = c .before .before .before .before .loop in
     let all = digits-all (a .digits) (a .s .now) (l .i) (l .value) (l .inv) (omega arith) in
-    c .char-piece2 .ensures ∙ hex-char (a .digits) (a .at) (a .s .now) (l .value) (all .0) (all .1) (sym (is-scalar .ensures) ∙ c .before .if2 .taken)
+    let scalar = sym (c .before .before .is-scalar .ensures) ∙ c .before .if2 .taken in
+    c .char-piece2 .ensures ∙ hex-char (a .digits) (a .at) (a .s .now) (l .value) (all .0) (all .1) scalar
 
 add-char-piece-5 : tie.Need-add-char-piece-5 Inv-loop μ-loop
 add-char-piece-5 c = omega arith
@@ -110,13 +106,11 @@ char-piece-requires-3 c κs = search needs
 
 returns-3 : tie.Need-returns-3 Inv-loop μ-loop
 returns-3 c =
-    let args = c .before .before .before .before .before .before .args in
-    let loop = c .before .before .before .before .loop in
-    let is-scalar = c .before .before .is-scalar in
-    let a = args in
-    let l = loop in
+    let a = c .before .before .before .before .before .before .args in
+    let l = c .before .before .before .before .loop in
     let all = digits-all (a .digits) (a .s .now) (l .i) (l .value) (l .inv) (omega arith) in
-    c .char-piece3 .ensures ∙ hex-none (a .digits) (a .at) (a .s .now) (l .value) (all .0) (all .1) (sym (is-scalar .ensures) ∙ c .before .if2 .left)
+    let scalar = sym (c .before .before .is-scalar .ensures) ∙ c .before .if2 .left in
+    c .char-piece3 .ensures ∙ hex-none (a .digits) (a .at) (a .s .now) (l .value) (all .0) (all .1) scalar
 
 pub hexescape-spec : {M : Type 1} → statement M
 hexescape-spec =

@@ -20,10 +20,9 @@ copy-piece-requires c κs = search needs
 returns : tie.Need-returns
 unfolding mlbContent
 returns c =
-    let mlb-unescaped = c .before .before .mlb-unescaped in
+    let n = c .before .before .mlb-unescaped in
     let args = c .before .before .before .before .args in
     let pre = c .before .before .before .before .pre in
-    let n = mlb-unescaped in
     c .copy-piece .ensures ∙ rw (run-first mlbPlain (args .s .now) (pre .0) _ (n .ensures) (c .before .if1 .taken), ← (n .ensures))
 
 shared-slice-read-b : tie.Need-shared-slice-read-b
@@ -104,7 +103,9 @@ returns-4 c =
     let if4 = c .before .before .before .if4 in
     let peek2 = c .before .before .peek2 in
     let none = run-none mlbPlain (args .s .now) (pre .0) _ (mlb-unescaped .ensures) (if1 .left) in
-    c .copy-piece2 .ensures ∙ rw (none, ne-eqb _ 0x5C (if2 .left), eq-eqb _ 0x0D (if4 .taken), ← (peek2 .ensures), eq-eqb _ 0x0A (c .before .if5 .taken))
+    let other = ne-eqb _ 0x5C (if2 .left) in
+    let return = eq-eqb _ 0x0D (if4 .taken) in
+    c .copy-piece2 .ensures ∙ rw (none, other, return, ← (peek2 .ensures), eq-eqb _ 0x0A (c .before .if5 .taken))
 
 add-copy-piece : tie.Need-add-copy-piece
 add-copy-piece c = search needs
@@ -126,7 +127,9 @@ returns-5 c =
     let if4 = c .before .before .before .if4 in
     let peek2 = c .before .before .peek2 in
     let none = run-none mlbPlain (args .s .now) (pre .0) _ (mlb-unescaped .ensures) (if1 .left) in
-    c .copy-piece3 .ensures ∙ rw (none, ne-eqb _ 0x5C (if2 .left), eq-eqb _ 0x0D (if4 .taken), ← (peek2 .ensures), ne-eqb _ 0x0A (c .before .if5 .left))
+    let other = ne-eqb _ 0x5C (if2 .left) in
+    let return = eq-eqb _ 0x0D (if4 .taken) in
+    c .copy-piece3 .ensures ∙ rw (none, other, return, ← (peek2 .ensures), ne-eqb _ 0x0A (c .before .if5 .left))
 
 mlb-invalid-requires : tie.Need-mlb-invalid-requires
 mlb-invalid-requires c κs = search needs

@@ -1,15 +1,24 @@
 -- `mlb_escaped_nl` is right because behind the blanks there are the rule's four cases.
 -- Assumes nothing.
+use Prim.Native.Nat.{_≤_}
 use mathlib.Core.Path.{_≡_, _∙_}
 use native.Mathlib.Omega.{arith}
 use borrow.Author.Needs.{needs}
 use borrow.Author.Tests.{eq-eqb, ne-eqb}
+use lib.ListN.{length}
 use Rattle.classes.specs.Classes.{wschar}
 use Rattle.classes.specs.Runs.{run}
 use Rattle.classes.proofs.RunLaws.{run-le}
 use Rattle.strings.specs.Bodies.{escapedNl}
 use Rattle.pieces.proofs.string.mlb_escaped_nl.Statement.{statement}
 use Rattle.pieces.proofs.string.mlb_escaped_nl.Tie as tie
+
+-- the blanks behind the backslash, and that they lie within s
+blanks : (c : tie.After-run-from) → c .run-from .result ≡ run wschar (c .before .before .args .s .now)
+blanks c = omega (arith, c .run-from .ensures)
+
+within : (c : tie.After-run-from) → c .run-from .result ≤ length (c .before .before .args .s .now)
+within c = omega (arith, blanks c, run-le wschar (c .before .before .args .s .now))
 
 run-from-requires : tie.Need-run-from-requires
 run-from-requires c κs = search needs
@@ -18,9 +27,7 @@ peek-requires : tie.Need-peek-requires
 peek-requires c κs = search needs
 
 add-drop-piece : tie.Need-add-drop-piece
-add-drop-piece c =
-    let s = c .before .before .before .before .args .s .now in
-    omega (arith, c .before .before .run-from .ensures, run-le wschar s)
+add-drop-piece c = omega (arith, within (c .before .before))
 
 drop-piece-requires : tie.Need-drop-piece-requires
 drop-piece-requires c κs = search needs
@@ -28,22 +35,17 @@ drop-piece-requires c κs = search needs
 returns : tie.Need-returns
 unfolding escapedNl
 returns c =
-    let s = c .before .before .before .before .before .args .s .now in
-    let w : c .before .before .before .run-from .result ≡ run wschar s = omega (arith, c .before .before .before .run-from .ensures) in
-    c .drop-piece .ensures ∙ rw (← w, ← (c .before .before .peek .ensures), eq-eqb _ 0x0A (c .before .if1 .taken))
+    c .drop-piece .ensures
+    ∙ rw (← (blanks (c .before .before .before)), ← (c .before .before .peek .ensures), eq-eqb _ 0x0A (c .before .if1 .taken))
 
 add-peek : tie.Need-add-peek
-add-peek c =
-    let s = c .before .before .before .before .before .args .s .now in
-    omega (arith, c .before .before .before .run-from .ensures, run-le wschar s)
+add-peek c = omega (arith, within (c .before .before .before))
 
 peek-requires-2 : tie.Need-peek-requires-2
 peek-requires-2 c κs = search needs
 
 add-drop-piece-2 : tie.Need-add-drop-piece-2
-add-drop-piece-2 c =
-    let s = c .before .before .before .before .before .before .before .args .s .now in
-    omega (arith, c .before .before .before .before .before .run-from .ensures, run-le wschar s)
+add-drop-piece-2 c = omega (arith, within (c .before .before .before .before .before))
 
 drop-piece-requires-2 : tie.Need-drop-piece-requires-2
 drop-piece-requires-2 c κs = search needs
@@ -51,31 +53,20 @@ drop-piece-requires-2 c κs = search needs
 returns-2 : tie.Need-returns-2
 unfolding escapedNl
 returns-2 c =
-    let args = c .before .before .before .before .before .before .before .before .args in
-    let run-from = c .before .before .before .before .before .before .run-from in
-    let peek = c .before .before .before .before .before .peek in
-    let if1 = c .before .before .before .before .if1 in
-    let if2 = c .before .before .before .if2 in
-    let peek2 = c .before .before .peek2 in
-    let s = args .s .now in
-    let w : run-from .result ≡ run wschar s = omega (arith, run-from .ensures) in
-    c .drop-piece2 .ensures
-    ∙ rw (← w, ← (peek .ensures), ne-eqb _ 0x0A (if1 .left), eq-eqb _ 0x0D (if2 .taken), ← (peek2 .ensures), eq-eqb _ 0x0A (c .before .if3 .taken))
+    let w = blanks (c .before .before .before .before .before .before) in
+    let byte = c .before .before .before .before .before .peek .ensures in
+    let other = ne-eqb _ 0x0A (c .before .before .before .before .if1 .left) in
+    let return = eq-eqb _ 0x0D (c .before .before .before .if2 .taken) in
+    c .drop-piece2 .ensures ∙ rw (← w, ← byte, other, return, ← (c .before .before .peek2 .ensures), eq-eqb _ 0x0A (c .before .if3 .taken))
 
 add-drop-piece-3 : tie.Need-add-drop-piece-3
-add-drop-piece-3 c =
-    let s = c .before .before .before .before .before .before .before .args .s .now in
-    omega (arith, c .before .before .before .before .before .run-from .ensures, run-le wschar s)
+add-drop-piece-3 c = omega (arith, within (c .before .before .before .before .before))
 
 add-drop-piece-4 : tie.Need-add-drop-piece-4
-add-drop-piece-4 c =
-    let s = c .before .before .before .before .before .before .before .args .s .now in
-    omega (arith, c .before .before .before .before .before .run-from .ensures, run-le wschar s)
+add-drop-piece-4 c = omega (arith, within (c .before .before .before .before .before))
 
 add-drop-piece-5 : tie.Need-add-drop-piece-5
-add-drop-piece-5 c =
-    let s = c .before .before .before .before .before .before .before .args .s .now in
-    omega (arith, c .before .before .before .before .before .run-from .ensures, run-le wschar s)
+add-drop-piece-5 c = omega (arith, within (c .before .before .before .before .before))
 
 drop-piece-requires-3 : tie.Need-drop-piece-requires-3
 drop-piece-requires-3 c κs = search needs
@@ -83,31 +74,20 @@ drop-piece-requires-3 c κs = search needs
 returns-3 : tie.Need-returns-3
 unfolding escapedNl
 returns-3 c =
-    let args = c .before .before .before .before .before .before .before .before .args in
-    let run-from = c .before .before .before .before .before .before .run-from in
-    let peek = c .before .before .before .before .before .peek in
-    let if1 = c .before .before .before .before .if1 in
-    let if2 = c .before .before .before .if2 in
-    let peek2 = c .before .before .peek2 in
-    let s = args .s .now in
-    let w : run-from .result ≡ run wschar s = omega (arith, run-from .ensures) in
-    c .drop-piece3 .ensures
-    ∙ rw (← w, ← (peek .ensures), ne-eqb _ 0x0A (if1 .left), eq-eqb _ 0x0D (if2 .taken), ← (peek2 .ensures), ne-eqb _ 0x0A (c .before .if3 .left))
+    let w = blanks (c .before .before .before .before .before .before) in
+    let byte = c .before .before .before .before .before .peek .ensures in
+    let other = ne-eqb _ 0x0A (c .before .before .before .before .if1 .left) in
+    let return = eq-eqb _ 0x0D (c .before .before .before .if2 .taken) in
+    c .drop-piece3 .ensures ∙ rw (← w, ← byte, other, return, ← (c .before .before .peek2 .ensures), ne-eqb _ 0x0A (c .before .if3 .left))
 
 add-drop-piece-6 : tie.Need-add-drop-piece-6
-add-drop-piece-6 c =
-    let s = c .before .before .before .before .before .args .s .now in
-    omega (arith, c .before .before .before .run-from .ensures, run-le wschar s)
+add-drop-piece-6 c = omega (arith, within (c .before .before .before))
 
 add-drop-piece-7 : tie.Need-add-drop-piece-7
-add-drop-piece-7 c =
-    let s = c .before .before .before .before .before .args .s .now in
-    omega (arith, c .before .before .before .run-from .ensures, run-le wschar s)
+add-drop-piece-7 c = omega (arith, within (c .before .before .before))
 
 add-drop-piece-8 : tie.Need-add-drop-piece-8
-add-drop-piece-8 c =
-    let s = c .before .before .before .before .before .args .s .now in
-    omega (arith, c .before .before .before .run-from .ensures, run-le wschar s)
+add-drop-piece-8 c = omega (arith, within (c .before .before .before))
 
 drop-piece-requires-4 : tie.Need-drop-piece-requires-4
 drop-piece-requires-4 c κs = search needs
@@ -115,12 +95,10 @@ drop-piece-requires-4 c κs = search needs
 returns-4 : tie.Need-returns-4
 unfolding escapedNl
 returns-4 c =
-    let args = c .before .before .before .before .before .before .args in
-    let run-from = c .before .before .before .before .run-from in
-    let peek = c .before .before .before .peek in
-    let s = args .s .now in
-    let w : run-from .result ≡ run wschar s = omega (arith, run-from .ensures) in
-    c .drop-piece4 .ensures ∙ rw (← w, ← (peek .ensures), ne-eqb _ 0x0A (c .before .before .if1 .left), ne-eqb _ 0x0D (c .before .if2 .left))
+    let w = blanks (c .before .before .before .before) in
+    let byte = c .before .before .before .peek .ensures in
+    c .drop-piece4 .ensures
+    ∙ rw (← w, ← byte, ne-eqb _ 0x0A (c .before .before .if1 .left), ne-eqb _ 0x0D (c .before .if2 .left))
 
 pub mlb-escaped-nl-spec : {M : Type 1} → statement M
 mlb-escaped-nl-spec =

@@ -19,16 +19,18 @@ peek-requires-2 c κs = search needs
 returns-2 : tie.Need-returns-2
 unfolding newlineLen
 returns-2 c =
-    let peek = c .before .before .before .before .peek in
-    let if1 = c .before .before .before .if1 in
-    simp (← (peek .ensures), ne-eqb _ 0x0A (if1 .left), eq-eqb _ 0x0D (c .before .before .if2 .taken), ← (c .before .peek2 .ensures), eq-eqb _ 0x0A (c .if3 .taken))
+    let byte = c .before .before .before .before .peek .ensures in
+    let other = ne-eqb _ 0x0A (c .before .before .before .if1 .left) in
+    let return = eq-eqb _ 0x0D (c .before .before .if2 .taken) in
+    simp (← byte, other, return, ← (c .before .peek2 .ensures), eq-eqb _ 0x0A (c .if3 .taken))
 
 returns-3 : tie.Need-returns-3
 unfolding newlineLen
 returns-3 c =
-    let peek = c .before .before .before .before .peek in
-    let if1 = c .before .before .before .if1 in
-    simp (← (peek .ensures), ne-eqb _ 0x0A (if1 .left), eq-eqb _ 0x0D (c .before .before .if2 .taken), ← (c .before .peek2 .ensures), ne-eqb _ 0x0A (c .if3 .left))
+    let byte = c .before .before .before .before .peek .ensures in
+    let other = ne-eqb _ 0x0A (c .before .before .before .if1 .left) in
+    let return = eq-eqb _ 0x0D (c .before .before .if2 .taken) in
+    simp (← byte, other, return, ← (c .before .peek2 .ensures), ne-eqb _ 0x0A (c .if3 .left))
 
 returns-4 : tie.Need-returns-4
 unfolding newlineLen
