@@ -54,6 +54,25 @@ module _ (p : ℕ → Bool) (s : List ℕ) (i : ℕ) where
   pub block-end : (j n : ℕ) → j ≡ n → Block p s i j → Block p s i n
   block-end j n e b = subst (λ (k : ℕ). Block p s i k) e b
 
+-- r is a place of s, and from it on the run ends where it does from `start` on
+abbrev pub SameEnd : (ℕ → Bool) → List ℕ → ℕ → ℕ → Type 0
+SameEnd p s start r = (r ≤ length s) × (r + run p (drop r s) ≡ start + run p (drop start s))
+
+-- what a loop over the run shows: it begins at the start, a block or a byte leaves the end where it was, and where
+-- nothing is left of the run its end is reached
+module _ (p : ℕ → Bool) (s : List ℕ) (start : ℕ) where
+  pub same-end-start : start ≤ length s → SameEnd p s start start
+  same-end-start h = (h, refl)
+
+  pub same-end-block : (i n : ℕ) → i + n ≤ length s → Block p s i n → SameEnd p s start i → SameEnd p s start (i + n)
+  same-end-block i n h b e = (h, omega arith)
+
+  pub same-end-byte : (i : ℕ) → i < length s → p (getD s i 0) ≡ true → SameEnd p s start i → SameEnd p s start (i + 1)
+  same-end-byte i h t e = (omega arith, omega (arith, run-step p s i h t))
+
+  pub same-end-reached : (r : ℕ) → run p (drop r s) ≡ 0 → SameEnd p s start r → r ≡ start + run p (drop start s)
+  same-end-reached r z e = omega arith
+
 -- a run that is empty, and one that is not, by the first byte
 pub run-none : (p : ℕ → Bool) (s : List ℕ) → 0 < length s → (n : ℕ) → n ≡ run p s → n ≤ 0 → p (getD s 0 0) ≡ false
 run-none p s h n e z = go (p (getD s 0 0)) refl

@@ -5,6 +5,7 @@ ghost use mathlib.Core.Bool.{true, false};
 ghost use Prim.Native.Nat.{_+_, _%_, _<_, _≤_};
 ghost use lib.ListN.{length, drop};
 ghost use Rattle.classes.specs.Runs.{run};
+ghost use Rattle.classes.proofs.RunLaws.{Block, SameEnd};
 ghost use Rattle.text.specs.Utf8.{encodeScalar};
 ghost use Rattle.text.specs.Utf8Read.{isScalar, ascii, charLen, Passed};
 ghost use Rattle.text.specs.Lead.{leadOf, Among, BegunAt, faultLen};
@@ -72,7 +73,7 @@ fn ascii_run(s: &[u8], start: usize) -> usize
 // Blocks of n ASCII bytes, passed over.
 fn ascii_blocks(s: &[u8], start: usize, n: usize) -> usize
     requires { ⌜ (start ≤ length (now s)) × (0 < n) ⌝ }
-    ensures { λ r. ⌜ (r ≤ length (now (s .entry))) × (r + run ascii (drop r (now (s .entry))) ≡ start + run ascii (drop start (now (s .entry)))) ⌝ }
+    ensures { λ r. ⌜ SameEnd ascii (now (s .entry)) start r ⌝ }
 {
     let mut i = start;
     while n <= s.len() - i {
@@ -88,7 +89,7 @@ fn ascii_blocks(s: &[u8], start: usize, n: usize) -> usize
 // them, so that the compiler takes sixteen at once.
 fn ascii_block(s: &[u8], i: usize, n: usize) -> bool
     requires { ⌜ i + n ≤ length (now s) ⌝ }
-    ensures { λ r. ⌜ (r ≡ true → run ascii (drop i (now (s .entry))) ≡ n + run ascii (drop (i + n) (now (s .entry)))) ⌝ }
+    ensures { λ r. ⌜ (r ≡ true → Block ascii (now (s .entry)) i n) ⌝ }
 {
     let mut bits: u8 = 0;
     let mut j = 0;

@@ -42,12 +42,15 @@ loop-again c =
       omega arith,
       λ h.
           let low : byte < 0x80 = omega (arith, bits-right (at .bits) byte) in
-          block-step ascii s i (at .j) (omega arith) (lt-ltb byte 0x80 low) (at .inv .1 (omega (arith, bits-left (at .bits) byte))),
+          let passed : Block ascii s i (at .j) = at .inv .1 (omega (arith, bits-left (at .bits) byte)) in
+          block-step ascii s i (at .j) (omega arith) (lt-ltb byte 0x80 low) passed,
     )
 
 returns : tie.Need-returns Inv-loop μ-loop
 returns c =
-    λ h. block-end ascii (c .before .before .args .s .now) (c .before .before .args .i) (c .before .loop .j) (c .before .before .args .n) (omega arith) (c .before .loop .inv .1 (ltb-true _ _ h))
+    let a = c .before .before .args in
+    let at = c .before .loop in
+    λ h. block-end ascii (a .s .now) (a .i) (at .j) (a .n) (omega arith) (at .inv .1 (ltb-true _ _ h))
 
 pub ascii-block-spec : {M : Type 1} → statement M
 ascii-block-spec =

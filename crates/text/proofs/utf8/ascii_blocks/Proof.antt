@@ -1,23 +1,22 @@
 -- `ascii_blocks` is right because each block passed leaves the end of the run where it was.
 -- Assumes nothing.
-use Prim.Native.Nat.{_+_, _-_, _≤_}
-use mathlib.Core.Path.{_≡_}
+use Prim.Native.Nat.{_-_}
 use native.Mathlib.Omega.{arith}
 use borrow.Author.Tests.{not-false}
-use lib.ListN.{length, drop}
-use Rattle.classes.specs.Runs.{run}
+use lib.ListN.{length}
 use Rattle.text.specs.Utf8Read.{ascii}
+use Rattle.classes.proofs.RunLaws.{SameEnd, same-end-start, same-end-block}
 use Rattle.text.proofs.utf8.ascii_blocks.Statement.{statement}
 use Rattle.text.proofs.utf8.ascii_blocks.Tie as tie
 
 abbrev Inv-loop : tie.InvT-loop
-Inv-loop s start n i₀ i = (i ≤ length s) × (i + run ascii (drop i s) ≡ start + run ascii (drop start s))
+Inv-loop s start n i₀ i = SameEnd ascii s start i
 
 abbrev μ-loop : tie.MeasureT-loop
 μ-loop s start n i₀ i = length s - i
 
 loop-holds : tie.Need-loop-holds Inv-loop μ-loop
-loop-holds c = omega arith
+loop-holds c = same-end-start ascii (c .before .args .s .now) (c .before .args .start) (omega arith)
 
 sub-loop : tie.Need-sub-loop Inv-loop μ-loop
 sub-loop c = omega arith
@@ -26,7 +25,7 @@ ascii-block-requires : tie.Need-ascii-block-requires Inv-loop μ-loop
 ascii-block-requires c κs = omega arith
 
 returns : tie.Need-returns Inv-loop μ-loop
-returns c = omega arith
+returns c = c .before .before .before .loop .inv
 
 add-i : tie.Need-add-i Inv-loop μ-loop
 add-i c = omega arith
@@ -35,10 +34,14 @@ loop-less : tie.Need-loop-less Inv-loop μ-loop
 loop-less c = omega arith
 
 loop-again : tie.Need-loop-again Inv-loop μ-loop
-loop-again c = omega (arith, c .before .ascii-block .ensures (not-false _ (c .if1 .left)))
+loop-again c =
+    let a = c .before .before .before .before .before .args in
+    let block = c .before .ascii-block .ensures (not-false _ (c .if1 .left)) in
+    let at = c .before .before .before .loop in
+    same-end-block ascii (a .s .now) (a .start) (at .i) (a .n) (omega arith) block (at .inv)
 
 returns-2 : tie.Need-returns-2 Inv-loop μ-loop
-returns-2 c = omega arith
+returns-2 c = c .before .loop .inv
 
 pub ascii-blocks-spec : {M : Type 1} → statement M
 ascii-blocks-spec =

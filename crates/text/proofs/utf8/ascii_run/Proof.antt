@@ -1,18 +1,16 @@
 -- `ascii_run` is right because neither a block nor a byte of ASCII moves the end of the run.
 -- Assumes nothing.
-use Prim.Native.Nat.{_+_, _-_, _≤_}
-use mathlib.Core.Path.{_≡_}
+use Prim.Native.Nat.{_-_}
 use native.Mathlib.Omega.{arith}
 use borrow.Author.Tests.{lt-ltb, le-ltb}
-use lib.ListN.{length, drop}
-use Rattle.classes.specs.Runs.{run}
+use lib.ListN.{length}
 use Rattle.text.specs.Utf8Read.{ascii}
-use Rattle.classes.proofs.RunLaws.{run-step, run-stop, run-end}
+use Rattle.classes.proofs.RunLaws.{run-stop, run-end, SameEnd, same-end-byte, same-end-reached}
 use Rattle.text.proofs.utf8.ascii_run.Statement.{statement}
 use Rattle.text.proofs.utf8.ascii_run.Tie as tie
 
 abbrev Inv-loop : tie.InvT-loop
-Inv-loop s start wide i₀ i = (i ≤ length s) × (i + run ascii (drop i s) ≡ start + run ascii (drop start s))
+Inv-loop s start wide i₀ i = SameEnd ascii s start i
 
 abbrev μ-loop : tie.MeasureT-loop
 μ-loop s start wide i₀ i = length s - i
@@ -30,7 +28,11 @@ shared-slice-read-if1 : tie.Need-shared-slice-read-if1 Inv-loop μ-loop
 shared-slice-read-if1 c = omega arith
 
 returns : tie.Need-returns Inv-loop μ-loop
-returns c = omega (arith, run-stop ascii (c .before .before .before .before .before .before .before .args .s .now) (c .before .before .before .loop .i) (omega arith) (le-ltb _ _ (c .if1 .taken)))
+returns c =
+    let a = c .before .before .before .before .before .before .before .args in
+    let at = c .before .before .before .loop in
+    let none-left = run-stop ascii (a .s .now) (at .i) (omega arith) (le-ltb _ _ (c .if1 .taken)) in
+    same-end-reached ascii (a .s .now) (a .start) (at .i) none-left (at .inv)
 
 add-i : tie.Need-add-i Inv-loop μ-loop
 add-i c = omega arith
@@ -39,10 +41,16 @@ loop-less : tie.Need-loop-less Inv-loop μ-loop
 loop-less c = omega arith
 
 loop-again : tie.Need-loop-again Inv-loop μ-loop
-loop-again c = omega (arith, run-step ascii (c .before .before .before .before .before .before .before .args .s .now) (c .before .before .before .loop .i) (omega arith) (lt-ltb _ _ (c .if1 .left)))
+loop-again c =
+    let a = c .before .before .before .before .before .before .before .args in
+    let at = c .before .before .before .loop in
+    same-end-byte ascii (a .s .now) (a .start) (at .i) (omega arith) (lt-ltb _ _ (c .if1 .left)) (at .inv)
 
 returns-2 : tie.Need-returns-2 Inv-loop μ-loop
-returns-2 c = omega (arith, run-end ascii (c .before .before .before .before .before .args .s .now) (c .before .loop .i) (omega arith))
+returns-2 c =
+    let a = c .before .before .before .before .before .args in
+    let at = c .before .loop in
+    same-end-reached ascii (a .s .now) (a .start) (at .i) (run-end ascii (a .s .now) (at .i) (omega arith)) (at .inv)
 
 pub ascii-run-spec : {M : Type 1} → statement M
 ascii-run-spec =
