@@ -47,24 +47,29 @@ same-is false false t = refl
 pub class-is : (v : Bool) (f : ℕ → Bool) (a n : ℕ) → T (allFrom (λ b. same v (f b)) a n) → (b : ℕ) → a ≤ b → b < a + n → v ≡ f b
 class-is v f a n t b l h = same-is v (f b) (at-each (λ b. same v (f b)) a n t b l h)
 
--- two classes agree there
+-- two classes agree at each of them
 pub classes-agree : (f g : ℕ → Bool) (a n : ℕ) → T (allFrom (λ b. same (f b) (g b)) a n) → (b : ℕ) → a ≤ b → b < a + n → f b ≡ g b
 classes-agree f g a n t b l h = same-is (f b) (g b) (at-each (λ b. same (f b) (g b)) a n t b l h)
 
 -- ---- a `match` on a byte: its arms of single bytes, and what is left
 
--- each of an arm's bytes has the value v
+-- f passes at each of the bytes
 abbrev pub allOf : (ℕ → Bool) → List ℕ → Bool
 allOf f [] = true
 allOf f (k ∷ ks) = f k && allOf f ks
 
+-- a class has the value v at each of an arm's bytes
 pub keys-are : (v : Bool) (f : ℕ → Bool) (ks : List ℕ) → T (allOf (λ b. same v (f b)) ks) → {b : ℕ} → OneOf ks b → v ≡ f b
 keys-are v f [] t o = absurd o
 keys-are v f (k ∷ []) t o = same-is v (f k) (and-left (same v (f k)) true t) ∙ ap f (sym o)
-keys-are v f (k ∷ j ∷ ks) t (inl e) = same-is v (f k) (and-left (same v (f k)) (allOf (λ b. same v (f b)) (j ∷ ks)) t) ∙ ap f (sym e)
-keys-are v f (k ∷ j ∷ ks) t (inr o) = keys-are v f (j ∷ ks) (and-right (same v (f k)) (allOf (λ b. same v (f b)) (j ∷ ks)) t) o
+keys-are v f (k ∷ j ∷ ks) t (inl e) =
+    let first = and-left (same v (f k)) (allOf (λ b. same v (f b)) (j ∷ ks)) t in
+    same-is v (f k) first ∙ ap f (sym e)
+keys-are v f (k ∷ j ∷ ks) t (inr o) =
+    let others = and-right (same v (f k)) (allOf (λ b. same v (f b)) (j ∷ ks)) t in
+    keys-are v f (j ∷ ks) others o
 
--- each of the n bytes from a on has it, but for the arm's
+-- and at each of the n bytes from a on, but for the arm's
 pub rest-is : (v : Bool) (f : ℕ → Bool) (ks : List ℕ) (a n : ℕ) → T (allFrom (λ b. hasKey ks b || same v (f b)) a n)
     → (b : ℕ) → (OneOf ks b → ⊥) → a ≤ b → b < a + n → v ≡ f b
 rest-is v f ks a n t b o l h = go (hasKey ks b) (hit ks b) (at-each (λ b. hasKey ks b || same v (f b)) a n t b l h)

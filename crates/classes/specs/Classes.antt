@@ -1,4 +1,4 @@
--- RULE. The byte sets of the lexer and the decoders, each with the line of TOML 1.0.0's ABNF that it follows.
+-- RULE. The byte sets of the lexer and the decoders, each with the line of TOML 1.0.0's ABNF that it follows, if any.
 -- A set of bytes stands for a set of characters: every byte of a character beyond ASCII is 80 to FF.
 -- Assumes nothing.
 use Prim.Native.Nat.{ℕ}
@@ -14,7 +14,7 @@ among a e b = leb a b && leb b e
 unfoldable pub wschar : ℕ → Bool
 wschar b = eqb b 0x20 || eqb b 0x09
 
--- what ends an Atom: one of . = , [ ] { } space tab # CR LF (no rule of the ABNF: the lexer's own)
+-- what ends an Atom: one of . = , [ ] { } space tab # CR LF (the lexer's own: no line of the ABNF)
 unfoldable pub tokenStart : ℕ → Bool
 tokenStart b =
     eqb b 0x2E || (eqb b 0x3D || (eqb b 0x2C || (eqb b 0x5B || (eqb b 0x5D || (eqb b 0x7B || (eqb b 0x7D

@@ -1,5 +1,5 @@
-// The byte sets that the Rust tests with `contains_token`: one yes-or-no for each, under its name.
-// Rule: specs/Classes.antt, a definition for each with its line of ABNF.
+// The byte sets that the Rust tests with `contains_token`, each under its name there, and the bytes
+// inside a character. Rule: specs/Classes.antt, a definition for each.
 ghost use mathlib.Core.Path.{_≡_};
 ghost use Rattle.classes.specs.Classes.{wschar, tokenStart, nonAscii, literalChar, mllChar, basicUnescaped, mlbUnescaped, digit, hexdig, unquotedChar, continuation};
 
@@ -110,7 +110,7 @@ pub fn is_unquoted_char(b: u8) -> bool
     }
 }
 
-// A byte inside a character, 80 to BF: where no span may end.
+// A byte inside a character, 80 to BF: no span starts or ends there.
 pub fn is_continuation(b: u8) -> bool
     ensures { λ r. ⌜ r ≡ continuation b ⌝ }
 {

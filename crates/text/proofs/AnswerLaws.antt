@@ -72,7 +72,9 @@ means-answer s (Refused (NotUtf8 n r)) (h, broken, l, f) =
     let e = longest-one s n l in
     let d : n ≡ length s → ⊥ = λ same. broken (utf8-iff s .0 (e ∙ same)) in
     let k : n < length s = omega (arith, l .within) in
-    answer-broken s n r h e k (fault-one (drop n s) r (faultLen (drop n s)) f (fault-is (drop n s) (omega (arith, length-drop n s))))
+    let rest = drop n s in
+    let some : 1 ≤ length rest = omega (arith, length-drop n s) in
+    answer-broken s n r h e k (fault-one rest r (faultLen rest) f (fault-is rest some))
 means-answer s (Refused (FewTokens n)) m = absurd m
 means-answer s (Refused (ShortOutput n)) m = absurd m
 means-answer s (Refused (FewErrors n)) m = absurd m

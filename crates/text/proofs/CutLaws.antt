@@ -107,10 +107,10 @@ cut-from (c ∷ cs) (a ∷ p) q h e k = go (parts c) (λ r f. cut-from cs r q (h
         let same : t .first ≡ a = cc in
         let rest : t .tails ++ encodes cs ≡ p ++ q = cc in
         let w = past (t .tails) (encodes cs) p q (t .each) rest k in
-        let i = ih (w .rest) (w .after) in (
-          (c ∷ i .0 .0, (h .0, i .0 .1), glue c a (t .first) (i .0 .0) (t .tails) (w .rest) p (t .whole) same (w .before) (i .0 .2)),
-          i .1,
-        )
+        let i = ih (w .rest) (w .after) in
+        let ds = i .0 .0 in
+        let whole = glue c a (t .first) ds (t .tails) (w .rest) p (t .whole) same (w .before) (i .0 .2) in
+        ((c ∷ ds, (h .0, i .0 .1), whole), i .1)
 
 pub cut : (p q : List ℕ) → Utf8 (p ++ q) → Cuttable q → Utf8 p × Utf8 q
 cut p q (cs, h, e) k = cut-from cs p q h e k
@@ -143,7 +143,8 @@ ascii-first q b h (cs, k, e) = go cs k e
         ]
 
 -- so what stands before it and behind it is UTF-8 too
-pub ascii-cut : (p q : List ℕ) (b : ℕ) → b < 0x80 → Utf8 (p ++ b ∷ q) → Utf8 p × Utf8 q × (scalars (p ++ b ∷ q) ≡ scalars p ++ b ∷ scalars q)
+pub ascii-cut : (p q : List ℕ) (b : ℕ) → b < 0x80 → Utf8 (p ++ b ∷ q)
+    → Utf8 p × Utf8 q × (scalars (p ++ b ∷ q) ≡ scalars p ++ b ∷ scalars q)
 ascii-cut p q b h u =
     let w = cut p (b ∷ q) u (inl h) in
     let e : encodeScalar b ++ q ≡ b ∷ q = rw (encode-1 b h) in

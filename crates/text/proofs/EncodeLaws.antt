@@ -1,7 +1,7 @@
 -- The laws of the encoding of one scalar value: its four lengths, and that its value is read back off its bit fields.
 -- Assumes nothing.
-use Prim.Native.Nat.{ℕ, zero, suc, _+_, _*_, _/_, _%_, _≤_, _<_}
-use mathlib.Core.Path.{_≡_, refl, ap}
+use Prim.Native.Nat.{ℕ, _+_, _*_, _/_, _%_, _≤_, _<_}
+use mathlib.Core.Path.{_≡_, refl}
 use mathlib.Core.Logic.{inl, inr}
 use mathlib.Core.List.{List, [], _∷_, _++_}
 use mathlib.Core.Bool.{Bool, true, false, _&&_, _||_}
@@ -77,15 +77,19 @@ pub record Parts (c : ℕ) : Type 0 where
   pub same : c < 0x80 → first ≡ c
   pub more : 0x80 ≤ c → 0xC0 ≤ first
 
+parts-of : {c first : ℕ} {tails : List ℕ} → encodeScalar c ≡ first ∷ tails → All Tail tails
+    → (c < 0x80 → first ≡ c) × (0x80 ≤ c → 0xC0 ≤ first) → Parts c
+parts-of e t f = record { first = _; tails = _; whole = e; each = t; same = f .0; more = f .1 }
+
 pub parts : (c : ℕ) → Parts c
 parts c =
     elim (decLt c 0x80) [
-      | yes h ↦ record { first = _; tails = _; whole = encode-1 c h; each = tt; same = omega arith; more = omega arith }
+      | yes h ↦ parts-of (encode-1 c h) tt (omega arith)
       | no l ↦ elim (decLt c 0x800) [
-        | yes h ↦ record { first = _; tails = _; whole = encode-2 c (omega arith) h; each = (omega arith, tt); same = omega arith; more = omega arith }
+        | yes h ↦ parts-of (encode-2 c (omega arith) h) (omega arith, tt) (omega arith)
         | no l ↦ elim (decLt c 0x10000) [
-          | yes h ↦ record { first = _; tails = _; whole = encode-3 c (omega arith) h; each = (omega arith, (omega arith, tt)); same = omega arith; more = omega arith }
-          | no l ↦ record { first = _; tails = _; whole = encode-4 c (omega arith); each = (omega arith, (omega arith, (omega arith, tt))); same = omega arith; more = omega arith }
+          | yes h ↦ parts-of (encode-3 c (omega arith) h) (omega arith, (omega arith, tt)) (omega arith)
+          | no l ↦ parts-of (encode-4 c (omega arith)) (omega arith, (omega arith, (omega arith, tt))) (omega arith)
         ]
       ]
     ]

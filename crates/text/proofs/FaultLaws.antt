@@ -14,8 +14,8 @@ use lib.Seq.{take-suc, take-at, take-append-add, length-take-le, getD-take, getD
 use lib.Dec.{eqb}
 use borrow.Author.Tests.{eq-eqb, ne-eqb}
 use Rattle.text.specs.declared.utf8.Lead.{Lead}
-use Rattle.text.specs.Utf8.{Scalar, encodeScalar}
-use Rattle.text.specs.Utf8Read.{guess, charLen}
+use Rattle.text.specs.Utf8.{encodeScalar}
+use Rattle.text.specs.Utf8Read.{guess}
 use Rattle.text.specs.Faults.{Begins, LongestBegun, faulty, Fault}
 use Rattle.text.specs.Lead.{leadOf, Among, Begun, BegunAt, begunLen, faultLen}
 use Rattle.classes.proofs.Conds.{by-eq}
@@ -24,12 +24,17 @@ use Rattle.text.proofs.ReadLaws.{Char, char-sound}
 use Rattle.text.proofs.LeadLaws.{Seen, SeenIn, lead-fits, encode-seen, seen-char}
 use Rattle.text.proofs.BegunLaws.{begun-only, begun-by}
 
+-- the length that the first byte asks for
+abbrev asked : List ℕ → ℕ
+asked t = leadOf (getD t 0 0) .0
+
+-- `BegunAt` at the front of the list
 abbrev pub BegunIn : List ℕ → ℕ → Type 0
 BegunIn t r = Begun (leadOf (getD t 0 0)) (length t) (getD t 1 0) (getD t 2 0) (getD t 3 0) r
 
 -- ---- what begins a character passes the table
 
-begins-few : (t : List ℕ) (r k : ℕ) → BegunIn t r → k ≤ length t → 1 ≤ k → Begins (take k t) → (k ≤ r) × (1 ≤ leadOf (getD t 0 0) .0)
+begins-few : (t : List ℕ) (r k : ℕ) → BegunIn t r → k ≤ length t → 1 ≤ k → Begins (take k t) → (k ≤ r) × (1 ≤ asked t)
 begins-few t r k h within p (v, more, sc, e) =
     go (rw (append-nil (encodeScalar v), e) at (encode-seen v [] (size v sc)))
   where
@@ -39,11 +44,12 @@ begins-few t r k h within p (v, more, sc, e) =
     same : (i : ℕ) → i < k → getD (take k t ++ more) i 0 ≡ getD t i 0
     same i l = List·getD-append (take k t) more 0 i (omega (arith, length-take-le k t within)) ∙ getD-take k t i 0 l
 
-    go : SeenIn (take k t ++ more) (length (take k t ++ more)) → (k ≤ r) × (1 ≤ leadOf (getD t 0 0) .0)
+    go : SeenIn (take k t ++ more) (length (take k t ++ more)) → (k ≤ r) × (1 ≤ asked t)
     go seen =
         let x = take k t ++ more in
         let s : Seen (leadOf (getD t 0 0)) (length x) (getD x 1 0) (getD x 2 0) (getD x 3 0) (length x) = rw (same 0 p) at seen in
         let asks = s .len in
+        let sized = size-is in
         let few = encode-length v .1 in
         let long = ap length e in
         let some = h .some in (
@@ -52,19 +58,19 @@ begins-few t r k h within p (v, more, sc, e) =
             | yes q ↦ elim (decLt r 2) [
               | yes u ↦
                   let y : Among (leadOf (getD t 0 0) .1) (leadOf (getD t 0 0) .2) (getD t 1 0) =
-                  rw (same 1 (omega arith)) at (s .second (omega (arith, size-is))) in
-                  absurd (h .not-second (omega arith) (omega (arith, size-is)) (omega arith) y)
+                  rw (same 1 (omega arith)) at (s .second (omega arith)) in
+                  absurd (h .not-second (omega arith) (omega arith) (omega arith) y)
               | no u ↦ elim (decLt r 3) [
                 | yes w ↦
-                    let y : Among 0x80 0xBF (getD t 2 0) = rw (same 2 (omega arith)) at (s .third (omega (arith, size-is))) in
-                    absurd (h .not-third (omega arith) (omega (arith, size-is)) (omega arith) y)
+                    let y : Among 0x80 0xBF (getD t 2 0) = rw (same 2 (omega arith)) at (s .third (omega arith)) in
+                    absurd (h .not-third (omega arith) (omega arith) (omega arith) y)
                 | no w ↦
-                    let y : Among 0x80 0xBF (getD t 3 0) = rw (same 3 (omega (arith, size-is))) at (s .fourth (omega (arith, size-is))) in
-                    absurd (h .not-fourth (omega (arith, size-is)) (omega (arith, size-is)) (omega (arith, size-is)) y)
+                    let y : Among 0x80 0xBF (getD t 3 0) = rw (same 3 (omega arith)) at (s .fourth (omega arith)) in
+                    absurd (h .not-fourth (omega arith) (omega arith) (omega arith) y)
               ]
             ]
           ],
-          omega (arith, size-is),
+          omega arith,
         )
 
 -- ---- and what passes begins one: the lowest bytes that are let through make it whole
@@ -78,10 +84,11 @@ complete p more (suc m) h q s = go (char-sound (p ++ more) m (seen-char (p ++ mo
 
     go : Char (p ++ more) (suc m) → Begins p
     go c =
+        let v = guess (p ++ more) in
         let n : suc m ≡ length p + k = omega arith in
-        let whole : encodeScalar (guess (p ++ more)) ≡ take (suc m) (p ++ more) =
-        sym (take-at (encodeScalar (guess (p ++ more))) (drop (suc m) (p ++ more)) (suc m) (c .size)) ∙ ap (take (suc m)) (c .split) in (
-          guess (p ++ more),
+        let whole : encodeScalar v ≡ take (suc m) (p ++ more) =
+        sym (take-at (encodeScalar v) (drop (suc m) (p ++ more)) (suc m) (c .size)) ∙ ap (take (suc m)) (c .split) in (
+          v,
           take k more,
           c .scalar,
           whole ∙ ap (λ (j : ℕ). take j (p ++ more)) n ∙ take-append-add p more k,
@@ -131,28 +138,41 @@ module _ (a : ℕ) where
         fourth = λ n. hd;
       })
 
-begins-is : (t : List ℕ) (r : ℕ) → BegunIn t r → 1 ≤ leadOf (getD t 0 0) .0 → Begins (take r t)
+module _ (t : List ℕ) where
+  take-1 : 1 ≤ length t → take 1 t ≡ getD t 0 0 ∷ []
+  take-1 h = rw (take-suc t 0 0 h)
+
+  take-2 : 2 ≤ length t → take 2 t ≡ getD t 0 0 ∷ getD t 1 0 ∷ []
+  take-2 h = rw (take-suc t 1 0 h, take-1 (omega arith))
+
+  take-3 : 3 ≤ length t → take 3 t ≡ getD t 0 0 ∷ getD t 1 0 ∷ getD t 2 0 ∷ []
+  take-3 h = rw (take-suc t 2 0 h, take-2 (omega arith))
+
+  take-4 : 4 ≤ length t → take 4 t ≡ getD t 0 0 ∷ getD t 1 0 ∷ getD t 2 0 ∷ getD t 3 0 ∷ []
+  take-4 h = rw (take-suc t 3 0 h, take-3 (omega arith))
+
+begins-is : (t : List ℕ) (r : ℕ) → BegunIn t r → 1 ≤ asked t → Begins (take r t)
 begins-is t r h p =
     let some = h .some in
     elim (decLt r 2) [
-      | yes u ↦ let e : r ≡ 1 = omega arith in rw (e, take-suc t 0 0 (omega arith)) (begins-1 (getD t 0 0) p)
+      | yes u ↦ let e : r ≡ 1 = omega arith in rw (e, take-1 t (omega arith)) (begins-1 (getD t 0 0) p)
       | no u ↦
           let b = h .second (omega arith) in
           elim (decLt r 3) [
             | yes v ↦
                 let e : r ≡ 2 = omega arith in
-                rw (e, take-suc t 1 0 (omega arith), take-suc t 0 0 (omega arith)) (begins-2 (getD t 0 0) (getD t 1 0) (b .0) (b .1))
+                rw (e, take-2 t (omega arith)) (begins-2 (getD t 0 0) (getD t 1 0) (b .0) (b .1))
             | no v ↦
                 let c = h .third (omega arith) in
                 elim (decLt r 4) [
                   | yes w ↦
                       let e : r ≡ 3 = omega arith in
-                      rw (e, take-suc t 2 0 (omega arith), take-suc t 1 0 (omega arith), take-suc t 0 0 (omega arith))
+                      rw (e, take-3 t (omega arith))
                       (begins-3 (getD t 0 0) (getD t 1 0) (getD t 2 0) (c .0) (b .1) (c .1))
                   | no w ↦
                       let d = h .fourth (omega arith) in
                       let e : r ≡ 4 = omega arith in
-                      rw (e, take-suc t 3 0 (omega arith), take-suc t 2 0 (omega arith), take-suc t 1 0 (omega arith), take-suc t 0 0 (omega arith))
+                      rw (e, take-4 t (omega arith))
                       (begins-4 (getD t 0 0) (getD t 1 0) (getD t 2 0) (getD t 3 0) (d .0) (b .1) (c .1) (d .1))
                 ]
           ]
@@ -164,7 +184,7 @@ begins-none : Begins []
 begins-none = (0, encodeScalar 0, inl (omega arith), refl)
 
 module _ (t : List ℕ) (h : 1 ≤ length t) where
-  no-lead : leadOf (getD t 0 0) .0 ≡ 0 → Fault t 1
+  no-lead : asked t ≡ 0 → Fault t 1
   no-lead z =
       let d : 0 ≡ length t → ⊥ = omega arith in
       record {
@@ -180,7 +200,7 @@ module _ (t : List ℕ) (h : 1 ≤ length t) where
         told = simp (ne-eqb _ _ d);
       }
 
-  some-lead : (leadOf (getD t 0 0) .0 ≡ 0 → ⊥) → (r : ℕ) → BegunIn t r → Fault t (faulty r (length t))
+  some-lead : (asked t ≡ 0 → ⊥) → (r : ℕ) → BegunIn t r → Fault t (faulty r (length t))
   some-lead z r b =
       record {
         begun = r;
@@ -203,7 +223,7 @@ module _ (t : List ℕ) (h : 1 ≤ length t) where
   pub fault-is : Fault t (faultLen t)
   unfolding faultLen
   fault-is =
-      by-eq (Fault t) (leadOf (getD t 0 0) .0) 0 no-lead
+      by-eq (Fault t) (asked t) 0 no-lead
       λ z. rw (← faulty-some (begunLen t) (begun-by h .some .0)) (some-lead z (begunLen t) (begun-by h))
 
 longest-begun-one : (t : List ℕ) (n m : ℕ) → LongestBegun t n → LongestBegun t m → n ≡ m
@@ -230,8 +250,8 @@ module _ (s : List ℕ) (at : ℕ) (l : Lead) (e : l ≡ leadOf (getD s at 0)) w
   fault-lead z = rw here (simp (eq-eqb _ _ z))
 
   module _ (h : at < length s) (z : l .0 ≡ 0 → ⊥) (r : ℕ) (b : BegunAt s at l r) where
-    asks : leadOf (getD (drop at s) 0 0) .0 ≡ 0 → ⊥
-    asks = rw here z
+    asks : asked (drop at s) ≡ 0 → ⊥
+    asks = rw (here, asked) z
 
     pub fault-end : r ≡ length s - at → 0 ≡ faultLen (drop at s)
     unfolding faultLen

@@ -14,7 +14,7 @@ use lib.Dec.{T, eqb, eqb→eq}
 use Rattle.text.specs.declared.utf8.Lead.{Lead}
 use Rattle.text.specs.Utf8.{Scalar, encodeScalar}
 use Rattle.text.specs.Utf8Read.{guess, charLen}
-use Rattle.text.specs.Lead.{row, leadOf, BegunAt}
+use Rattle.text.specs.Lead.{row, leadOf, Among, BegunAt}
 use Rattle.classes.proofs.Conds.{by-lt}
 use Rattle.classes.proofs.ByteTable.{allFrom, at-each, and-left, and-right}
 use Rattle.text.proofs.EncodeLaws.{Size, one, two, low, high, four, size, encode-1, encode-2, encode-3, encode-4}
@@ -22,13 +22,13 @@ use Rattle.text.proofs.ReadLaws.{char-length, char-sound}
 
 -- ---- the table, row by row
 
-abbrev pub sameLead : Lead → Lead → Bool
+abbrev sameLead : Lead → Lead → Bool
 sameLead l m = eqb (l .0) (m .0) && (eqb (l .1) (m .1) && eqb (l .2) (m .2))
 
 lead-ext : (l m : Lead) → l .0 ≡ m .0 → l .1 ≡ m .1 → l .2 ≡ m .2 → l ≡ m
 lead-ext l m e f g = rw (e, f, g)
 
-pub same-lead : (l m : Lead) → T (sameLead l m) → l ≡ m
+same-lead : (l m : Lead) → T (sameLead l m) → l ≡ m
 same-lead l m t =
     let u = and-right (eqb (l .0) (m .0)) (eqb (l .1) (m .1) && eqb (l .2) (m .2)) t in
     lead-ext l m
@@ -36,9 +36,14 @@ same-lead l m t =
     (eqb→eq _ _ (and-left (eqb (l .1) (m .1)) (eqb (l .2) (m .2)) u))
     (eqb→eq _ _ (and-right (eqb (l .1) (m .1)) (eqb (l .2) (m .2)) u))
 
--- the n first bytes from a on have one row
+-- two tables agree at each of the n bytes from a on
+pub leads-agree : (f g : ℕ → Lead) (a n : ℕ) → T (allFrom (λ b. sameLead (f b) (g b)) a n)
+    → (b : ℕ) → a ≤ b → b < a + n → f b ≡ g b
+leads-agree f g a n t b h k = same-lead (f b) (g b) (at-each (λ b. sameLead (f b) (g b)) a n t b h k)
+
+-- these bytes have one row
 pub row-is : (l : Lead) (a n : ℕ) → T (allFrom (λ b. sameLead l (leadOf b)) a n) → (b : ℕ) → a ≤ b → b < a + n → l ≡ leadOf b
-row-is l a n t b h k = same-lead l (leadOf b) (at-each (λ b. sameLead l (leadOf b)) a n t b h k)
+row-is l = leads-agree (λ b. l) leadOf
 
 data Row (a : ℕ) : Lead → Type 0 where
   r00 : a < 0x80 → Row a (row 1 0 0)
@@ -88,9 +93,9 @@ lead-fits a = row-fits (rows a)
 pub record Seen (l : Lead) (left b c d n : ℕ) : Type 0 where
   pub len : l .0 ≡ n
   pub fits : n ≤ left
-  pub second : 2 ≤ n → (l .1 ≤ b) × (b ≤ l .2)
-  pub third : 3 ≤ n → (0x80 ≤ c) × (c ≤ 0xBF)
-  pub fourth : 4 ≤ n → (0x80 ≤ d) × (d ≤ 0xBF)
+  pub second : 2 ≤ n → Among (l .1) (l .2) b
+  pub third : 3 ≤ n → Among 0x80 0xBF c
+  pub fourth : 4 ≤ n → Among 0x80 0xBF d
 
 abbrev pub SeenIn : List ℕ → ℕ → Type 0
 SeenIn x n = Seen (leadOf (getD x 0 0)) (length x) (getD x 1 0) (getD x 2 0) (getD x 3 0) n
@@ -112,7 +117,8 @@ module _ (v : ℕ) (t : List ℕ) where
         ]
       ])
   encode-seen (high l h) =
-      rw (encode-3 v (omega arith) h, ← row-is (row 3 0x80 0xBF) 0xEE 2 tt (0xE0 + v / 4096) (omega arith) (omega arith)) (omega arith)
+      rw (encode-3 v (omega arith) h)
+      (rw (← row-is (row 3 0x80 0xBF) 0xEE 2 tt (0xE0 + v / 4096) (omega arith) (omega arith)) (omega arith))
   encode-seen (four l h) =
       rw (encode-4 v l) (elim (decLt v 0x40000) [
         | yes p ↦ rw (← row-is (row 4 0x90 0xBF) 0xF0 1 tt (0xF0 + v / 262144) (omega arith) (omega arith)) (omega arith)
@@ -162,9 +168,9 @@ module _ (v : ℕ) (sc : Scalar v) where
       here (a ∷ b ∷ c ∷ d ∷ t) t 4 (rw (encode-4 v l, e, e1, e2, e3)) (ap length (encode-4 v l))
 
 abbrev Within : ℕ → Type 0
-Within b = (0x80 ≤ b) × (b ≤ 0xBF)
+Within b = Among 0x80 0xBF b
 
--- in Horner's form, so that omega sees through it
+-- the value of two to four bytes, in Horner's form, so that omega sees through it
 abbrev val2 : ℕ → ℕ → ℕ
 val2 a b = (a - 0xC0) * 64 + (b - 0x80)
 
@@ -184,54 +190,54 @@ fields-4 : (a b c d : ℕ) → 0xF0 ≤ a → Within b → Within c → Within d
 fields-4 a b c d h hb hc hd = omega arith
 
 module _ (x : List ℕ) (n : ℕ) where
+  abbrev byte : ℕ → ℕ
+  byte i = getD x i 0
+
   abbrev Fits : Lead → Type 0
-  Fits l = Seen l (length x) (getD x 1 0) (getD x 2 0) (getD x 3 0) n
+  Fits l = Seen l (length x) (byte 1) (byte 2) (byte 3) n
+
+  abbrev v2 : ℕ
+  v2 = val2 (byte 0) (byte 1)
 
   abbrev v3 : ℕ
-  v3 = val3 (getD x 0 0) (getD x 1 0) (getD x 2 0)
+  v3 = val3 (byte 0) (byte 1) (byte 2)
 
   abbrev v4 : ℕ
-  v4 = val4 (getD x 0 0) (getD x 1 0) (getD x 2 0) (getD x 3 0)
+  v4 = val4 (byte 0) (byte 1) (byte 2) (byte 3)
 
-  three : {l : Lead} → Fits l → l .0 ≡ 3 → 0xE0 ≤ getD x 0 0 → getD x 0 0 < 0xF0 → 0x80 ≤ l .1 → l .2 ≤ 0xBF
-      → (Within (getD x 1 0) → Within (getD x 2 0) → l .1 ≤ getD x 1 0 → getD x 1 0 ≤ l .2 → Scalar v3 × (0x800 ≤ v3)) → charLen x ≡ n
-  three s e lo hi el eh k =
+  -- a row of three bytes, and of four: where its bytes hold a value of that length, they are its encoding
+  three : {l : Lead} → Fits l → (l .0 ≡ 3) × (0xE0 ≤ byte 0) × (byte 0 < 0xF0) × (0x80 ≤ l .1) × (l .2 ≤ 0xBF)
+      → (Among (l .1) (l .2) (byte 1) → Within (byte 2) → Scalar v3 × (0x800 ≤ v3)) → charLen x ≡ n
+  three s (len, from, under, least, most) k =
       let hb = s .second (omega arith) in
       let hc = s .third (omega arith) in
-      let f = fields-3 (getD x 0 0) (getD x 1 0) (getD x 2 0) lo (omega arith) hc in
-      let g = k (omega arith) hc (hb .0) (hb .1) in
+      let f = fields-3 (byte 0) (byte 1) (byte 2) from (omega arith) hc in
+      let g = k hb hc in
       here-3 v3 (g .0) x (g .1) (omega arith) (omega arith) (f .0) (f .1) (f .2) ∙ omega arith
 
-  four-bytes : {l : Lead} → Fits l → l .0 ≡ 4 → 0xF0 ≤ getD x 0 0 → 0x80 ≤ l .1 → l .2 ≤ 0xBF
-      → (Within (getD x 1 0) → Within (getD x 2 0) → Within (getD x 3 0) → l .1 ≤ getD x 1 0 → getD x 1 0 ≤ l .2
-      → (0x10000 ≤ v4) × (v4 < 0x110000)) → charLen x ≡ n
-  four-bytes s e lo el eh k =
+  four-bytes : {l : Lead} → Fits l → (l .0 ≡ 4) × (0xF0 ≤ byte 0) × (0x80 ≤ l .1) × (l .2 ≤ 0xBF)
+      → (Among (l .1) (l .2) (byte 1) → Within (byte 2) → Within (byte 3) → (0x10000 ≤ v4) × (v4 < 0x110000)) → charLen x ≡ n
+  four-bytes s (len, from, least, most) k =
       let hb = s .second (omega arith) in
       let hc = s .third (omega arith) in
       let hd = s .fourth (omega arith) in
-      let f = fields-4 (getD x 0 0) (getD x 1 0) (getD x 2 0) (getD x 3 0) lo (omega arith) hc hd in
-      let g = k (omega arith) hc hd (hb .0) (hb .1) in
+      let f = fields-4 (byte 0) (byte 1) (byte 2) (byte 3) from (omega arith) hc hd in
+      let g = k hb hc hd in
       here-4 v4 (inr (omega arith, g .1)) x (g .0) (omega arith) (f .0) (f .1) (f .2) (f .3) ∙ omega arith
 
-  seen-row : {l : Lead} → 0 < n → Row (getD x 0 0) l → Fits l → charLen x ≡ n
-  seen-row p (r00 h) s = here-1 (getD x 0 0) (inl (omega arith)) x h (omega arith) refl ∙ s .len
+  seen-row : {l : Lead} → 0 < n → Row (byte 0) l → Fits l → charLen x ≡ n
+  seen-row p (r00 h) s = here-1 (byte 0) (inl (omega arith)) x h (omega arith) refl ∙ s .len
   seen-row p (r80 l h) s = absurd (omega (arith, s .len))
   seen-row p (rc2 l h) s =
       let hb = s .second (omega arith) in
-      here-2 (val2 (getD x 0 0) (getD x 1 0)) (inl (omega arith)) x (omega arith) (omega arith) (omega arith) (omega arith) (omega arith)
-      ∙ s .len
-  seen-row p (re0 l h) s = three s refl l (omega arith) (omega arith) (omega arith) (λ hb hc lo hi. (inl (omega arith), omega arith))
-  seen-row p (re1 l h) s =
-      three s refl (omega arith) (omega arith) (omega arith) (omega arith) (λ hb hc lo hi. (inl (omega arith), omega arith))
-  seen-row p (red l h) s =
-      three s refl (omega arith) (omega arith) (omega arith) (omega arith) (λ hb hc lo hi. (inl (omega arith), omega arith))
-  seen-row p (ree l h) s =
-      three s refl (omega arith) h (omega arith) (omega arith) (λ hb hc lo hi. (inr (omega arith, omega arith), omega arith))
-  seen-row p (rf0 l h) s = four-bytes s refl l (omega arith) (omega arith) (λ hb hc hd lo hi. (omega arith, omega arith))
-  seen-row p (rf1 l h) s =
-      four-bytes s refl (omega arith) (omega arith) (omega arith) (λ hb hc hd lo hi. (omega arith, omega arith))
-  seen-row p (rf4 l h) s =
-      four-bytes s refl (omega arith) (omega arith) (omega arith) (λ hb hc hd lo hi. (omega arith, omega arith))
+      here-2 v2 (inl (omega arith)) x (omega arith) (omega arith) (omega arith) (omega arith) (omega arith) ∙ s .len
+  seen-row p (re0 l h) s = three s (omega arith) (λ hb hc. (inl (omega arith), omega arith))
+  seen-row p (re1 l h) s = three s (omega arith) (λ hb hc. (inl (omega arith), omega arith))
+  seen-row p (red l h) s = three s (omega arith) (λ hb hc. (inl (omega arith), omega arith))
+  seen-row p (ree l h) s = three s (omega arith) (λ hb hc. (inr (omega arith, omega arith), omega arith))
+  seen-row p (rf0 l h) s = four-bytes s (omega arith) (λ hb hc hd. (omega arith, omega arith))
+  seen-row p (rf1 l h) s = four-bytes s (omega arith) (λ hb hc hd. (omega arith, omega arith))
+  seen-row p (rf4 l h) s = four-bytes s (omega arith) (λ hb hc hd. (omega arith, omega arith))
   seen-row p (rf5 l) s = absurd (omega (arith, s .len))
 
 pub seen-char : (x : List ℕ) (n : ℕ) → 0 < n → SeenIn x n → charLen x ≡ n

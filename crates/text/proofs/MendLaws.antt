@@ -1,24 +1,20 @@
 -- What the second number of a refusal tells. No character stands behind the longest valid prefix, so what is left is
 -- mended exactly where all of it begins one.
 -- Assumes nothing.
-use Prim.Native.Nat.{ℕ, _+_, _≤_, _<_}
+use Prim.Native.Nat.{ℕ, _+_, _≤_}
 use mathlib.Core.Path.{_≡_, refl, sym, ap, _∙_, subst}
 use mathlib.Core.Logic.{_↔_}
 use mathlib.Core.List.{List, [], _∷_, _++_, append-assoc, append-nil}
-use mathlib.Core.Bool.{cond}
 use native.Mathlib.Omega.{arith}
 use native.Mathlib.Decide.{decLt}
 use lib.ListN.{length, take, drop, length-append, length-drop, take-append-drop}
 use lib.Seq.{take-length, take-append-seam, take-append-le, length-take-le}
-use lib.Dec.{eqb}
 use borrow.Author.Tests.{eq-eqb}
-use Rattle.text.specs.Refusals.{refusalNumber, refusalLength}
 use Rattle.text.specs.Utf8.{Scalar, encodeScalar, encodes, All, Utf8}
 use Rattle.text.specs.Utf8Read.{validPrefix}
-use Rattle.text.specs.Faults.{Begins, LongestBegun, faulty, Fault, Mendable}
+use Rattle.text.specs.Faults.{Begins, faulty, Mendable}
 use Rattle.text.specs.Answers.{checkOf}
-use Rattle.text.specs.CheckMeans.{Longest, CheckMeans, LengthTells, LengthElse}
-use Rattle.text.specs.declared.refusal.Refusal.{Refusal}
+use Rattle.text.specs.CheckMeans.{Longest, LengthTells, LengthElse}
 use Rattle.text.specs.declared.refusal.Refusal.the-variants.{NotUtf8, TooLong, FewTokens, ShortOutput, FewErrors, OutOfPlace, NoKind, NoEdition}
 use Rattle.text.specs.declared.utf8.Utf8Check.the-variants.{Refused}
 use Rattle.classes.proofs.Conds.{by-eq}
@@ -36,6 +32,11 @@ faulty-few : (n left : ℕ) → n ≤ 3 → faulty n left ≤ 3
 faulty-few n left h =
     by-eq (λ (r : ℕ). r ≤ 3) n left (λ e. omega arith)
     λ d. by-eq (λ (r : ℕ). r ≤ 3) n 0 (λ e. omega arith) (λ e. h)
+
+-- of two lists that, each with more behind it, are the same, the shorter begins the longer
+shorter-begins : (x y u v : List ℕ) → x ++ y ≡ u ++ v → length x ≤ length u → take (length x) u ≡ x
+shorter-begins x y u v e h =
+    sym (take-append-le (length x) u v h) ∙ ap (take (length x)) (sym e) ∙ take-append-seam x y
 
 -- ---- what is left behind the longest valid prefix
 
@@ -75,12 +76,10 @@ module _ (s : List ℕ) (n : ℕ) (l : Longest s n) where
       let x = encodeScalar c in
       elim (decLt (length x) (length rest)) [
         | yes q ↦
-            let front : take (length x) rest ≡ x =
-            sym (take-append-le (length x) rest more (omega arith)) ∙ ap (take (length x)) (sym e) ∙ take-append-seam x (encodes cs) in
+            let front = shorter-begins x (encodes cs) rest more e (omega arith) in
             absurd (omega (arith, encode-length c .0, stuck (length x) (omega arith) (rw front (scalar-utf8 c (h .0)))))
         | no q ↦
-            let front : take (length rest) x ≡ rest =
-            sym (take-append-le (length rest) x (encodes cs) (omega arith)) ∙ ap (take (length rest)) e ∙ take-append-seam rest more in (
+            let front = shorter-begins rest more x (encodes cs) (sym e) (omega arith) in (
               c,
               drop (length rest) x,
               h .0,

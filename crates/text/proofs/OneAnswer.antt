@@ -28,5 +28,6 @@ is-scalar c = only-equal (isScalar c)
 pub encode : (c : ℕ) → Only (λ (r : Encoded). r ≡ encodedOf c)
 encode c = only-equal (encodedOf c)
 
+-- the first clause already admits one answer
 pub check-utf8 : (s : List ℕ) → Only (λ (r : Utf8Check). r ≡ checkOf s)
 check-utf8 s = only-equal (checkOf s)

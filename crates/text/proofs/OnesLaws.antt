@@ -6,11 +6,11 @@ use mathlib.Core.Bool.{cond}
 use native.Mathlib.Omega.{arith}
 use lib.Count.{leadingZeros}
 use lib.Dec.{ltb, eqb}
+use borrow.Author.Tests.{lt-ltb, le-ltb, eq-eqb, ne-eqb}
 use Rattle.text.specs.declared.utf8.Lead.{Lead}
 use Rattle.text.specs.Lead.{row, leadOf}
 use Rattle.classes.proofs.Conds.{by-lt, by-eq}
-use Rattle.classes.proofs.ByteTable.{at-each}
-use Rattle.text.proofs.LeadLaws.{sameLead, same-lead}
+use Rattle.text.proofs.LeadLaws.{leads-agree}
 
 -- they are the leading zeros of its complement
 abbrev pub onesOf : ℕ → ℕ
@@ -33,7 +33,7 @@ byOnes n a = cond (eqb n 0) (row 1 0 0) (cond (ltb n 2) (row 0 0 0) (cond (ltb 4
 
 by-ones : (a : ℕ) → a < 256 → byOnes (onesOf a) a ≡ leadOf a
 unfolding leadOf leadingZeros
-by-ones a h = same-lead (byOnes (onesOf a) a) (leadOf a) (at-each (λ b. sameLead (byOnes (onesOf b) b) (leadOf b)) 0 256 tt a (omega arith) h)
+by-ones a h = leads-agree (λ b. byOnes (onesOf b) b) leadOf 0 256 tt a (omega arith) h
 
 -- ---- the cases of the code
 
@@ -47,28 +47,22 @@ ones-key a k low high f e = rw e f
 
 module _ (a : ℕ) (h : a < 256) where
   pub ones-none : onesOf a ≡ 0 → row 1 0 0 ≡ leadOf a
-  ones-none e = by-eq (λ (x : Lead). row 1 0 0 ≡ x) (onesOf a) 0 (λ e. refl) (λ d. absurd (d e)) ∙ by-ones a h
+  ones-none e = simp (eq-eqb _ _ e) at (by-ones a h)
 
   pub ones-few : (onesOf a ≡ 0 → ⊥) → onesOf a < 2 → row 0 0 0 ≡ leadOf a
-  ones-few d l =
-      by-eq (λ (x : Lead). row 0 0 0 ≡ x) (onesOf a) 0 (λ e. absurd (d e))
-      (λ d. by-lt (λ (x : Lead). row 0 0 0 ≡ x) (onesOf a) 2 (λ l. refl) (λ g. absurd (omega arith)))
-      ∙ by-ones a h
+  ones-few d l = simp (ne-eqb _ _ d, lt-ltb _ _ l) at (by-ones a h)
 
   pub ones-many : 4 < onesOf a → row 0 0 0 ≡ leadOf a
   ones-many l =
-      by-eq (λ (x : Lead). row 0 0 0 ≡ x) (onesOf a) 0 (λ e. absurd (omega arith))
-      (λ d. by-lt (λ (x : Lead). row 0 0 0 ≡ x) (onesOf a) 2 (λ k. absurd (omega arith))
-      (λ g. by-lt (λ (x : Lead). row 0 0 0 ≡ x) 4 (onesOf a) (λ l. refl) (λ g. absurd (omega arith))))
-      ∙ by-ones a h
+      let d : onesOf a ≡ 0 → ⊥ = omega arith in
+      let least : 2 ≤ onesOf a = omega arith in
+      simp (ne-eqb _ _ d, le-ltb _ _ least, lt-ltb _ _ l) at (by-ones a h)
 
   module _ (least : 2 ≤ onesOf a) (most : onesOf a ≤ 4) where
     within : beyond (onesOf a) a ≡ leadOf a
     within =
-        by-eq (λ (x : Lead). beyond (onesOf a) a ≡ x) (onesOf a) 0 (λ e. absurd (omega arith))
-        (λ d. by-lt (λ (x : Lead). beyond (onesOf a) a ≡ x) (onesOf a) 2 (λ k. absurd (omega arith))
-        (λ g. by-lt (λ (x : Lead). beyond (onesOf a) a ≡ x) 4 (onesOf a) (λ l. absurd (omega arith)) (λ g. refl)))
-        ∙ by-ones a h
+        let d : onesOf a ≡ 0 → ⊥ = omega arith in
+        simp (ne-eqb _ _ d, le-ltb _ _ least, le-ltb _ _ most) at (by-ones a h)
 
     -- any other byte
     pub ones-rest : Other a → (0xC0 ≤ a → a < 0xC2 → ⊥) → (0xF5 ≤ a → a < 0xF8 → ⊥)

@@ -3,11 +3,11 @@
 use Prim.Native.Nat.{ℕ, zero, suc, _+_, _≤_, _<_}
 use mathlib.Core.Path.{_≡_, refl, sym, ap, _∙_, subst}
 use mathlib.Core.Logic.{inl, _↔_}
-use mathlib.Core.List.{List, [], _∷_, _++_, append-assoc}
+use mathlib.Core.List.{List, [], _∷_, _++_, append-assoc, append-nil}
 use mathlib.Core.Bool.{Bool, true, false, cond, _&&_}
 use native.Mathlib.Omega.{arith}
 use lib.ListN.{length, getD, take, drop, length-append, length-drop, take-append-drop}
-use lib.Seq.{take-append-seam, drop-at, drop-nil, take-length, drop-drop, length-take-le, drop-cons}
+use lib.Seq.{take-append-seam, drop-at, drop-nil, take-length, drop-drop, length-take-le}
 use lib.Dec.{eqb}
 use borrow.Author.Tests.{eqb-true, eq-eqb, ltb-true}
 use Rattle.text.specs.Utf8.{Scalar, encodeScalar, encodes, All, Utf8}
@@ -88,7 +88,8 @@ scalars-char c h t = go (length (encodeScalar c)) refl
     go : (m : ℕ) → length (encodeScalar c) ≡ m → scalars (encodeScalar c ++ t) ≡ c ∷ scalars t
     go zero e = absurd (omega (arith, encode-length c .0))
     go (suc n) e =
-        rw (scalars-more (encodeScalar c ++ t) n (char-length c h t ∙ e), guess-encode c t h, drop-at (encodeScalar c) t (suc n) e)
+        let more = scalars-more (encodeScalar c ++ t) n (char-length c h t ∙ e) in
+        rw (more, guess-encode c t h, drop-at (encodeScalar c) t (suc n) e)
 
 pub scalars-encodes : (cs : List ℕ) → All Scalar cs → (t : List ℕ) → scalars (encodes cs ++ t) ≡ cs ++ scalars t
 scalars-encodes [] h t = refl
@@ -124,15 +125,11 @@ front s = front-from zero s
 
 -- ---- reading and encoding are inverse
 
-append-none : (cs : List ℕ) → cs ++ [] ≡ cs
-append-none [] = refl
-append-none (c ∷ cs) = ap (λ (l : List ℕ). c ∷ l) (append-none cs)
-
 pub scalars-of : (cs : List ℕ) → All Scalar cs → scalars (encodes cs) ≡ cs
 unfolding scalarsFrom
 scalars-of cs h =
-    let e : encodes cs ++ [] ≡ encodes cs = append-none (encodes cs) in
-    ap scalars (sym e) ∙ scalars-encodes cs h [] ∙ append-none cs
+    let e : encodes cs ++ [] ≡ encodes cs = append-nil (encodes cs) in
+    ap scalars (sym e) ∙ scalars-encodes cs h [] ∙ append-nil cs
 
 pub encodes-of : (s : List ℕ) → Utf8 s → encodes (scalars s) ≡ s
 encodes-of s (cs, h, e) = ap (λ (l : List ℕ). encodes (scalars l)) (sym e) ∙ ap encodes (scalars-of cs h) ∙ e
@@ -194,7 +191,8 @@ valid-more s n h =
     rw (scalars-more s n h, length-append (encodeScalar (guess s)) (encodes (scalars (drop (suc n) s))), char-sound s n h .size)
 
 -- a character of n bytes at a place
-pub valid-step : (s : List ℕ) (at n : ℕ) → 0 < n → n ≡ charLen (drop at s) → validPrefix (drop at s) ≡ n + validPrefix (drop (at + n) s)
+pub valid-step : (s : List ℕ) (at n : ℕ) → 0 < n → n ≡ charLen (drop at s)
+    → validPrefix (drop at s) ≡ n + validPrefix (drop (at + n) s)
 valid-step s at zero p h = absurd (omega arith)
 valid-step s at (suc n) p h = rw (← drop-drop (suc n) at s) (valid-more (drop at s) n (sym h))
 
@@ -223,7 +221,8 @@ module _ (s : List ℕ) (at : ℕ) where
   passed-ascii h t r e =
       let n = run ascii (drop at s) in
       let more = run-step ascii s at h t in
-      let whole : validPrefix (drop at s) ≡ n + validPrefix (drop (at + n) s) = rw (← drop-drop n at s) (valid-ascii (drop at s)) in
+      let whole : validPrefix (drop at s) ≡ n + validPrefix (drop (at + n) s) =
+      rw (← drop-drop n at s) (valid-ascii (drop at s)) in
       rw e (record {
         within = omega (arith, run-le ascii (drop at s), length-drop at s);
         whole = omega (arith, whole);

@@ -1,9 +1,9 @@
 -- UTF-8 read from the front: the computed side of Utf8.antt. Not to be believed but proved: proofs/ReadLaws.antt shows
 -- that `validPrefix s` is the length of the longest prefix of s that is `Utf8`, and `scalars` the inverse of `encodes`.
 -- Assumes nothing.
-use Prim.Native.Nat.{ℕ, zero, suc, _+_, _*_, _%_, _≤_, _<_}
+use Prim.Native.Nat.{ℕ, zero, suc, _+_, _*_, _%_, _≤_}
 use mathlib.Core.Path.{_≡_}
-use mathlib.Core.List.{List, [], _∷_, _++_}
+use mathlib.Core.List.{List, [], _∷_}
 use mathlib.Core.Bool.{Bool, true, false, cond, _&&_, _||_}
 use lib.ListN.{length, getD, drop}
 use lib.Dec.{ltb, leb, eqb}

@@ -1,5 +1,5 @@
 // UTF-8: the check, and the encoding of a scalar value.
-// Rules: specs/Utf8.antt, Answers.antt.
+// Rules: specs/Utf8.antt, Answers.antt, and what the answers mean, CheckMeans.antt and Faults.antt.
 ghost use mathlib.Core.Path.{_≡_};
 ghost use mathlib.Core.Bool.{true, false};
 ghost use Prim.Native.Nat.{_+_, _%_, _<_, _≤_};
@@ -113,8 +113,8 @@ fn char_at(s: &[u8], at: usize) -> usize
     n
 }
 
-// The length of the faulty sequence at `at`, where no character begins: as many bytes as begin one,
-// and at least one; 0 where the text ends before it is known whether they do.
+// The length of the faulty sequence at `at`, where no character stands: as many bytes as begin one,
+// and at least one; 0 where the text ends inside it.
 fn fault_at(s: &[u8], at: usize) -> usize
     requires { ⌜ at < length (now s) ⌝ }
     ensures { λ r. ⌜ r ≡ faultLen (drop at (now (s .entry))) ⌝ }
@@ -260,7 +260,7 @@ fn encode_scalar(c: u32) -> Encoded
     }
 }
 
-// A continuation byte: the six low bits.
+// A continuation byte: the mark 10 and the six low bits.
 fn tail(c: u32) -> u8
     ensures { λ r. ⌜ r ≡ 0x80 + c % 64 ⌝ }
 {

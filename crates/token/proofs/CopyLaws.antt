@@ -1,8 +1,8 @@
 -- A copy, byte by byte, to the front of a run: its turn, and what it leaves of zeros.
 -- Assumes nothing.
 use Prim.Native.Nat.{ℕ, zero, suc, _+_, _-_, _≤_, _<_}
-use mathlib.Core.Path.{_≡_, refl, ap, _∙_, subst}
-use mathlib.Core.List.{List, [], _∷_, _++_}
+use mathlib.Core.Path.{_≡_, ap, _∙_, subst}
+use mathlib.Core.List.{List, [], _++_}
 use native.Mathlib.Numerals.{add-one}
 use native.Mathlib.Omega.{arith}
 use lib.ListN.{length, getD, take, drop, set, replicate}
@@ -13,7 +13,8 @@ module _ (d s bytes : List ℕ) where
   copy-turn i l h e =
       let same : 0 + i ≡ i = omega arith in
       let l′ : 0 + i < length d = omega arith in
-      rw (e, add-one i) (subst (λ (k : ℕ). set (paste d 0 s i) k (getD s i 0) ≡ paste d 0 s (suc i)) same (paste-suc d 0 s i 0 l′ h))
+      let turn : ℕ → Type 0 = λ k. set (paste d 0 s i) k (getD s i 0) ≡ paste d 0 s (suc i) in
+      rw (e, add-one i) (subst turn same (paste-suc d 0 s i 0 l′ h))
 
 abbrev pub zeros : ℕ → List ℕ
 zeros n = replicate n 0
@@ -28,5 +29,5 @@ pub copy-end : (n i : ℕ) (s bytes : List ℕ) → length s ≤ n → i ≡ len
 copy-end n i s bytes l e h =
     let all : take i s ≡ s = ap (λ (k : ℕ). take k s) e ∙ take-length s in
     let same : 0 + i ≡ length s = omega arith in
-    let left : drop (0 + i) (zeros n) ≡ zeros (n - length s) = ap (λ (k : ℕ). drop k (zeros n)) same ∙ drop-zeros (length s) n l in
+    let left : drop (0 + i) (zeros n) ≡ zeros (n - length s) = rw same (drop-zeros (length s) n l) in
     h ∙ ap (λ (t : List ℕ). t ++ drop (0 + i) (zeros n)) all ∙ ap (λ (t : List ℕ). s ++ t) left

@@ -13,6 +13,18 @@ use Rattle.token.specs.declared.Answer.the-variants.{Given, Refused}
 use Rattle.token.specs.declared.Description.{Description}
 use Rattle.token.specs.KindNumbers.{kindOfNumber}
 
+-- `literal string`
+abbrev literalText : List ℕ
+literalText = 108 ∷ 105 ∷ 116 ∷ 101 ∷ 114 ∷ 97 ∷ 108 ∷ 32 ∷ 115 ∷ 116 ∷ 114 ∷ 105 ∷ 110 ∷ 103 ∷ []
+
+-- `basic string`
+abbrev basicText : List ℕ
+basicText = 98 ∷ 97 ∷ 115 ∷ 105 ∷ 99 ∷ 32 ∷ 115 ∷ 116 ∷ 114 ∷ 105 ∷ 110 ∷ 103 ∷ []
+
+-- `multi-line `, and a text behind it
+abbrev multiLine : List ℕ → List ℕ
+multiLine text = 109 ∷ 117 ∷ 108 ∷ 116 ∷ 105 ∷ 45 ∷ 108 ∷ 105 ∷ 110 ∷ 101 ∷ 32 ∷ text
+
 -- the words for each kind
 abbrev pub kindText : TokenKind → List ℕ
 -- `.`
@@ -36,13 +48,13 @@ kindText Comment = 99 ∷ 111 ∷ 109 ∷ 109 ∷ 101 ∷ 110 ∷ 116 ∷ []
 -- newline
 kindText Newline = 110 ∷ 101 ∷ 119 ∷ 108 ∷ 105 ∷ 110 ∷ 101 ∷ []
 -- literal string
-kindText LiteralString = 108 ∷ 105 ∷ 116 ∷ 101 ∷ 114 ∷ 97 ∷ 108 ∷ 32 ∷ 115 ∷ 116 ∷ 114 ∷ 105 ∷ 110 ∷ 103 ∷ []
+kindText LiteralString = literalText
 -- basic string
-kindText BasicString = 98 ∷ 97 ∷ 115 ∷ 105 ∷ 99 ∷ 32 ∷ 115 ∷ 116 ∷ 114 ∷ 105 ∷ 110 ∷ 103 ∷ []
+kindText BasicString = basicText
 -- multi-line literal string
-kindText MlLiteralString = 109 ∷ 117 ∷ 108 ∷ 116 ∷ 105 ∷ 45 ∷ 108 ∷ 105 ∷ 110 ∷ 101 ∷ 32 ∷ 108 ∷ 105 ∷ 116 ∷ 101 ∷ 114 ∷ 97 ∷ 108 ∷ 32 ∷ 115 ∷ 116 ∷ 114 ∷ 105 ∷ 110 ∷ 103 ∷ []
+kindText MlLiteralString = multiLine literalText
 -- multi-line basic string
-kindText MlBasicString = 109 ∷ 117 ∷ 108 ∷ 116 ∷ 105 ∷ 45 ∷ 108 ∷ 105 ∷ 110 ∷ 101 ∷ 32 ∷ 98 ∷ 97 ∷ 115 ∷ 105 ∷ 99 ∷ 32 ∷ 115 ∷ 116 ∷ 114 ∷ 105 ∷ 110 ∷ 103 ∷ []
+kindText MlBasicString = multiLine basicText
 -- token
 kindText Atom = 116 ∷ 111 ∷ 107 ∷ 101 ∷ 110 ∷ []
 -- end-of-input

@@ -28,7 +28,7 @@ impl Token {
         Token { kind, span, line }
     }
 
-    // The token as four numbers: kind, start, end, line.
+    // Every token is read into a record here.
     pub fn as_record(self) -> Record
         ensures { λ r. ⌜ r ≡ recordOf self ⌝ }
     {

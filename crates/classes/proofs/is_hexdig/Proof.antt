@@ -13,11 +13,15 @@ returns c = class-is true hexdig 0x30 10 tt (c .before .before .args .b) (omega 
 
 returns-2 : tie.Need-returns-2
 unfolding hexdig
-returns-2 c = class-is true hexdig 0x41 6 tt (c .before .before .before .before .args .b) (omega arith) (omega arith)
+returns-2 c =
+    let b = c .before .before .before .before .args .b in
+    class-is true hexdig 0x41 6 tt b (omega arith) (omega arith)
 
 returns-3 : tie.Need-returns-3
 unfolding hexdig
-returns-3 c = class-is true hexdig 0x61 6 tt (c .before .before .before .before .before .before .args .b) (omega arith) (omega arith)
+returns-3 c =
+    let b = c .before .before .before .before .before .before .args .b in
+    class-is true hexdig 0x61 6 tt b (omega arith) (omega arith)
 
 returns-4 : tie.Need-returns-4
 unfolding hexdig
@@ -29,11 +33,15 @@ returns-5 c = class-is false hexdig 0x3A 7 tt (c .before .before .before .args .
 
 returns-6 : tie.Need-returns-6
 unfolding hexdig
-returns-6 c = class-is false hexdig 0x47 26 tt (c .before .before .before .before .before .args .b) (omega arith) (omega arith)
+returns-6 c =
+    let b = c .before .before .before .before .before .args .b in
+    class-is false hexdig 0x47 26 tt b (omega arith) (omega arith)
 
 returns-7 : tie.Need-returns-7
 unfolding hexdig
-returns-7 c = class-is false hexdig 0x67 153 tt (c .before .before .before .before .before .before .args .b) (omega arith) (omega arith)
+returns-7 c =
+    let b = c .before .before .before .before .before .before .args .b in
+    class-is false hexdig 0x67 153 tt b (omega arith) (omega arith)
 
 pub is-hexdig-spec : {M : Type 1} → statement M
 is-hexdig-spec =

@@ -10,15 +10,22 @@ use Rattle.classes.proofs.is_literal_char.Tie as tie
 
 returns : tie.Need-returns
 unfolding literalChar
-returns c = rest-is false literalChar (0x09 ∷ []) 0 0x20 tt (c .before .before .args .b) (c .before .match .rest .1) (omega arith) (omega arith)
+returns c =
+    let b = c .before .before .args .b in
+    let no-key = c .before .match .rest .1 in
+    rest-is false literalChar (0x09 ∷ []) 0 0x20 tt b no-key (omega arith) (omega arith)
 
 returns-2 : tie.Need-returns-2
 unfolding literalChar
-returns-2 c = class-is false literalChar 0x27 1 tt (c .before .before .before .before .args .b) (omega arith) (omega arith)
+returns-2 c =
+    let b = c .before .before .before .before .args .b in
+    class-is false literalChar 0x27 1 tt b (omega arith) (omega arith)
 
 returns-3 : tie.Need-returns-3
 unfolding literalChar
-returns-3 c = class-is false literalChar 0x7F 1 tt (c .before .before .before .before .before .before .args .b) (omega arith) (omega arith)
+returns-3 c =
+    let b = c .before .before .before .before .before .before .args .b in
+    class-is false literalChar 0x7F 1 tt b (omega arith) (omega arith)
 
 returns-4 : tie.Need-returns-4
 unfolding literalChar
@@ -26,15 +33,21 @@ returns-4 c = keys-are true literalChar (0x09 ∷ []) tt (c .match .keys1)
 
 returns-5 : tie.Need-returns-5
 unfolding literalChar
-returns-5 c = class-is true literalChar 0x20 7 tt (c .before .before .before .args .b) (omega arith) (omega arith)
+returns-5 c =
+    let b = c .before .before .before .args .b in
+    class-is true literalChar 0x20 7 tt b (omega arith) (omega arith)
 
 returns-6 : tie.Need-returns-6
 unfolding literalChar
-returns-6 c = class-is true literalChar 0x28 0x57 tt (c .before .before .before .before .before .args .b) (omega arith) (omega arith)
+returns-6 c =
+    let b = c .before .before .before .before .before .args .b in
+    class-is true literalChar 0x28 0x57 tt b (omega arith) (omega arith)
 
 returns-7 : tie.Need-returns-7
 unfolding literalChar
-returns-7 c = class-is true literalChar 0x80 128 tt (c .before .before .before .before .before .before .args .b) (omega arith) (omega arith)
+returns-7 c =
+    let b = c .before .before .before .before .before .before .args .b in
+    class-is true literalChar 0x80 128 tt b (omega arith) (omega arith)
 
 pub is-literal-char-spec : {M : Type 1} → statement M
 is-literal-char-spec =

@@ -10,15 +10,22 @@ use Rattle.classes.proofs.is_mll_char.Tie as tie
 
 returns : tie.Need-returns
 unfolding mllChar
-returns c = rest-is false mllChar (0x09 ∷ []) 0 0x20 tt (c .before .before .args .b) (c .before .match .rest .1) (omega arith) (omega arith)
+returns c =
+    let b = c .before .before .args .b in
+    let no-key = c .before .match .rest .1 in
+    rest-is false mllChar (0x09 ∷ []) 0 0x20 tt b no-key (omega arith) (omega arith)
 
 returns-2 : tie.Need-returns-2
 unfolding mllChar
-returns-2 c = class-is false mllChar 0x27 1 tt (c .before .before .before .before .args .b) (omega arith) (omega arith)
+returns-2 c =
+    let b = c .before .before .before .before .args .b in
+    class-is false mllChar 0x27 1 tt b (omega arith) (omega arith)
 
 returns-3 : tie.Need-returns-3
 unfolding mllChar
-returns-3 c = class-is false mllChar 0x7F 1 tt (c .before .before .before .before .before .before .args .b) (omega arith) (omega arith)
+returns-3 c =
+    let b = c .before .before .before .before .before .before .args .b in
+    class-is false mllChar 0x7F 1 tt b (omega arith) (omega arith)
 
 returns-4 : tie.Need-returns-4
 unfolding mllChar
@@ -30,11 +37,15 @@ returns-5 c = class-is true mllChar 0x20 7 tt (c .before .before .before .args .
 
 returns-6 : tie.Need-returns-6
 unfolding mllChar
-returns-6 c = class-is true mllChar 0x28 0x57 tt (c .before .before .before .before .before .args .b) (omega arith) (omega arith)
+returns-6 c =
+    let b = c .before .before .before .before .before .args .b in
+    class-is true mllChar 0x28 0x57 tt b (omega arith) (omega arith)
 
 returns-7 : tie.Need-returns-7
 unfolding mllChar
-returns-7 c = class-is true mllChar 0x80 128 tt (c .before .before .before .before .before .before .args .b) (omega arith) (omega arith)
+returns-7 c =
+    let b = c .before .before .before .before .before .before .args .b in
+    class-is true mllChar 0x80 128 tt b (omega arith) (omega arith)
 
 pub is-mll-char-spec : {M : Type 1} → statement M
 is-mll-char-spec =

@@ -10,19 +10,29 @@ use Rattle.classes.proofs.is_unquoted_char.Tie as tie
 
 returns : tie.Need-returns
 unfolding unquotedChar
-returns c = rest-is false unquotedChar (0x2D ∷ 0x5F ∷ []) 0 0x30 tt (c .before .before .args .b) (c .before .match .rest .1) (omega arith) (omega arith)
+returns c =
+    let b = c .before .before .args .b in
+    let no-key = c .before .match .rest .1 in
+    rest-is false unquotedChar (0x2D ∷ 0x5F ∷ []) 0 0x30 tt b no-key (omega arith) (omega arith)
 
 returns-2 : tie.Need-returns-2
 unfolding unquotedChar
-returns-2 c = class-is false unquotedChar 0x3A 7 tt (c .before .before .before .before .args .b) (omega arith) (omega arith)
+returns-2 c =
+    let b = c .before .before .before .before .args .b in
+    class-is false unquotedChar 0x3A 7 tt b (omega arith) (omega arith)
 
 returns-3 : tie.Need-returns-3
 unfolding unquotedChar
-returns-3 c = rest-is false unquotedChar (0x2D ∷ 0x5F ∷ []) 0x5B 6 tt (c .before .before .before .before .before .before .args .b) (c .before .before .before .before .before .match .rest .1) (omega arith) (omega arith)
+returns-3 c =
+    let b = c .before .before .before .before .before .before .args .b in
+    let no-key = c .before .before .before .before .before .match .rest .1 in
+    rest-is false unquotedChar (0x2D ∷ 0x5F ∷ []) 0x5B 6 tt b no-key (omega arith) (omega arith)
 
 returns-4 : tie.Need-returns-4
 unfolding unquotedChar
-returns-4 c = class-is false unquotedChar 0x7B 133 tt (c .before .before .before .before .before .before .before .args .b) (omega arith) (omega arith)
+returns-4 c =
+    let b = c .before .before .before .before .before .before .before .args .b in
+    class-is false unquotedChar 0x7B 133 tt b (omega arith) (omega arith)
 
 returns-5 : tie.Need-returns-5
 unfolding unquotedChar
@@ -30,15 +40,21 @@ returns-5 c = keys-are true unquotedChar (0x2D ∷ 0x5F ∷ []) tt (c .match .ke
 
 returns-6 : tie.Need-returns-6
 unfolding unquotedChar
-returns-6 c = class-is true unquotedChar 0x30 10 tt (c .before .before .before .args .b) (omega arith) (omega arith)
+returns-6 c =
+    let b = c .before .before .before .args .b in
+    class-is true unquotedChar 0x30 10 tt b (omega arith) (omega arith)
 
 returns-7 : tie.Need-returns-7
 unfolding unquotedChar
-returns-7 c = class-is true unquotedChar 0x41 26 tt (c .before .before .before .before .before .args .b) (omega arith) (omega arith)
+returns-7 c =
+    let b = c .before .before .before .before .before .args .b in
+    class-is true unquotedChar 0x41 26 tt b (omega arith) (omega arith)
 
 returns-8 : tie.Need-returns-8
 unfolding unquotedChar
-returns-8 c = class-is true unquotedChar 0x61 26 tt (c .before .before .before .before .before .before .before .args .b) (omega arith) (omega arith)
+returns-8 c =
+    let b = c .before .before .before .before .before .before .before .args .b in
+    class-is true unquotedChar 0x61 26 tt b (omega arith) (omega arith)
 
 pub is-unquoted-char-spec : {M : Type 1} → statement M
 is-unquoted-char-spec =

@@ -14,7 +14,9 @@ returns c = keys-are true wschar (0x09 ∷ 0x20 ∷ []) tt (c .match .keys1)
 
 returns-2 : tie.Need-returns-2
 unfolding wschar
-returns-2 c = rest-is false wschar (0x09 ∷ 0x20 ∷ []) 0 256 tt (c .before .args .b) (c .match .rest .1) (omega arith) (omega arith)
+returns-2 c =
+    let b = c .before .args .b in
+    rest-is false wschar (0x09 ∷ 0x20 ∷ []) 0 256 tt b (c .match .rest .1) (omega arith) (omega arith)
 
 pub is-wschar-spec : {M : Type 1} → statement M
 is-wschar-spec =

@@ -32,8 +32,9 @@ loop-less c = omega arith
 
 loop-again : tie.Need-loop-again Inv-loop μ-loop
 loop-again c =
+    let text = c .before .before .before .args .text .now in
     let at = c .before .before .loop in
-    (omega arith, copy-turn (replicate 25 0) (c .before .before .before .args .text .now) (at .bytes) (at .i) (omega arith) (omega arith) (at .inv .1))
+    (omega arith, copy-turn (replicate 25 0) text (at .bytes) (at .i) (omega arith) (omega arith) (at .inv .1))
 
 returns : tie.Need-returns Inv-loop μ-loop
 returns c =

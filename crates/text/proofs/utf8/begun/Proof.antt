@@ -10,17 +10,25 @@ use Rattle.text.proofs.BegunLaws.{begun-1, begun-2, begun-3, begun-4}
 use Rattle.text.proofs.utf8.begun.Statement.{statement}
 use Rattle.text.proofs.utf8.begun.Tie as tie
 
--- what the function was given, seen from behind the test of the second byte
-abbrev given : (c : tie.Else3) → tie.Start
+-- from behind the test of the fourth byte back to that of the third, from there to that of the second, and from there to
+-- what the function was given
+abbrev at-third : tie.After-is-among3 → tie.Else6
+at-third c = c .before .before .before .before
+
+abbrev at-second : tie.Else6 → tie.Else3
+at-second c = c .before .before .before .before .before
+
+abbrev given : tie.Else3 → tie.Start
 given c = c .before .before .before .before .before .before
 
 abbrev byte : tie.Start → ℕ → ℕ
 byte a i = getD (a .args .s .now) (a .args .at + i) 0
 
+-- the second byte is as the first one asks, and the third is a continuation
 second : (c : tie.Else3) → Among (given c .args .lead .1) (given c .args .lead .2) (byte (given c) 1)
 second c = c .before .is-among .ensures .0 (not-false _ (c .if3 .left))
 
-third : (c : tie.Else6) → Among 0x80 0xBF (byte (given (c .before .before .before .before .before)) 2)
+third : (c : tie.Else6) → Among 0x80 0xBF (byte (given (at-second c)) 2)
 third c = c .before .is-among2 .ensures .0 (not-false _ (c .if6 .left))
 
 sub-left : tie.Need-sub-left
@@ -60,13 +68,19 @@ is-among-requires-2 : tie.Need-is-among-requires-2
 is-among-requires-2 c κs = search needs
 
 returns-6 : tie.Need-returns-6
-returns-6 c = begun-2 (omega arith) (omega arith) (second (c .before .before .before .before .before)) (λ h k a. c .before .is-among2 .ensures .1 (not-true _ (c .if6 .taken)) a)
+returns-6 c =
+    let not-third = c .before .is-among2 .ensures .1 (not-true _ (c .if6 .taken)) in
+    begun-2 (omega arith) (omega arith) (second (c .before .before .before .before .before)) (λ h k. not-third)
 
 returns-7 : tie.Need-returns-7
-returns-7 c = begun-3 (omega arith) (omega arith) (second (c .before .before .before .before .before .before)) (third (c .before)) (λ h k a. omega arith)
+returns-7 c =
+    let seen = c .before in
+    begun-3 (omega arith) (omega arith) (second (at-second seen)) (third seen) (λ h k a. omega arith)
 
 returns-8 : tie.Need-returns-8
-returns-8 c = begun-3 (omega arith) (omega arith) (second (c .before .before .before .before .before .before .before)) (third (c .before .before)) (λ h k a. omega arith)
+returns-8 c =
+    let seen = c .before .before in
+    begun-3 (omega arith) (omega arith) (second (at-second seen)) (third seen) (λ h k a. omega arith)
 
 add-is-among-3 : tie.Need-add-is-among-3
 add-is-among-3 c = search needs
@@ -78,10 +92,16 @@ is-among-requires-3 : tie.Need-is-among-requires-3
 is-among-requires-3 c κs = search needs
 
 returns-9 : tie.Need-returns-9
-returns-9 c = begun-3 (omega arith) (omega arith) (second (c .before .before .before .before .before .before .before .before .before .before)) (third (c .before .before .before .before .before)) (λ h k a. c .before .is-among3 .ensures .1 (not-true _ (c .if9 .taken)) a)
+returns-9 c =
+    let seen = at-third (c .before) in
+    let not-fourth = c .before .is-among3 .ensures .1 (not-true _ (c .if9 .taken)) in
+    begun-3 (omega arith) (omega arith) (second (at-second seen)) (third seen) (λ h k. not-fourth)
 
 returns-10 : tie.Need-returns-10
-returns-10 c = begun-4 (omega arith) (omega arith) (second (c .before .before .before .before .before .before .before .before .before .before)) (third (c .before .before .before .before .before)) (c .before .is-among3 .ensures .0 (not-false _ (c .if9 .left)))
+returns-10 c =
+    let seen = at-third (c .before) in
+    let fourth = c .before .is-among3 .ensures .0 (not-false _ (c .if9 .left)) in
+    begun-4 (omega arith) (omega arith) (second (at-second seen)) (third seen) fourth
 
 pub begun-spec : {M : Type 1} → statement M
 begun-spec =

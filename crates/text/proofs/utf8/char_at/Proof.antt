@@ -16,11 +16,17 @@ begun-requires c κs = search needs
 
 returns : tie.Need-returns
 returns c =
-    part-begun (c .before .before .before .before .before .args .s .now) (c .before .before .before .before .before .args .at) (c .before .before .lead-of .result) (c .before .before .lead-of .ensures) (c .before .begun .result) (c .before .begun .ensures) (c .if1 .taken)
+    let a = c .before .before .before .before .before .args in
+    let lead = c .before .before .lead-of in
+    let found = c .before .begun in
+    part-begun (a .s .now) (a .at) (lead .result) (lead .ensures) (found .result) (found .ensures) (c .if1 .taken)
 
 returns-2 : tie.Need-returns-2
 returns-2 c =
-    all-begun (c .before .before .before .before .before .args .s .now) (c .before .before .before .before .before .args .at) (c .before .before .lead-of .result) (c .before .before .lead-of .ensures) (c .before .begun .result) (c .before .begun .ensures) (c .if1 .left)
+    let a = c .before .before .before .before .before .args in
+    let lead = c .before .before .lead-of in
+    let found = c .before .begun in
+    all-begun (a .s .now) (a .at) (lead .result) (lead .ensures) (found .result) (found .ensures) (c .if1 .left)
 
 pub char-at-spec : {M : Type 1} → statement M
 char-at-spec =

@@ -11,7 +11,9 @@ is-scalar-requires : tie.Need-is-scalar-requires
 is-scalar-requires c κs = search needs
 
 encode-scalar-requires : tie.Need-encode-scalar-requires
-encode-scalar-requires c κs = scalar-lt (c .before .before .args .c) (true-scalar (c .before .before .args .c) (sym (c .before .is-scalar .ensures) ∙ c .if1 .taken))
+encode-scalar-requires c κs =
+    let x = c .before .before .args .c in
+    scalar-lt x (true-scalar x (sym (c .before .is-scalar .ensures) ∙ c .if1 .taken))
 
 returns : tie.Need-returns
 unfolding encodedOf

@@ -36,7 +36,8 @@ tail-requires-3 c κs = search needs
 returns-3 : tie.Need-returns-3
 returns-3 c =
     let x = c .before .before .before .before .before .args .c in
-    rw (encode-3 x (omega arith) (omega arith), lead-3 x (omega arith), c .before .tail2 .ensures, c .tail3 .ensures)
+    let second = c .before .tail2 .ensures in
+    rw (encode-3 x (omega arith) (omega arith), lead-3 x (omega arith), second, c .tail3 .ensures)
 
 cast-t19 : tie.Need-cast-t19
 cast-t19 c = omega (arith, lead-4 (c .before .before .before .args .c) (omega arith))
@@ -53,7 +54,9 @@ tail-requires-6 c κs = search needs
 returns-4 : tie.Need-returns-4
 returns-4 c =
     let x = c .before .before .before .before .before .before .args .c in
-    rw (encode-4 x (omega arith), lead-4 x (omega arith), c .before .before .tail4 .ensures, c .before .tail5 .ensures, c .tail6 .ensures)
+    let second = c .before .before .tail4 .ensures in
+    let third = c .before .tail5 .ensures in
+    rw (encode-4 x (omega arith), lead-4 x (omega arith), second, third, c .tail6 .ensures)
 
 pub encode-scalar-spec : {M : Type 1} → statement M
 encode-scalar-spec =

@@ -15,7 +15,8 @@ lead-of-requires c κs = search needs
 returns : tie.Need-returns
 returns c =
     let a = c .before .before .before .before .before .args in
-    fault-lead (a .s .now) (a .at) (c .before .before .lead-of .result) (c .before .before .lead-of .ensures) (c .if1 .taken)
+    let lead = c .before .before .lead-of in
+    fault-lead (a .s .now) (a .at) (lead .result) (lead .ensures) (c .if1 .taken)
 
 begun-requires : tie.Need-begun-requires
 begun-requires c κs = search needs
@@ -26,12 +27,20 @@ sub-if2 c = search needs
 returns-2 : tie.Need-returns-2
 returns-2 c =
     let a = c .before .before .before .before .before .before .before .args in
-    fault-end (a .s .now) (a .at) (c .before .before .before .before .lead-of .result) (c .before .before .before .before .lead-of .ensures) (omega arith) (c .before .before .if1 .left) (c .before .begun .result) (c .before .begun .ensures) (c .if2 .taken)
+    let s = a .s .now in
+    let lead = c .before .before .before .before .lead-of in
+    let found = c .before .begun in
+    let asks = c .before .before .if1 .left in
+    fault-end s (a .at) (lead .result) (lead .ensures) (omega arith) asks (found .result) (found .ensures) (c .if2 .taken)
 
 returns-3 : tie.Need-returns-3
 returns-3 c =
     let a = c .before .before .before .before .before .before .before .args in
-    fault-within (a .s .now) (a .at) (c .before .before .before .before .lead-of .result) (c .before .before .before .before .lead-of .ensures) (omega arith) (c .before .before .if1 .left) (c .before .begun .result) (c .before .begun .ensures) (c .if2 .left)
+    let s = a .s .now in
+    let lead = c .before .before .before .before .lead-of in
+    let found = c .before .begun in
+    let asks = c .before .before .if1 .left in
+    fault-within s (a .at) (lead .result) (lead .ensures) (omega arith) asks (found .result) (found .ensures) (c .if2 .left)
 
 pub fault-at-spec : {M : Type 1} → statement M
 fault-at-spec =

@@ -1,6 +1,6 @@
 -- `is_among` is right by its two tests.
 -- Assumes nothing.
-use mathlib.Core.Path.{refl, sym}
+use mathlib.Core.Path.{sym}
 use mathlib.Core.Bool.{false≢true}
 use native.Mathlib.Omega.{arith}
 use Rattle.text.proofs.utf8.is_among.Statement.{statement}

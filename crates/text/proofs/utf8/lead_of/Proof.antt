@@ -40,20 +40,33 @@ returns-7 c = ones-key (c .before .before .before .before .args .a) 0xF4 0x80 0x
 
 returns-8 : tie.Need-returns-8
 unfolding leadOf
-returns-8 c = row-is (row 0 0 0) 0x80 66 tt (c .before .before .before .before .before .before .args .a) (omega arith) (omega arith)
+returns-8 c =
+    let a = c .before .before .before .before .before .before .args .a in
+    row-is (row 0 0 0) 0x80 66 tt a (omega arith) (omega arith)
 
 returns-9 : tie.Need-returns-9
 unfolding leadOf
-returns-9 c = row-is (row 0 0 0) 0xF5 11 tt (c .before .before .before .before .before .before .before .before .args .a) (omega arith) (omega arith)
+returns-9 c =
+    let a = c .before .before .before .before .before .before .before .before .args .a in
+    row-is (row 0 0 0) 0xF5 11 tt a (omega arith) (omega arith)
 
 returns-10 : tie.Need-returns-10
-returns-10 c = ones-rest (c .before .before .before .before .before .args .a) (omega arith) (omega arith) (omega arith) (c .before .match .rest) (omega arith) (omega arith)
+returns-10 c =
+    let a = c .before .before .before .before .before .args .a in
+    let others = c .before .match .rest in
+    ones-rest a (omega arith) (omega arith) (omega arith) others (omega arith) (omega arith)
 
 returns-11 : tie.Need-returns-11
-returns-11 c = ones-rest (c .before .before .before .before .before .before .before .args .a) (omega arith) (omega arith) (omega arith) (c .before .before .before .match .rest) (omega arith) (omega arith)
+returns-11 c =
+    let a = c .before .before .before .before .before .before .before .args .a in
+    let others = c .before .before .before .match .rest in
+    ones-rest a (omega arith) (omega arith) (omega arith) others (omega arith) (omega arith)
 
 returns-12 : tie.Need-returns-12
-returns-12 c = ones-rest (c .before .before .before .before .before .before .before .before .args .a) (omega arith) (omega arith) (omega arith) (c .before .before .before .before .match .rest) (omega arith) (omega arith)
+returns-12 c =
+    let a = c .before .before .before .before .before .before .before .before .args .a in
+    let others = c .before .before .before .before .match .rest in
+    ones-rest a (omega arith) (omega arith) (omega arith) others (omega arith) (omega arith)
 
 pub lead-of-spec : {M : Type 1} → statement M
 lead-of-spec =

@@ -1,6 +1,5 @@
 -- `passed` is right because a run of ASCII is a run of characters, and any other character is one.
 -- Assumes nothing.
-use Prim.Native.Nat.{_+_}
 use native.Mathlib.Omega.{arith}
 use borrow.Author.Needs.{needs}
 use borrow.Author.Tests.{lt-ltb}
@@ -16,18 +15,23 @@ ascii-run-requires : tie.Need-ascii-run-requires
 ascii-run-requires c κs = search needs
 
 returns : tie.Need-returns
-returns c = passed-ascii (c .before .before .before .before .args .s .now) (c .before .before .before .before .args .at) (omega arith) (lt-ltb _ _ (c .before .if1 .taken)) _ (c .ascii-run .ensures)
+returns c =
+    let a = c .before .before .before .before .args in
+    let first = lt-ltb _ _ (c .before .if1 .taken) in
+    passed-ascii (a .s .now) (a .at) (omega arith) first _ (c .ascii-run .ensures)
 
 char-at-requires : tie.Need-char-at-requires
 char-at-requires c κs = search needs
 
 add-result : tie.Need-add-result
 add-result c =
-    let rest = drop (c .before .before .before .before .args .at) (c .before .before .before .before .args .s .now) in
-    omega (arith, c .char-at .ensures, char-le rest, length-drop (c .before .before .before .before .args .at) (c .before .before .before .before .args .s .now))
+    let a = c .before .before .before .before .args in
+    omega (arith, c .char-at .ensures, char-le (drop (a .at) (a .s .now)), length-drop (a .at) (a .s .now))
 
 returns-2 : tie.Need-returns-2
-returns-2 c = passed-char (c .before .before .before .before .args .s .now) (c .before .before .before .before .args .at) (omega arith) _ (c .char-at .ensures)
+returns-2 c =
+    let a = c .before .before .before .before .args in
+    passed-char (a .s .now) (a .at) (omega arith) _ (c .char-at .ensures)
 
 pub passed-spec : {M : Type 1} → statement M
 passed-spec =

@@ -22,14 +22,14 @@ enum-known-refusal c = search needs
 returns : tie.Need-returns
 unfolding descriptionOf
 returns c =
-    described-numbers (c .before .before .before .before .before .args .number) _
-    (c .described .ensures ∙ ap descriptionBy (sym (c .before .before .kind .given .1) ∙ c .before .before .before .before .from-number .ensures .0))
+    let read = sym (c .before .before .kind .given .1) ∙ c .before .before .before .before .from-number .ensures .0 in
+    described-numbers (c .before .before .before .before .before .args .number) _ (c .described .ensures ∙ ap descriptionBy read)
 
 returns-2 : tie.Need-returns-2
 unfolding descriptionOf
 returns-2 c =
-    described-numbers (c .before .before .before .before .args .number) _
-    (ap descriptionBy (sym (c .before .refusal .given .1) ∙ c .before .before .before .from-number .ensures .0))
+    let read = sym (c .before .refusal .given .1) ∙ c .before .before .before .from-number .ensures .0 in
+    described-numbers (c .before .before .before .before .args .number) _ (ap descriptionBy read)
 
 pub description-spec : {M : Type 1} → statement M
 description-spec =

@@ -22,14 +22,14 @@ enum-known-refusal c = search needs
 returns : tie.Need-returns
 unfolding encodingOf
 returns c =
-    encoded-numbers (c .before .before .before .before .before .args .number) _
-    (rw (c .encoded .ensures) (ap encodingBy (sym (c .before .before .kind .given .1) ∙ c .before .before .before .before .from-number .ensures .0)))
+    let read = sym (c .before .before .kind .given .1) ∙ c .before .before .before .before .from-number .ensures .0 in
+    encoded-numbers (c .before .before .before .before .before .args .number) _ (rw (c .encoded .ensures) (ap encodingBy read))
 
 returns-2 : tie.Need-returns-2
 unfolding encodingOf
 returns-2 c =
-    encoded-numbers (c .before .before .before .before .args .number) _
-    (ap encodingBy (sym (c .before .refusal .given .1) ∙ c .before .before .before .from-number .ensures .0))
+    let read = sym (c .before .refusal .given .1) ∙ c .before .before .before .from-number .ensures .0 in
+    encoded-numbers (c .before .before .before .before .args .number) _ (ap encodingBy read)
 
 pub encoding-spec : {M : Type 1} → statement M
 encoding-spec =
