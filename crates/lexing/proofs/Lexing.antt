@@ -7,7 +7,7 @@ use mathlib.Core.Bool.{Bool, true, false, cond, _||_}
 use mathlib.Core.List.{List, [], _∷_, _++_, append-assoc, append-nil, List·Memᴰ, map, List·Memᴰ·head, List·Memᴰ·tail, List·Memᴰ·cases-cons, List·Memᴰ·not-nil}
 use native.Mathlib.Omega.{arith}
 use native.Mathlib.Decide.{decLt}
-use borrow.Author.Tests.{eqb-true, lt-ltb, le-ltb, eq-eqb, ne-eqb}
+use borrow.Author.Tests.{eqb-true, le-ltb, eq-eqb, ne-eqb}
 use lib.Dec.{eqb, ltb}
 use lib.ListN.{length, getD, take, drop, length-drop, drop-of-length-le}
 use lib.Seq.{drop-drop}
@@ -32,7 +32,7 @@ use Rattle.classes.proofs.Conds.{cond-case, of-choice, both-left, both-right}
 use Rattle.lexer.proofs.LineLaws.{lines-none, lines-split, start-no-line, lines-taken}
 use Rattle.lexer.proofs.TokenLaws.{token-fits, token-long, token-fits-at, line-fits-at, tokens-cons, tokens-step, tokens-end, start-fits}
 use Rattle.place.specs.Positions.{positionAnswer}
-use Rattle.lexing.specs.Lexing.{cursorBehind, stepsFrom, Gives, StepsWhole, TokenLine, OnLines, RecordLines, movedCursor, movedStep, StepsMoved, Follow, NoGap, NotEmpty, textOf, Uncut, Local}
+use Rattle.lexing.specs.Lexing.{cursorBehind, stepsFrom, Gives, StepsWhole, TokenLine, OnLines, RecordLines, movedCursor, movedStep, StepsMoved, Follow, NoGap, NotEmpty, Uncut, Local}
 use Rattle.lexing.specs.Cuts.{Clean, at-end, before, after, further}
 use Rattle.lexing.proofs.CutLaws.{token-clean}
 use Rattle.lexing.proofs.LocalLaws.{token-local}

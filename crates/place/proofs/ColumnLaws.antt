@@ -2,18 +2,18 @@
 -- offset: of a character's bytes only the first is not 80 to BF.
 -- Assumes nothing.
 use Prim.Native.Nat.{ℕ, zero, suc, _+_, _-_, _≤_, _<_}
-use mathlib.Core.Path.{_≡_, refl, sym, ap, _∙_, subst}
-use mathlib.Core.Bool.{Bool, true, false, cond, _&&_}
+use mathlib.Core.Path.{_≡_, refl, sym, ap, _∙_}
+use mathlib.Core.Bool.{Bool, true, false, cond}
 use mathlib.Core.Logic.{_⊎_, inl, inr}
 use mathlib.Core.List.{List, [], _∷_, _++_}
 use native.Mathlib.Decide.{decLt}
 use native.Mathlib.Omega.{arith}
-use borrow.Author.Tests.{eq-eqb, ne-eqb, eqb-true, eqb-false, le-leb, lt-leb, lt-ltb}
+use borrow.Author.Tests.{ne-eqb, eqb-true, eqb-false, le-leb, lt-leb, lt-ltb}
 use lib.Dec.{eqb}
-use lib.ListN.{length, getD, take, drop}
+use lib.ListN.{length, take, drop}
 use lib.Seq.{take-nil}
 use Rattle.classes.specs.Classes.{continuation}
-use Rattle.classes.proofs.Conds.{cond-case, both-left, both-right}
+use Rattle.classes.proofs.Conds.{cond-case}
 use Rattle.text.specs.Utf8.{Scalar, encodeScalar, encodes, All, Utf8}
 use Rattle.text.specs.Utf8Read.{guess, scalars}
 use Rattle.text.proofs.EncodeLaws.{Tail, Parts, parts, guess-encode}
@@ -38,16 +38,21 @@ inside-not b (inr h) = simp (le-leb 0x80 b (omega arith), lt-leb b 0xBF (omega a
 tail-turn : (b c : ℕ) → Tail b → turned b c ≡ c
 tail-turn b c h = simp (ne-eqb b 10 (λ e. omega (arith, h .0)), inside-tail b h)
 
-first-turn : (c k : ℕ) → turned (parts c .first) (1 + k) ≡ 1 + cond (eqb c 10) 0 (k + 1)
+-- what one scalar value does to the count on its line
+abbrev counted : ℕ → ℕ → ℕ
+counted c k = cond (eqb c 10) 0 (k + 1)
+
+first-turn : (c k : ℕ) → turned (parts c .first) (1 + k) ≡ 1 + counted c k
 first-turn c k = go (parts c)
   where
-    go : (p : Parts c) → turned (p .first) (1 + k) ≡ 1 + cond (eqb c 10) 0 (k + 1)
+    go : (p : Parts c) → turned (p .first) (1 + k) ≡ 1 + counted c k
     go p =
         elim (decLt c 0x80) [
           | yes l ↦ rw (p .same l, inside-not c (inl l)) (low (eqb c 10))
           | no l ↦
               let m : 0xC0 ≤ p .first = p .more (omega arith) in
-              simp (ne-eqb c 10 (λ e. omega arith), ne-eqb (p .first) 10 (λ e. omega arith), inside-not (p .first) (inr m)) (omega arith)
+              let no-lf = ne-eqb (p .first) 10 (λ e. omega arith) in
+              simp (ne-eqb c 10 (λ e. omega arith), no-lf, inside-not (p .first) (inr m)) (omega arith)
         ]
       where
         low : (t : Bool) → cond t 1 (1 + k + 1) ≡ 1 + cond t 0 (k + 1)
@@ -55,7 +60,8 @@ first-turn c k = go (parts c)
         low false = omega arith
 
 -- its later bytes leave the column as it is
-tails-pass : (ts s : List ℕ) (n m c : ℕ) → All Tail ts → m ≡ n - length ts → columnBehind c (take n (ts ++ s)) ≡ columnBehind c (take m s)
+tails-pass : (ts s : List ℕ) (n m c : ℕ) → All Tail ts → m ≡ n - length ts
+    → columnBehind c (take n (ts ++ s)) ≡ columnBehind c (take m s)
 unfolding columnBehind
 tails-pass [] s n m c h e =
     let same : m ≡ n = omega arith in
@@ -66,14 +72,20 @@ tails-pass (t ∷ ts) s zero m c h e =
 tails-pass (t ∷ ts) s (suc n) m c h e =
     rw (tail-turn t c (h .0)) (tails-pass ts s n m c (h .1) (omega arith))
 
-one : (c n k : ℕ) (s : List ℕ)
-    → columnBehind (1 + k) (take (suc n) (encodeScalar c ++ s)) ≡ columnBehind (1 + cond (eqb c 10) 0 (k + 1)) (take (suc n - length (encodeScalar c)) s)
+-- one character, some of whose bytes stand before the offset
+abbrev CharPasses : ℕ → ℕ → ℕ → List ℕ → Type 0
+CharPasses c n k s =
+    columnBehind (1 + k) (take (suc n) (encodeScalar c ++ s))
+    ≡ columnBehind (1 + counted c k) (take (suc n - length (encodeScalar c)) s)
+
+char-passes : (c n k : ℕ) (s : List ℕ) → CharPasses c n k s
 unfolding columnBehind
-one c n k s = go (parts c) (first-turn c k)
+char-passes c n k s = go (parts c) (first-turn c k)
   where
-    go : (p : Parts c) → turned (p .first) (1 + k) ≡ 1 + cond (eqb c 10) 0 (k + 1)
-        → columnBehind (1 + k) (take (suc n) (encodeScalar c ++ s)) ≡ columnBehind (1 + cond (eqb c 10) 0 (k + 1)) (take (suc n - length (encodeScalar c)) s)
-    go p e = rw (p .whole, e) (tails-pass (p .tails) s n (suc n - length (p .first ∷ p .tails)) (1 + cond (eqb c 10) 0 (k + 1)) (p .each) (omega arith))
+    go : (p : Parts c) → turned (p .first) (1 + k) ≡ 1 + counted c k → CharPasses c n k s
+    go p e =
+        let left = suc n - length (p .first ∷ p .tails) in
+        rw (p .whole, e) (tails-pass (p .tails) s n left (1 + counted c k) (p .each) (omega arith))
 
 -- ---- scalar values one behind another
 
@@ -92,7 +104,7 @@ columns [] n k = rw (take-nil n)
 columns (c ∷ cs) zero k = refl
 columns (c ∷ cs) (suc n) k =
     rw (begun-more c n cs)
-    (one c n k (encodes cs) ∙ columns cs (suc n - length (encodeScalar c)) (cond (eqb c 10) 0 (k + 1)))
+    (char-passes c n k (encodes cs) ∙ columns cs (suc n - length (encodeScalar c)) (counted c k))
 
 -- ---- a byte order mark is the encoding of U+FEFF
 
@@ -150,5 +162,6 @@ means (c ∷ cs) n h = go (eqb c 0xFEFF) refl
         ∙ columns (c ∷ cs) n 0 ∙ ap (λ (l : List ℕ). 1 + onLine 0 l) (sym (unmarked-begun c n cs other))
 
 -- the column of an offset in a document that is UTF-8
-pub column-means : (doc : List ℕ) → Utf8 doc → (offset : ℕ) → columnOf doc offset ≡ 1 + onLine 0 (unmarked (begun offset (scalars doc)))
+pub column-means : (doc : List ℕ) → Utf8 doc → (offset : ℕ)
+    → columnOf doc offset ≡ 1 + onLine 0 (unmarked (begun offset (scalars doc)))
 column-means doc (cs, h, e) offset = rw (← e, scalars-of cs h) (means cs offset h)

@@ -27,7 +27,8 @@ span-checked doc s r e =
     )
 
 pub positioned : (doc : List ℕ) (offset : ℕ) (r : Position) → r ≡ positionAnswer doc offset
-    → (r ≡ positionAnswer doc offset) × ((positionNumber r ≡ positionRefusal doc offset) × (positionValue r ≡ positionReturned doc offset))
+    → (r ≡ positionAnswer doc offset)
+    × ((positionNumber r ≡ positionRefusal doc offset) × (positionValue r ≡ positionReturned doc offset))
 unfolding positionAnswer
 positioned doc offset r e =
     let long = ltb limit (length doc) in

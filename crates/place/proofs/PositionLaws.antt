@@ -1,4 +1,4 @@
--- Columns at a place, for the loop that counts them, and what a column is.
+-- Columns at a place, for the loop that counts them, and what a column is of any bytes, UTF-8 or not.
 -- Assumes nothing.
 use Prim.Native.Nat.{ℕ, suc, _+_, _≤_, _<_}
 use mathlib.Core.Path.{_≡_, ap, _∙_}
@@ -17,16 +17,10 @@ use Rattle.place.specs.Positions.{columnBehind}
 abbrev pub turned : ℕ → ℕ → ℕ
 turned b c = cond (eqb b 10) 1 (cond (continuation b) c (c + 1))
 
-column-front : (b c d : ℕ) (s : List ℕ) → turned b c ≡ d → columnBehind c (b ∷ s) ≡ columnBehind d s
-unfolding columnBehind
-column-front b c d s e = ap (λ (k : ℕ). columnBehind k s) e
-
 module _ (s : List ℕ) (i : ℕ) (h : i < length s) where
-  split : drop i s ≡ getD s i 0 ∷ drop (i + 1) s
-  split = rw (add-one, drop-cons s i 0)
-
   column-at : (c d : ℕ) → turned (getD s i 0) c ≡ d → columnBehind c (drop i s) ≡ columnBehind d (drop (i + 1) s)
-  column-at c d e = rw split (column-front (getD s i 0) c d (drop (i + 1) s) e)
+  unfolding columnBehind
+  column-at c d e = rw (add-one, drop-cons s i 0) (ap (λ (k : ℕ). columnBehind k (drop (suc i) s)) e)
 
   -- an LF, a byte that begins a character, and one inside a character
   pub column-at-lf : (c : ℕ) → getD s i 0 ≡ 10 → columnBehind c (drop i s) ≡ columnBehind 1 (drop (i + 1) s)
@@ -44,19 +38,19 @@ pub column-end : (s : List ℕ) (i : ℕ) → length s ≤ i → (c : ℕ) → c
 unfolding columnBehind
 column-end s i h c = rw (drop-of-length-le s h)
 
--- ---- what a column is
+-- ---- what a column is, of any bytes
 
 -- the characters that begin in some bytes: the bytes that are not 80 to BF
 unfoldable pub begins : List ℕ → ℕ
 begins [] = 0
 begins (b ∷ s) = cond (continuation b) (begins s) (suc (begins s))
 
-abbrev pub NoLf : List ℕ → Type 0
-NoLf [] = Unit
-NoLf (b ∷ s) = (b ≡ 10 → ⊥) × NoLf s
+abbrev pub WithoutLf : List ℕ → Type 0
+WithoutLf [] = Unit
+WithoutLf (b ∷ s) = (b ≡ 10 → ⊥) × WithoutLf s
 
 -- without an LF it goes on by the characters that begin
-pub column-plain : (s : List ℕ) (c : ℕ) → NoLf s → columnBehind c s ≡ c + begins s
+pub column-plain : (s : List ℕ) (c : ℕ) → WithoutLf s → columnBehind c s ≡ c + begins s
 unfolding columnBehind begins
 column-plain [] c h = omega arith
 column-plain (b ∷ s) c h = rw (ne-eqb b 10 (h .0)) (go (continuation b) (λ k. column-plain s k (h .1)))
@@ -67,7 +61,7 @@ column-plain (b ∷ s) c h = rw (ne-eqb b 10 (h .0)) (go (continuation b) (λ k.
     go false ih = ih (c + 1) ∙ omega arith
 
 -- behind the last LF it is 1 plus the characters that begin since
-pub column-since : (s t : List ℕ) (c : ℕ) → NoLf t → columnBehind c (s ++ 10 ∷ t) ≡ 1 + begins t
+pub column-since : (s t : List ℕ) (c : ℕ) → WithoutLf t → columnBehind c (s ++ 10 ∷ t) ≡ 1 + begins t
 unfolding columnBehind
 column-since [] t c h = column-plain t 1 h
 column-since (b ∷ s) t c h = column-since s t (turned b c) h

@@ -11,20 +11,25 @@ use Rattle.place.proofs.check_span.Tie as tie
 returns : tie.Need-returns
 unfolding spanAnswer
 returns c =
-    span-checked (c .before .before .args .doc .now) (c .before .before .args .span) _
+    let given = c .before .before .args in
+    span-checked (given .doc .now) (given .span) _
     (simp (lt-ltb _ _ (c .if1 .taken)))
 
 returns-2 : tie.Need-returns-2
 unfolding spanAnswer
 returns-2 c =
-    span-checked (c .before .before .before .args .doc .now) (c .before .before .before .args .span) _
+    let given = c .before .before .before .args in
+    span-checked (given .doc .now) (given .span) _
     (simp (le-ltb _ _ (c .before .if1 .left), lt-ltb _ _ (c .if2 .taken)))
 
 returns-3 : tie.Need-returns-3
 unfolding spanAnswer
 returns-3 c =
-    span-checked (c .before .before .before .before .args .doc .now) (c .before .before .before .before .args .span) _
-    (simp (le-ltb _ _ (c .before .before .if1 .left), le-ltb _ _ (c .before .if2 .left), lt-ltb _ _ (c .if3 .taken)))
+    let second = c .before in
+    let first = second .before in
+    let given = first .before .before .args in
+    span-checked (given .doc .now) (given .span) _
+    (simp (le-ltb _ _ (first .if1 .left), le-ltb _ _ (second .if2 .left), lt-ltb _ _ (c .if3 .taken)))
 
 is-inside-requires : tie.Need-is-inside-requires
 is-inside-requires c κs = search needs
@@ -32,8 +37,13 @@ is-inside-requires c κs = search needs
 returns-4 : tie.Need-returns-4
 unfolding spanAnswer
 returns-4 c =
-    span-checked (c .before .before .before .before .before .before .args .doc .now) (c .before .before .before .before .before .before .args .span) _
-    (simp (le-ltb _ _ (c .before .before .before .before .if1 .left), le-ltb _ _ (c .before .before .before .if2 .left), le-ltb _ _ (c .before .before .if3 .left), sym (c .before .is-inside .ensures) ∙ c .if4 .taken))
+    let third = c .before .before in
+    let second = third .before in
+    let first = second .before in
+    let given = first .before .before .args in
+    let start = sym (c .before .is-inside .ensures) ∙ c .if4 .taken in
+    span-checked (given .doc .now) (given .span) _
+    (simp (le-ltb _ _ (first .if1 .left), le-ltb _ _ (second .if2 .left), le-ltb _ _ (third .if3 .left), start))
 
 is-inside-requires-2 : tie.Need-is-inside-requires-2
 is-inside-requires-2 c κs = search needs
@@ -41,14 +51,28 @@ is-inside-requires-2 c κs = search needs
 returns-5 : tie.Need-returns-5
 unfolding spanAnswer
 returns-5 c =
-    span-checked (c .before .before .before .before .before .before .before .before .args .doc .now) (c .before .before .before .before .before .before .before .before .args .span) _
-    (simp (le-ltb _ _ (c .before .before .before .before .before .before .if1 .left), le-ltb _ _ (c .before .before .before .before .before .if2 .left), le-ltb _ _ (c .before .before .before .before .if3 .left), sym (c .before .before .before .is-inside .ensures) ∙ c .before .before .if4 .left, sym (c .before .is-inside2 .ensures) ∙ c .if5 .taken))
+    let fourth = c .before .before in
+    let third = fourth .before .before in
+    let second = third .before in
+    let first = second .before in
+    let given = first .before .before .args in
+    let start = sym (fourth .before .is-inside .ensures) ∙ fourth .if4 .left in
+    let end = sym (c .before .is-inside2 .ensures) ∙ c .if5 .taken in
+    span-checked (given .doc .now) (given .span) _
+    (simp (le-ltb _ _ (first .if1 .left), le-ltb _ _ (second .if2 .left), le-ltb _ _ (third .if3 .left), start, end))
 
 returns-6 : tie.Need-returns-6
 unfolding spanAnswer
 returns-6 c =
-    span-checked (c .before .before .before .before .before .before .before .before .args .doc .now) (c .before .before .before .before .before .before .before .before .args .span) _
-    (simp (le-ltb _ _ (c .before .before .before .before .before .before .if1 .left), le-ltb _ _ (c .before .before .before .before .before .if2 .left), le-ltb _ _ (c .before .before .before .before .if3 .left), sym (c .before .before .before .is-inside .ensures) ∙ c .before .before .if4 .left, sym (c .before .is-inside2 .ensures) ∙ c .if5 .left))
+    let fourth = c .before .before in
+    let third = fourth .before .before in
+    let second = third .before in
+    let first = second .before in
+    let given = first .before .before .args in
+    let start = sym (fourth .before .is-inside .ensures) ∙ fourth .if4 .left in
+    let end = sym (c .before .is-inside2 .ensures) ∙ c .if5 .left in
+    span-checked (given .doc .now) (given .span) _
+    (simp (le-ltb _ _ (first .if1 .left), le-ltb _ _ (second .if2 .left), le-ltb _ _ (third .if3 .left), start, end))
 
 pub check-span-spec : {M : Type 1} → statement M
 check-span-spec =

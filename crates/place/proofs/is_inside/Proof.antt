@@ -1,6 +1,6 @@
 -- `is_inside` is right because what `getD` gives beyond the end is no continuation byte.
 -- Assumes nothing.
-use mathlib.Core.Path.{_≡_, sym, ap, _∙_}
+use mathlib.Core.Path.{_≡_, sym, ap}
 use lib.ListN.{List·getD-eq-default, getD}
 use Rattle.classes.specs.Classes.{continuation}
 use borrow.Author.Needs.{needs}

@@ -2,7 +2,7 @@
 -- of all the bytes before the offset, a byte order mark having neither.
 -- Assumes nothing.
 use Prim.Native.Nat.{ℕ, _+_, _-_, _≤_, _<_}
-use mathlib.Core.Path.{_≡_, refl, sym, ap, _∙_}
+use mathlib.Core.Path.{_≡_, sym, ap, _∙_}
 use mathlib.Core.Logic.{⊎-elim}
 use borrow.Author.Tests.{lt-ltb, le-ltb, not-true, not-false}
 use lib.ListN.{length, getD, take, drop}
@@ -30,22 +30,28 @@ abbrev μ-loop : tie.MeasureT-loop
 
 returns : tie.Need-returns Inv-loop μ-loop
 unfolding positionAnswer
-returns c = positioned (c .before .before .args .doc .now) (c .before .before .args .offset) _ (simp (lt-ltb _ _ (c .if1 .taken)))
+returns c =
+    let given = c .before .before .args in
+    positioned (given .doc .now) (given .offset) _ (simp (lt-ltb _ _ (c .if1 .taken)))
 
 returns-2 : tie.Need-returns-2 Inv-loop μ-loop
 unfolding positionAnswer
-returns-2 c = positioned (c .before .before .before .args .doc .now) (c .before .before .before .args .offset) _ (simp (le-ltb _ _ (c .before .if1 .left), lt-ltb _ _ (c .if2 .taken)))
+returns-2 c =
+    let given = c .before .before .before .args in
+    positioned (given .doc .now) (given .offset) _ (simp (le-ltb _ _ (c .before .if1 .left), lt-ltb _ _ (c .if2 .taken)))
 
 start-of-requires : tie.Need-start-of-requires Inv-loop μ-loop
 start-of-requires c κs = search needs
 
 loop-holds : tie.Need-loop-holds Inv-loop μ-loop
 loop-holds c =
-    let before = take (c .before .before .before .before .args .offset) (c .before .before .before .before .args .doc .now) in
-    let mark : c .start-of .result ≡ startOf (c .before .before .before .before .args .doc .now) = c .start-of .ensures in (
+    let doc = c .before .before .before .before .args .doc .now in
+    let offset = c .before .before .before .before .args .offset in
+    let before = take offset doc in
+    let mark : c .start-of .result ≡ startOf doc = c .start-of .ensures in (
       omega arith,
       omega arith,
-      omega (arith, mark-no-line (c .before .before .before .before .args .doc .now) (c .before .before .before .before .args .offset), ap (λ (k : ℕ). lineFeeds (drop k before)) mark),
+      omega (arith, mark-no-line doc offset, ap (λ (k : ℕ). lineFeeds (drop k before)) mark),
       ap (λ (k : ℕ). columnBehind 1 (drop k before)) mark,
     )
 
@@ -69,11 +75,13 @@ loop-less c = omega arith
 
 loop-again : tie.Need-loop-again Inv-loop μ-loop
 loop-again c =
-    let before = take (c .before .before .before .before .before .before .before .before .args .offset) (c .before .before .before .before .before .before .before .before .args .doc .now) in
+    let doc = c .before .before .before .before .before .before .before .before .args .doc .now in
+    let offset = c .before .before .before .before .before .before .before .before .args .offset in
+    let before = take offset doc in
     let at = c .before .before .before .loop in
-    let all : length before ≡ c .before .before .before .before .before .before .before .before .args .offset = length-take-le (c .before .before .before .before .before .before .before .before .args .offset) (c .before .before .before .before .before .before .before .before .args .doc .now) (omega arith) in
+    let all : length before ≡ offset = length-take-le offset doc (omega arith) in
     let h : at .i < length before = omega arith in
-    let same : getD before (at .i) 0 ≡ getD (c .before .before .before .before .before .before .before .before .args .doc .now) (at .i) 0 = getD-take (c .before .before .before .before .before .before .before .before .args .offset) (c .before .before .before .before .before .before .before .before .args .doc .now) (at .i) 0 (omega arith) in
+    let same : getD before (at .i) 0 ≡ getD doc (at .i) 0 = getD-take offset doc (at .i) 0 (omega arith) in
     let behind : ℕ → ℕ = λ k. columnBehind k (drop (at .i + 1) before) in
     ⊎-elim
     (λ w.
@@ -85,25 +93,31 @@ loop-again c =
     (λ w.
     let e : getD before (at .i) 0 ≡ 10 → ⊥ = λ e. w .0 .left (sym same ∙ e) in
     let turn = line-at-other before (at .i) h e in
-    let column = column-at-char before (at .i) h (at .column) e (ap continuation same ∙ sym (w .1 .ensures) ∙ not-true _ (w .2 .taken)) in
+    let first = ap continuation same ∙ sym (w .1 .ensures) ∙ not-true _ (w .2 .taken) in
+    let column = column-at-char before (at .i) h (at .column) e first in
     (omega (arith, w .3), omega (arith, w .4), omega (arith, w .3, turn), ap behind (w .4) ∙ sym column ∙ at .inv .3))
     (λ w.
     let e : getD before (at .i) 0 ≡ 10 → ⊥ = λ e. w .0 .left (sym same ∙ e) in
     let turn = line-at-other before (at .i) h e in
-    let column = column-inside before (at .i) h (at .column) e (ap continuation same ∙ sym (w .1 .ensures) ∙ not-false _ (w .2 .left)) in
+    let inner = ap continuation same ∙ sym (w .1 .ensures) ∙ not-false _ (w .2 .left) in
+    let column = column-inside before (at .i) h (at .column) e inner in
     (omega (arith, w .3), omega (arith, w .4), omega (arith, w .3, turn), ap behind (w .4) ∙ sym column ∙ at .inv .3)))
     (c .if3 .came)
 
 returns-3 : tie.Need-returns-3 Inv-loop μ-loop
 unfolding positionAnswer
 returns-3 c =
-    let before = take (c .before .before .before .before .before .before .args .offset) (c .before .before .before .before .before .before .args .doc .now) in
+    let doc = c .before .before .before .before .before .before .args .doc .now in
+    let offset = c .before .before .before .before .before .before .args .offset in
+    let before = take offset doc in
     let at = c .before .loop in
-    let all : length before ≡ c .before .before .before .before .before .before .args .offset = length-take-le (c .before .before .before .before .before .before .args .offset) (c .before .before .before .before .before .before .args .doc .now) (omega arith) in
+    let all : length before ≡ offset = length-take-le offset doc (omega arith) in
     let done : length before ≤ at .i = omega arith in
     let line : at .line ≡ 1 + lineFeeds before = omega (arith, lines-end before (at .i) done) in
-    let column : at .column ≡ columnBehind 1 (drop (startOf (c .before .before .before .before .before .before .args .doc .now)) before) = sym (column-end before (at .i) done (at .column)) ∙ at .inv .3 in
-    positioned (c .before .before .before .before .before .before .args .doc .now) (c .before .before .before .before .before .before .args .offset) _ (simp (le-ltb _ _ (c .before .before .before .before .if1 .left), le-ltb _ _ (c .before .before .before .if2 .left), line, column))
+    let column : at .column ≡ columnBehind 1 (drop (startOf doc) before) =
+    sym (column-end before (at .i) done (at .column)) ∙ at .inv .3 in
+    let second = c .before .before .before in
+    positioned doc offset _ (simp (le-ltb _ _ (second .before .if1 .left), le-ltb _ _ (second .if2 .left), line, column))
 
 pub position-of-spec : {M : Type 1} → statement M
 position-of-spec =

@@ -1,9 +1,7 @@
 -- `text_of` is right because the check's answer decides the definition too, and a span that passes lies in the document.
 -- Assumes nothing.
-use mathlib.Core.Path.{sym, ap, _∙_}
-use Rattle.place.specs.Spans.{textChecked, spanText}
-use Rattle.place.specs.declared.SpanCheck.{SpanCheck}
-use Rattle.place.proofs.SpanLaws.{span-whole}
+use mathlib.Core.Path.{sym, _∙_}
+use Rattle.place.proofs.SpanLaws.{span-whole, text-by-check}
 use borrow.Author.Needs.{needs}
 use native.Mathlib.Omega.{arith}
 use Rattle.place.proofs.text_of.Statement.{statement}
@@ -19,30 +17,28 @@ slice-aggregate-result : tie.Need-slice-aggregate-result
 slice-aggregate-result c = search needs
 
 returns : tie.Need-returns
-unfolding spanText
-returns c = ap (λ (r : SpanCheck). textChecked r (c .before .before .before .before .before .args .doc .now) (c .before .before .before .before .before .args .span)) (sym (c .before .enum-told .given .1) ∙ c .before .before .before .check-span .ensures .0)
+returns c = text-by-check _ _ (c .before .before .before .check-span .ensures .0) (c .before .enum-told .given .1)
 
 enum-told-2 : tie.Need-enum-told-2
 enum-told-2 c = search needs
 
 sub-result : tie.Need-sub-result
 sub-result c =
-    let within = span-whole (c .before .before .before .before .args .doc .now) (c .before .before .before .before .args .span) (sym (c .before .before .check-span .ensures .0) ∙ c .enum-told2 .given .1) in
+    let lies = span-whole _ _ (sym (c .before .before .check-span .ensures .0) ∙ c .enum-told2 .given .1) in
     omega arith
 
 part-result-start : tie.Need-part-result-start
 part-result-start c =
-    let within = span-whole (c .before .before .before .before .args .doc .now) (c .before .before .before .before .args .span) (sym (c .before .before .check-span .ensures .0) ∙ c .enum-told2 .given .1) in
+    let lies = span-whole _ _ (sym (c .before .before .check-span .ensures .0) ∙ c .enum-told2 .given .1) in
     search needs
 
 part-result-end : tie.Need-part-result-end
 part-result-end c =
-    let within = span-whole (c .before .before .before .before .args .doc .now) (c .before .before .before .before .args .span) (sym (c .before .before .check-span .ensures .0) ∙ c .enum-told2 .given .1) in
+    let lies = span-whole _ _ (sym (c .before .before .check-span .ensures .0) ∙ c .enum-told2 .given .1) in
     search needs
 
 returns-2 : tie.Need-returns-2
-unfolding spanText
-returns-2 c = ap (λ (r : SpanCheck). textChecked r (c .before .before .before .before .before .args .doc .now) (c .before .before .before .before .before .args .span)) (sym (c .before .enum-told2 .given .1) ∙ c .before .before .before .check-span .ensures .0)
+returns-2 c = text-by-check _ _ (c .before .before .before .check-span .ensures .0) (c .before .enum-told2 .given .1)
 
 pub text-of-spec : {M : Type 1} → statement M
 text-of-spec =
