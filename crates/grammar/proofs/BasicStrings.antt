@@ -1,6 +1,6 @@
 -- Basic strings: the decoder's pieces and the grammar.
 -- Assumes nothing.
-use Prim.Native.Nat.{ℕ, zero, suc, _+_, _≤_, _<_}
+use Prim.Native.Nat.{ℕ, _+_, _≤_, _<_}
 use mathlib.Core.Path.{_≡_, refl, sym, _∙_, ap, subst}
 use mathlib.Core.Logic.{_⊎_, inl, inr}
 use mathlib.Core.Bool.{true, false}
@@ -10,23 +10,23 @@ use lib.ListN.{length, length-append}
 use Rattle.classes.specs.Classes.{basicUnescaped}
 use Rattle.classes.specs.Runs.{run}
 use Rattle.classes.proofs.Conds.{cond-case, by-eq}
-use Rattle.text.specs.Utf8.{Scalar, encodeScalar, encodes, All}
+use Rattle.text.specs.Utf8.{Scalar, encodes, All}
 use Rattle.text.proofs.EncodeLaws.{encode-1}
 use Rattle.text.proofs.CutLaws.{all-parts}
 use Rattle.strings.specs.declared.Edition.{Edition}
-use Rattle.strings.specs.declared.Piece.{Piece}
 use Rattle.strings.specs.declared.Encoding.the-variants.{BasicString as BasicText}
-use Rattle.strings.specs.Pieces.{notesAt, Pieces, collect, copyPiece}
+use Rattle.strings.specs.Pieces.{notesAt, Pieces, collect}
 use Rattle.strings.specs.Escapes.{escapePiece}
 use Rattle.strings.specs.Bodies.{basicPiece, pieceOf}
 use Rattle.strings.specs.Decoding.{bytesOf, errorsOf}
 use Rattle.strings.proofs.AsciiLaws.{basic-high}
-use Rattle.grammar.specs.Grammar.{EscapeSeqChar, escaped, basic-unescaped, escaped-char, BasicChars, stop, more, BasicString, basic-string}
-use Rattle.grammar.specs.Scalars.{Names, CharsName, BasicNames}
-use Rattle.grammar.proofs.Encoded.{Side, side, ascii, beyond, encodes-ascii, Led, ascii-led}
-use Rattle.grammar.proofs.Reading.{Reads, reads-none, reads-then, reads-char, reads-for, first-clean}
+use Rattle.lexing.proofs.ByLength.{by-length}
+use Rattle.grammar.specs.Grammar.{escaped, basic-unescaped, escaped-char, BasicChars, stop, more, BasicString, basic-string}
+use Rattle.grammar.specs.Scalars.{CharsName, BasicNames}
+use Rattle.grammar.proofs.Encoded.{side, ascii, beyond, encodes-ascii, ascii-led}
+use Rattle.grammar.proofs.Reading.{IfClean, CopiesRuns, ErrorFree, ReadsAs, ReadsChars, reads-none, reads-then, reads-char, first-clean}
 use Rattle.grammar.proofs.ClassLaws.{basic-at, basic-is}
-use Rattle.grammar.proofs.Escapes.{escape-at, escape-ascii, EscapedAt, escape-inv}
+use Rattle.grammar.proofs.Escapes.{escape-ascii, escape-reads, EscapedAt, escape-inv}
 use Rattle.grammar.proofs.LineMarks.{marked, line-errors, line-bytes, line-text}
 
 -- in one edition of TOML
@@ -36,7 +36,7 @@ module _ (ed : Edition) where
 
   -- ---- the pieces, on bytes
 
-  plain : (at b : ℕ) (s : List ℕ) → basicUnescaped b ≡ true → P false at (b ∷ s) ≡ copyPiece (suc (run basicUnescaped s)) 0 at at
+  plain : CopiesRuns P basicUnescaped
   unfolding basicPiece run
   plain at b s e = rw e
 
@@ -51,24 +51,20 @@ module _ (ed : Edition) where
   clean : (at b : ℕ) (r : List ℕ) → P false at (b ∷ r) .err ≡ 0 → Good b r
   unfolding basicPiece
   clean at b r =
-      cond-case (λ (p : Piece). p .err ≡ 0 → Good b r) (basicUnescaped b) (λ h e. inl h)
-      λ h. by-eq (λ (p : Piece). p .err ≡ 0 → Good b r) b 0x5C (λ q e. inr (q, escape-inv ed at r e)) (λ q e. absurd (omega arith))
+      cond-case (IfClean (Good b r)) (basicUnescaped b) (λ h e. inl h)
+      λ h. by-eq (IfClean (Good b r)) b 0x5C (λ q e. inr (q, escape-inv ed at r e)) (λ q e. absurd (omega arith))
 
-  char-reads : (c at : ℕ) (s : List ℕ) → basicUnescaped c ≡ true → Reads P false at (encodeScalar c ++ s) (encodeScalar c) false s
+  char-reads : ReadsChars P basicUnescaped
   char-reads = reads-char P basicUnescaped plain basic-high
-
-  escape-reads : {t : List ℕ} {v : ℕ} (e : EscapeSeqChar ed t v) → Names e → (at : ℕ) (s : List ℕ)
-      → Reads P false at ((0x5C ∷ t) ++ s) (encodeScalar v) false s
-  escape-reads {t} {v} e n at s = reads-for P false at (0x5C ∷ t) s v (slash at (t ++ s) ∙ escape-at e n at s) (omega arith)
 
   -- ---- from the grammar
 
-  chars-read : {cs v : List ℕ} (d : BasicChars ed cs v) → CharsName d → (at : ℕ) → Reads P false at (encodes cs) (encodes v) false []
+  chars-read : {cs v : List ℕ} (d : BasicChars ed cs v) → CharsName d → ReadsAs P cs v
   chars-read stop n at = reads-none P false at []
   chars-read (more {r = r} (basic-unescaped {c} u) d) n at =
       let a = char-reads c at (encodes r) (basic-at u) in reads-then P a (chars-read d (n .1) (a .to))
   chars-read (more {r = r} (escaped-char (escaped {t} e)) d) n at =
-      let a = escape-reads e (n .0) at (encodes r) in
+      let a = escape-reads P e (n .0) at (encodes r) (slash at (t ++ encodes r)) in
       rw (encodes-ascii (0x5C ∷ t) r (omega arith, escape-ascii e)) (reads-then P a (chars-read d (n .1) (a .to)))
 
   -- ---- to the grammar
@@ -82,41 +78,43 @@ module _ (ed : Edition) where
   put-escape : (s : List ℕ) (x : EscapedAt ed s) (r : List ℕ) → Chars r → Chars (0x5C ∷ (x .t ++ r))
   put-escape s x r (v, d, n) = (x .v ∷ v, more (escaped-char (escaped (x .char))) d, (x .names, n))
 
-  abbrev Ih : ℕ → Type 0
-  Ih n = (cs : List ℕ) → length cs ≤ n → All Scalar cs → (at : ℕ) → collect P notesAt 0 false at (encodes cs) ≡ [] → Chars cs
+  -- code points without error are derived
+  abbrev IfErrorFree : List ℕ → Type 0
+  IfErrorFree cs = All Scalar cs → (at : ℕ) → ErrorFree P false at (encodes cs) → Chars cs
 
-  chars-clean : (n : ℕ) → Ih n
-  chars-clean zero [] l sc at e = ([], stop, tt)
-  chars-clean zero (c ∷ cs) l sc at e = absurd (omega arith)
-  chars-clean (suc n) [] l sc at e = ([], stop, tt)
-  chars-clean (suc n) (c ∷ cs) l sc at e = go (side c) (chars-clean n)
-    where
-      char : basicUnescaped c ≡ true → Ih n → Chars (c ∷ cs)
-      char h ih =
-          let a = char-reads c at (encodes cs) h in
-          put-char c cs (sc .0) h (ih cs (omega arith) (sc .1) (a .to) (sym (a .quiet) ∙ e))
+  module _ (n : ℕ) (ih : (ds : List ℕ) → length ds ≤ n → IfErrorFree ds) (c : ℕ) (cs : List ℕ) (l : length cs ≤ n)
+      (sc : All Scalar (c ∷ cs)) (at : ℕ) (e : ErrorFree P false at (encodes (c ∷ cs))) where
+    char-clean : basicUnescaped c ≡ true → Chars (c ∷ cs)
+    char-clean h =
+        let a = char-reads c at (encodes cs) h in
+        put-char c cs (sc .0) h (ih cs l (sc .1) (a .to) (sym (a .quiet) ∙ e))
 
-      esc : (x : EscapedAt ed (encodes cs)) → Led (x .t) cs (x .rest) → collect P notesAt 0 false at (0x5C ∷ encodes cs) ≡ [] → Ih n
-          → Chars (0x5C ∷ cs)
-      esc x f z ih =
-          let a = escape-reads (x .char) (x .names) at (x .rest) in
-          let z₂ : collect P notesAt 0 false (a .to) (encodes (f .rest)) ≡ [] =
-          rw (f .bytes) (sym (a .quiet) ∙ (sym (ap (λ y. collect P notesAt 0 false at (0x5C ∷ y)) (x .split)) ∙ z)) in
-          let s₂ : All Scalar (f .rest) = all-parts Scalar (x .t) (f .rest) (subst (All Scalar) (f .text) (sc .1)) .1 in
-          let l₂ : length cs ≡ length (x .t) + length (f .rest) = ap length (f .text) ∙ length-append (x .t) (f .rest) in
-          subst (λ y. Chars (0x5C ∷ y)) (sym (f .text)) (put-escape (encodes cs) x (f .rest) (ih (f .rest) (omega arith) s₂ (a .to) z₂))
+    escape-clean : (x : EscapedAt ed (encodes cs)) → ErrorFree P false at (0x5C ∷ encodes cs) → Chars (0x5C ∷ cs)
+    escape-clean x z =
+        let f = ascii-led (x .t) cs (x .rest) (escape-ascii (x .char)) (x .split) in
+        let a = escape-reads P (x .char) (x .names) at (x .rest) (slash at (x .t ++ x .rest)) in
+        let z₂ : ErrorFree P false (a .to) (encodes (f .rest)) =
+        rw (f .bytes) (sym (a .quiet) ∙ (sym (ap (λ y. collect P notesAt 0 false at (0x5C ∷ y)) (x .split)) ∙ z)) in
+        let s₂ : All Scalar (f .rest) = all-parts Scalar (x .t) (f .rest) (subst (All Scalar) (f .text) (sc .1)) .1 in
+        let l₂ : length cs ≡ length (x .t) + length (f .rest) = ap length (f .text) ∙ length-append (x .t) (f .rest) in
+        let d = ih (f .rest) (omega arith) s₂ (a .to) z₂ in
+        subst (λ y. Chars (0x5C ∷ y)) (sym (f .text)) (put-escape (encodes cs) x (f .rest) d)
 
-      go : Side c → Ih n → Chars (c ∷ cs)
-      go (beyond h) ih = char (basic-high c h) ih
-      go (ascii h) ih =
-          let z : collect P notesAt 0 false at (c ∷ encodes cs) ≡ [] = rw (encode-1 c h) at e in
+    some-clean : Chars (c ∷ cs)
+    some-clean = elim (side c) [
+      | beyond h ↦ char-clean (basic-high c h)
+      | ascii h ↦
+          let z : ErrorFree P false at (c ∷ encodes cs) = rw (encode-1 c h) at e in
           elim (clean at c (encodes cs) (first-clean P false at c (encodes cs) z)) [
-            | inl u ↦ char u ih
+            | inl u ↦ char-clean u
             | inr p ↦
-                let x = p .1 in
-                subst (λ y. Chars (y ∷ cs)) (sym (p .0)) (esc x (ascii-led (x .t) cs (x .rest) (escape-ascii (x .char)) (x .split))
-                (subst (λ y. collect P notesAt 0 false at (y ∷ encodes cs) ≡ []) (p .0) z) ih)
+                let z₂ = subst (λ y. ErrorFree P false at (y ∷ encodes cs)) (p .0) z in
+                subst (λ y. Chars (y ∷ cs)) (sym (p .0)) (escape-clean (p .1) z₂)
           ]
+    ]
+
+  chars-clean : (cs : List ℕ) → IfErrorFree cs
+  chars-clean cs = by-length IfErrorFree (λ sc at e. ([], stop, tt)) some-clean (length cs) cs (omega arith)
 
   -- ---- the text
 
@@ -136,7 +134,7 @@ module _ (ed : Edition) where
   basic-sound cs sc e =
       let o = line-text (BasicText ed) 0x22 (omega arith) (λ t. refl) cs sc e in
       subst (λ x. (v : List ℕ) × (d : BasicString ed x v) × BasicNames d) (sym (o .text))
-      (put (o .body) (chars-clean (length (o .body)) (o .body) (omega arith) (o .each) 1 (o .clean)))
+      (put (o .body) (chars-clean (o .body) (o .each) 1 (o .clean)))
     where
       put : (m : List ℕ) → Chars m → (v : List ℕ) × (d : BasicString ed (marked 0x22 m) v) × BasicNames d
       put m (v, d, n) = (v, basic-string d, n)

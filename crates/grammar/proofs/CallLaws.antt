@@ -114,7 +114,8 @@ module _ (ed : Edition) (s : StringKind) (t : List ℕ) (u : Utf8 t) (small : le
       ap (λ (c : Choice). decodedBy Valid c t (length out) e) (known-kind ed s)
       ∙ decode-valid t (editionNumber ed) (kindNumber (tokenKind s)) (length out) e (answer-valid t small (utf8-iff t .1 u))
 
-  answer-clean : (n : ℕ) → (answerOf ed s t out e ≡ Written n 0) ↔ ((errors ≡ []) × (n ≡ length bytes) × (length bytes ≤ length out))
+  answer-clean : (n : ℕ)
+      → (answerOf ed s t out e ≡ Written n 0) ↔ ((errors ≡ []) × (n ≡ length bytes) × (length bytes ≤ length out))
   answer-clean = clean bytes errors (length out) e (answerOf ed s t out e) answer-is
 
   answer-means : (n : ℕ) → (answerOf ed s t out e ≡ Written n 0)
@@ -127,7 +128,8 @@ module _ (ed : Edition) (s : StringKind) (t : List ℕ) (u : Utf8 t) (small : le
         (y .0, y .1, x .1 ∙ ap length b, subst (λ (z : List ℕ). length z ≤ length out) b (x .2)),
     λ y.
         let b = value (y .0) (y .1) in
-        answer-clean n .1 (meant .1 (y .0, y .1), y .2 ∙ sym (ap length b), subst (λ (z : List ℕ). length z ≤ length out) (sym b) (y .3)),
+        let fits = subst (λ (z : List ℕ). length z ≤ length out) (sym b) (y .3) in
+        answer-clean n .1 (meant .1 (y .0, y .1), y .2 ∙ sym (ap length b), fits),
   )
 
   output-is : (v : List ℕ) → TextMeans ed s t v → length (encodes v) ≤ length out
@@ -147,8 +149,7 @@ module _ (ed : Edition) (s : StringKind) (t : List ℕ) (u : Utf8 t) (small : le
         short = when-short x;
         few = when-few x;
         answered = when-fits x;
-        no-error =
-            λ l. (λ h. derived .0 (answer-clean (length bytes) .0 h .0), λ d. answer-clean (length bytes) .1 (derived .1 d, refl, l));
+        no-error = λ l. let c = answer-clean (length bytes) in (λ h. derived .0 (c .0 h .0), λ d. c .1 (derived .1 d, refl, l));
         meaning = answer-means;
         output = output-is;
       }

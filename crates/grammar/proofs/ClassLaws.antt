@@ -147,8 +147,10 @@ digit-is b h =
 
 pub digit-at : {c d : ℕ} → HexDig c d → (hexdig c ≡ true) × (hexValue c ≡ d)
 unfolding hexdig hexValue
-digit-at {c} {d} (HexDig.digit e h) =
-    (or-left (among 0x30 0x39 c) _ (among-at 0x30 0x39 c (omega arith) (omega arith)), rw (lt-ltb c 0x41 (omega arith)) (omega arith))
+digit-at {c} {d} (HexDig.digit e h) = (
+  or-left (among 0x30 0x39 c) _ (among-at 0x30 0x39 c (omega arith) (omega arith)),
+  rw (lt-ltb c 0x41 (omega arith)) (omega arith),
+)
 digit-at {c} {d} (HexDig.upper e h k) = (
   or-right (among 0x30 0x39 c) _ (or-left (among 0x41 0x46 c) _ (among-at 0x41 0x46 c (omega arith) (omega arith))),
   rw (le-ltb c 0x41 (omega arith), lt-ltb c 0x61 (omega arith)) (omega arith),

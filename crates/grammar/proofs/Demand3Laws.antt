@@ -11,6 +11,7 @@ use lib.Seq.{length-take-le, take-append-seam}
 use Rattle.text.specs.Utf8.{Scalar, encodes, All, Utf8}
 use Rattle.text.specs.Refusals.{limit}
 use Rattle.text.proofs.ReadLaws.{same-scalars}
+use Rattle.strings.specs.declared.Encoding.{Encoding}
 use Rattle.strings.specs.Decoding.{bytesOf, errorsOf}
 use Rattle.token.specs.declared.TokenKind.{TokenKind}
 use Rattle.token.specs.declared.TokenKind.the-variants.{Eof}
@@ -32,7 +33,7 @@ use Rattle.grammar.proofs.MlLiteralStrings.{ml-literal-sound, ml-litera
 use Rattle.grammar.proofs.MlBasicStrings.{ml-basic-sound, ml-basic-complete}
 use Rattle.grammar.proofs.Values.{value-scalars}
 use Rattle.grammar.proofs.Lexing.{IsToken, derived-token}
-use Rattle.grammar.proofs.TokenFacts.{listed, stepped, step-there, reached-cut, reached-listed}
+use Rattle.grammar.proofs.TokenFacts.{listed-is, step-gave, step-there, reached-cut, reached-listed}
 use Rattle.grammar.proofs.CallLaws.{called-is}
 
 -- in one edition of TOML
@@ -57,9 +58,9 @@ module _ (ed : Edition) where
   bytes ml-literal cs v (d, o) = ml-literal-complete d .1 o
   bytes ml-basic cs v (d, n, o) = ml-basic-complete ed d n .1 o
 
-  long-of : (k : TokenKind) (s : List ℕ) (n : ℕ) → kindOf s ≡ k → tokenLen s ≡ n → extent k s ≡ n
+  long-of : (k : TokenKind) (t rest : List ℕ) → IsToken k t rest → extent k (t ++ rest) ≡ length t
   unfolding tokenLen
-  long-of k s n e h = ap (λ (x : TokenKind). extent x s) (sym e) ∙ h
+  long-of k t rest (e, h) = ap (λ (x : TokenKind). extent x (t ++ rest)) (sym e) ∙ h
 
   sound : (s : StringKind) (cs rest : List ℕ) → All Scalar cs → IsToken (tokenKind s) (encodes cs) rest
       → errorsOf (encoding ed s) (encodes cs) ≡ []
@@ -68,16 +69,16 @@ module _ (ed : Edition) where
   sound literal cs rest h t e = literal-sound cs h e
   sound basic cs rest h t e = let x = basic-sound ed cs h e in (x .0, (x .1, x .2))
   sound ml-literal cs rest h t e =
-      let x = ml-literal-sound cs rest h (long-of (tokenKind ml-literal) (encodes cs ++ rest) (length (encodes cs)) (t .0) (t .1)) e in
+      let x = ml-literal-sound cs rest h (long-of (tokenKind ml-literal) (encodes cs) rest t) e in
       (x .0, (x .1, x .2))
   sound ml-basic cs rest h t e =
-      let x = ml-basic-sound ed cs rest h (long-of (tokenKind ml-basic) (encodes cs ++ rest) (length (encodes cs)) (t .0) (t .1)) e in
+      let x = ml-basic-sound ed cs rest h (long-of (tokenKind ml-basic) (encodes cs) rest t) e in
       (x .0, (x .1, x .2, x .3))
 
   -- ---- a token's text
 
   module _ (s : StringKind) (t rest : List ℕ) (u : Utf8 t) (tok : IsToken (tokenKind s) t rest) where
-    abbrev k : Rattle.strings.specs.declared.Encoding.Encoding
+    abbrev k : Encoding
     k = encoding ed s
 
     means-of : errorsOf k t ≡ [] → (v : List ℕ) × TextMeans ed s t v
@@ -89,7 +90,9 @@ module _ (ed : Edition) where
             (x .0, record { points = cs; scalar = h; text = q; means = x .1 })
 
     derives : (v : List ℕ) → TextMeans ed s t v → TextDerived ed s t v
-    derives v m = record { points = m .points; scalar = m .scalar; text = m .text; derives = means-derives s (m .points) v (m .means) }
+    derives v m =
+        let d = means-derives s (m .points) v (m .means) in
+        record { points = m .points; scalar = m .scalar; text = m .text; derives = d }
 
     clean : (v : List ℕ) → TextDerived ed s t v → errorsOf k t ≡ []
     clean v d = sym (ap (errorsOf k) (d .text)) ∙ complete s (d .points) v (d .derives)
@@ -118,8 +121,8 @@ module _ (ed : Edition) where
         }
 
   -- the token at a place
-  place-agrees : (doc : List ℕ) (at line : ℕ) → Utf8 (drop at doc) → length doc ≤ limit → (s : StringKind) → kindOf (drop at doc) ≡ tokenKind s
-      → Agrees ed s (textOf doc (tokenAt at line (drop at doc)))
+  place-agrees : (doc : List ℕ) (at line : ℕ) → Utf8 (drop at doc) → length doc ≤ limit
+      → (s : StringKind) → kindOf (drop at doc) ≡ tokenKind s → Agrees ed s (textOf doc (tokenAt at line (drop at doc)))
   place-agrees doc at line u l s e =
       let d : List ℕ = drop at doc in
       let n = tokenLen d in
@@ -136,11 +139,11 @@ module _ (ed : Edition) where
   unfolding kindOf
   end-kind doc at l = rw (drop-of-length-le doc {i = at} l)
 
-  no-end : (s : StringKind) → Eof ≡ tokenKind s → ⊥
-  no-end literal z = let y : _≡_ {A = ℕ} 4 39 = ap kindNumber z in omega arith
-  no-end basic z = let y : _≡_ {A = ℕ} 4 34 = ap kindNumber z in omega arith
-  no-end ml-literal z = let y : _≡_ {A = ℕ} 4 1 = ap kindNumber z in omega arith
-  no-end ml-basic z = let y : _≡_ {A = ℕ} 4 2 = ap kindNumber z in omega arith
+  eof-no-string : (s : StringKind) → Eof ≡ tokenKind s → ⊥
+  eof-no-string literal z = let y : _≡_ {A = ℕ} 4 39 = ap kindNumber z in omega arith
+  eof-no-string basic z = let y : _≡_ {A = ℕ} 4 34 = ap kindNumber z in omega arith
+  eof-no-string ml-literal z = let y : _≡_ {A = ℕ} 4 1 = ap kindNumber z in omega arith
+  eof-no-string ml-basic z = let y : _≡_ {A = ℕ} 4 2 = ap kindNumber z in omega arith
 
   module _ (doc : List ℕ) (at : ℕ) (s : StringKind) (cs v rest : List ℕ)
       (d : Derived ed s cs v) (e : drop at doc ≡ encodes cs ++ rest) (a : Apart (mark s) rest) where
@@ -156,12 +159,13 @@ module _ (ed : Edition) where
     -- the LFs of the token are those of the text
     lines-there : lineFeeds (take (tokenLen (drop at doc)) (drop at doc)) ≡ lineFeeds (encodes cs)
     lines-there =
-        ap lineFeeds (ap (λ (n : ℕ). take n (drop at doc)) long-there ∙ ap (take (length (encodes cs))) e ∙ take-append-seam (encodes cs) rest)
+        let n = length (encodes cs) in
+        ap lineFeeds (ap (λ (i : ℕ). take i (drop at doc)) long-there ∙ ap (take n) e ∙ take-append-seam (encodes cs) rest)
 
     before-end : at < length doc
     before-end = elim (decLt at (length doc)) [
       | yes l ↦ l
-      | no l ↦ absurd (no-end s (sym (end-kind doc at (omega arith)) ∙ kind-there))
+      | no l ↦ absurd (eof-no-string s (sym (end-kind doc at (omega arith)) ∙ kind-there))
     ]
 
   -- ---- the demand
@@ -171,12 +175,13 @@ module _ (ed : Edition) where
       record {
         tokens = λ doc u l r m s e.
             let x = lexed doc r m in
-            subst (λ (y : Token). Agrees ed s (textOf doc y)) (sym (listed doc r m))
+            subst (λ (y : Token). Agrees ed s (textOf doc y)) (sym (listed-is doc r m))
             (place-agrees doc (r .span .start) (lineOf doc (r .span .start)) (x .whole u) l s (sym (x .kind) ∙ e));
         steps = λ doc c u r d e s h.
-            let x = stepped doc c r d e in
+            let x = step-gave doc c r d e in
             let kind : kindOf (drop (c .place) doc) ≡ tokenKind s = ap (λ (y : Token). y .kind) (sym (x .is)) ∙ h in
-            subst (λ (y : Token). Agrees ed s (textOf doc y)) (sym (x .is)) (place-agrees doc (c .place) (c .line) u (x .few) s kind);
+            subst (λ (y : Token). Agrees ed s (textOf doc y)) (sym (x .is))
+            (place-agrees doc (c .place) (c .line) u (x .few) s kind);
         reached = reached-cut;
         listed = reached-listed;
         step-back = λ doc l c o s cs v rest d e a.
@@ -186,5 +191,6 @@ module _ (ed : Edition) where
               lines-there doc (c .place) s cs v rest d e a,
               long-there doc (c .place) s cs v rest d e a,
             );
-        token-back = λ doc r m s cs v rest d e a. listed doc r m ∙ token-there doc (r .span .start) s cs v rest d e a (lineOf doc (r .span .start));
+        token-back = λ doc r m s cs v rest d e a.
+            listed-is doc r m ∙ token-there doc (r .span .start) s cs v rest d e a (lineOf doc (r .span .start));
       }

@@ -41,7 +41,8 @@ char-bytes high c h = elim (side c) [
 
 pub chars-bytes : {P : ℕ → Type 0} → ((b : ℕ) → 0x80 ≤ b → P b) → (cs : List ℕ) → All P cs → All P (encodes cs)
 chars-bytes high [] h = tt
-chars-bytes {P} high (c ∷ cs) h = all-append P (encodeScalar c) (encodes cs) (char-bytes high c (h .0)) (chars-bytes high cs (h .1))
+chars-bytes {P} high (c ∷ cs) h =
+    all-append P (encodeScalar c) (encodes cs) (char-bytes high c (h .0)) (chars-bytes high cs (h .1))
 
 -- the first byte is an ASCII byte only where the code point is
 pub first-is : (c k : ℕ) → k < 0x80 → eqb (parts c .first) k ≡ eqb c k
@@ -108,6 +109,6 @@ between a z cs m ha hz sc e =
     go : (r : List ℕ) → All Scalar r → cs ≡ a ++ r → encodes r ≡ m ++ z → Utf8 m → Between a z cs m
     go r sr t b (ms, sm, em) =
         let sz : All Scalar z = all-weaken (λ c h. let k : c < 0xD800 = omega arith in inl k) z hz in
-        let e₂ : encodes (ms ++ z) ≡ m ++ z = encodes-append ms z ∙ (ap (λ x. x ++ encodes z) em ∙ ap (λ x. m ++ x) (ascii-whole z hz)) in
+        let e₂ : encodes (ms ++ z) ≡ m ++ z = encodes-append ms z ∙ rw (em, ascii-whole z hz) in
         let x : r ≡ ms ++ z = same-scalars r (ms ++ z) sr (all-append Scalar ms z sm sz) (b ∙ sym e₂) in
         record { inner = ms; text = t ∙ ap (λ y. a ++ y) x; bytes = em; each = sm }

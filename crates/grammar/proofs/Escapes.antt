@@ -1,4 +1,4 @@
--- An escape: the piece that it is, and the grammar's escape-seq-char.
+-- An escape: the piece that it is, what it reads, and the grammar's escape-seq-char.
 -- Assumes nothing.
 use Prim.Native.Nat.{ℕ, zero, suc, _+_, _*_, _≤_, _<_}
 use mathlib.Core.Path.{_≡_, refl, sym, _∙_, ap, subst}
@@ -7,23 +7,25 @@ use mathlib.Core.Bool.{Bool, true, false, cond}
 use mathlib.Core.List.{List, [], _∷_, _++_}
 use native.Mathlib.Omega.{arith}
 use lib.ListN.{length, take, drop, take-append-drop}
+use lib.Dec.{eqb}
 use borrow.Author.Tests.{ne-eqb}
 use Rattle.classes.specs.Classes.{hexdig}
 use Rattle.classes.specs.Runs.{run}
 use Rattle.classes.proofs.Conds.{by-lt, cond-case, by-eq}
-use Rattle.text.specs.Utf8.{Scalar, All}
+use Rattle.text.specs.Utf8.{Scalar, encodeScalar, All}
 use Rattle.text.specs.Utf8Read.{isScalar}
 use Rattle.text.proofs.EncodeLaws.{scalar-true, true-scalar}
 use Rattle.strings.specs.declared.Edition.{Edition}
 use Rattle.strings.specs.declared.Edition.the-variants.{Toml10, Toml11}
 use Rattle.strings.specs.declared.Piece.{Piece}
-use Rattle.strings.specs.Pieces.{charPiece}
+use Rattle.strings.specs.Pieces.{Pieces, charPiece}
 use Rattle.strings.specs.Escapes.{newEscape, simpleEscape, newHexLength, hexLength, hexFrom, hexValue, hexPiece, escapePiece}
 use Rattle.strings.proofs.EscapeLaws.{hex-char, escape-hex, escape-simple}
 use Rattle.grammar.specs.Grammar.{HexDig, HexDigits, stop, more, EscapeSeqChar, x22, x5C, x62, x66, x6E, x72, x74, x75, x55, x65, x78}
 use Rattle.grammar.specs.Scalars.{Names}
 use Rattle.grammar.proofs.ListLaws.{all-weaken}
 use Rattle.grammar.proofs.Encoded.{AllAscii}
+use Rattle.grammar.proofs.Reading.{IfClean, Reads, reads-for}
 use Rattle.grammar.proofs.ClassLaws.{digit-is, digit-at}
 
 -- ---- digits
@@ -69,8 +71,9 @@ two-scalar (more {d = d} x (more {d = e} y stop)) = inl (omega (arith, digit-sma
 
 -- ---- the shape of an escape: a visible byte, and then hex digits
 
-abbrev pub Plain : ℕ → Type 0
-Plain c = (0x30 ≤ c) × (c < 0x80) × (c ≡ 0x5C → ⊥)
+-- an ASCII byte that is no quote mark, no backslash and no LF: it neither closes nor hides
+abbrev pub Harmless : ℕ → Type 0
+Harmless c = (0x30 ≤ c) × (c < 0x80) × (c ≡ 0x5C → ⊥)
 
 pub record Shape (t : List ℕ) : Type 0 where
   pub b : ℕ
@@ -78,16 +81,16 @@ pub record Shape (t : List ℕ) : Type 0 where
   pub is : t ≡ b ∷ r
   pub visible : 0x22 ≤ b
   pub low : b < 0x80
-  pub each : All Plain r
+  pub each : All Harmless r
 
-digits-plain : {n a v : ℕ} {t : List ℕ} → HexDigits n a t v → All Plain t
-digits-plain stop = tt
-digits-plain (more x r) = (digit-plain x, digits-plain r)
+digits-harmless : {n a v : ℕ} {t : List ℕ} → HexDigits n a t v → All Harmless t
+digits-harmless stop = tt
+digits-harmless (more x r) = (digit-harmless x, digits-harmless r)
   where
-    digit-plain : {c d : ℕ} → HexDig c d → Plain c
-    digit-plain {c} {d} (HexDig.digit e h) = (omega arith, omega arith, λ z. omega arith)
-    digit-plain {c} {d} (HexDig.upper e h k) = (omega arith, omega arith, λ z. omega arith)
-    digit-plain {c} {d} (HexDig.lower e h k) = (omega arith, omega arith, λ z. omega arith)
+    digit-harmless : {c d : ℕ} → HexDig c d → Harmless c
+    digit-harmless {c} {d} (HexDig.digit e h) = (omega arith, omega arith, λ z. omega arith)
+    digit-harmless {c} {d} (HexDig.upper e h k) = (omega arith, omega arith, λ z. omega arith)
+    digit-harmless {c} {d} (HexDig.lower e h k) = (omega arith, omega arith, λ z. omega arith)
 
 one-shape : (b : ℕ) → 0x22 ≤ b → b < 0x80 → Shape (b ∷ [])
 one-shape b h l = record { b = b; r = []; is = refl; visible = h; low = l; each = tt }
@@ -100,10 +103,10 @@ shape x66 = one-shape 0x66 (omega arith) (omega arith)
 shape x6E = one-shape 0x6E (omega arith) (omega arith)
 shape x72 = one-shape 0x72 (omega arith) (omega arith)
 shape x74 = one-shape 0x74 (omega arith) (omega arith)
-shape (x75 {t = t} d) = record { b = 0x75; r = t; is = refl; visible = omega arith; low = omega arith; each = digits-plain d }
-shape (x55 {t = t} d) = record { b = 0x55; r = t; is = refl; visible = omega arith; low = omega arith; each = digits-plain d }
+shape (x75 {t = t} d) = record { b = 0x75; r = t; is = refl; visible = omega arith; low = omega arith; each = digits-harmless d }
+shape (x55 {t = t} d) = record { b = 0x55; r = t; is = refl; visible = omega arith; low = omega arith; each = digits-harmless d }
 shape x65 = one-shape 0x65 (omega arith) (omega arith)
-shape (x78 {t = t} d) = record { b = 0x78; r = t; is = refl; visible = omega arith; low = omega arith; each = digits-plain d }
+shape (x78 {t = t} d) = record { b = 0x78; r = t; is = refl; visible = omega arith; low = omega arith; each = digits-harmless d }
 
 pub escape-ascii : {ed : Edition} {t : List ℕ} {v : ℕ} → EscapeSeqChar ed t v → AllAscii t
 escape-ascii e = let s = shape e in subst AllAscii (sym (s .is)) (s .low, all-weaken (λ c h. h .1) (s .r) (s .each))
@@ -142,6 +145,12 @@ escape-at {ed} (x55 {t = t} {v = v} d) h = hex-at ed 0x55 8 v t refl (omega arit
 escape-at x65 h = simple-at Toml11 0x65 0x1B refl refl (omega arith)
 escape-at (x78 {t = t} {v = v} d) h = hex-at Toml11 0x78 2 v t refl (omega arith) d (two-scalar d)
 
+-- so it is read, where it is a piece behind a backslash
+pub escape-reads : (P : Pieces) {ed : Edition} {t : List ℕ} {v : ℕ} (e : EscapeSeqChar ed t v) → Names e → (at : ℕ) (s : List ℕ)
+    → P false at (0x5C ∷ (t ++ s)) ≡ escapePiece ed at (t ++ s) → Reads P false at ((0x5C ∷ t) ++ s) (encodeScalar v) false s
+escape-reads P {t = t} {v = v} e n at s slash =
+    reads-for P false at (0x5C ∷ t) s v (slash ∙ escape-at e n at s) (omega arith)
+
 -- ---- an escape without error stands in front
 
 pub record EscapedAt (ed : Edition) (s : List ℕ) : Type 0 where
@@ -160,12 +169,15 @@ module _ (ed : Edition) (b : ℕ) where
   abbrev Simple : ℕ → Type 0
   Simple v = 0 < v → Named ed (b ∷ []) v
 
-  one-letter : (k v w : ℕ) → Named ed (k ∷ []) v → Simple w → Simple (cond (lib.Dec.eqb b k) v w)
-  one-letter k v w x f =
-      by-eq Simple b k (λ e h. subst (λ (c : ℕ). Named ed (c ∷ []) v) (sym e) x) (λ e. f)
+  one-letter : (k v w : ℕ) → Named ed (k ∷ []) v → Simple w → Simple (cond (eqb b k) v w)
+  one-letter k v w x f = by-eq Simple b k (λ e h. subst (λ (c : ℕ). Named ed (c ∷ []) v) (sym e) x) (λ e. f)
 
   abbrev Hex : ℕ → Type 0
   Hex n = 0 < n → (t : List ℕ) (v : ℕ) → HexDigits n 0 t v → Scalar v → Named ed (b ∷ t) v
+
+  hex-letter : (k n m : ℕ) → ((t : List ℕ) (v : ℕ) → HexDigits n 0 t v → Scalar v → Named ed (k ∷ t) v) → Hex m
+      → Hex (cond (eqb b k) n m)
+  hex-letter k n m x f = by-eq Hex b k (λ e h t v d sc. subst (λ (c : ℕ). Named ed (c ∷ t) v) (sym e) (x t v d sc)) (λ e. f)
 
 new-is : (ed : Edition) (b : ℕ) → Simple ed b (newEscape ed b)
 new-is Toml10 b = λ h. absurd (omega arith)
@@ -180,22 +192,20 @@ simple-is ed b =
 
 new-hex-is : (ed : Edition) (b : ℕ) → Hex ed b (newHexLength ed b)
 new-hex-is Toml10 b = λ h. absurd (omega arith)
-new-hex-is Toml11 b =
-    by-eq (Hex Toml11 b) b 0x78 (λ e h t v d sc. subst (λ (c : ℕ). Named Toml11 (c ∷ t) v) (sym e) (x78 d, tt))
-    (λ _ h. absurd (omega arith))
+new-hex-is Toml11 b = hex-letter Toml11 b 0x78 2 0 (λ t v d sc. (x78 d, tt)) (λ h. absurd (omega arith))
 
 hex-is : (ed : Edition) (b : ℕ) → Hex ed b (hexLength ed b)
 unfolding hexLength
 hex-is ed b =
-    by-eq (Hex ed b) b 0x75 (λ e h t v d sc. subst (λ (c : ℕ). Named ed (c ∷ t) v) (sym e) (x75 d, sc))
-    λ _. by-eq (Hex ed b) b 0x55 (λ e h t v d sc. subst (λ (c : ℕ). Named ed (c ∷ t) v) (sym e) (x55 d, sc)) (λ _. new-hex-is ed b)
+    hex-letter ed b 0x75 4 _ (λ t v d sc. (x75 d, sc)) (hex-letter ed b 0x55 8 _ (λ t v d sc. (x55 d, sc)) (new-hex-is ed b))
 
 hex-clean : (n at : ℕ) (s : List ℕ) → hexPiece n at s .err ≡ 0 → (n ≤ run hexdig s) × Scalar (hexFrom 0 (take n s))
 unfolding hexPiece
 hex-clean n at s =
-    by-lt (λ (p : Piece). p .err ≡ 0 → (n ≤ run hexdig s) × Scalar (hexFrom 0 (take n s))) (run hexdig s) n (λ h e. absurd (omega arith))
-    λ h. cond-case (λ (p : Piece). p .err ≡ 0 → (n ≤ run hexdig s) × Scalar (hexFrom 0 (take n s))) (isScalar (hexFrom 0 (take n s)))
-    (λ v e. (h, true-scalar _ v)) (λ v e. absurd (omega arith))
+    let v = hexFrom 0 (take n s) in
+    let P : Piece → Type 0 = IfClean ((n ≤ run hexdig s) × Scalar v) in
+    by-lt P (run hexdig s) n (λ h e. absurd (omega arith))
+    λ h. cond-case P (isScalar v) (λ is e. (h, true-scalar _ is)) (λ is e. absurd (omega arith))
 
 hex-front : (ed : Edition) (b n at : ℕ) (s : List ℕ) → 0 < n → Hex ed b n → hexPiece n at s .err ≡ 0 → EscapedAt ed (b ∷ s)
 hex-front ed b n at s h f e =
@@ -219,8 +229,9 @@ pub escape-inv : (ed : Edition) (at : ℕ) (s : List ℕ) → escapePiece ed at 
 unfolding escapePiece
 escape-inv ed at [] = none-escaped ed at
 escape-inv ed at (b ∷ s) =
-    by-lt (λ (p : Piece). p .err ≡ 0 → EscapedAt ed (b ∷ s)) 0 (hexLength ed b)
-    (λ h e. hex-front ed b (hexLength ed b) at s h (hex-is ed b) e)
-    λ h. by-lt (λ (p : Piece). p .err ≡ 0 → EscapedAt ed (b ∷ s)) 0 (simpleEscape ed b)
-    (λ l e. let x = simple-is ed b l in record { t = b ∷ []; rest = s; v = simpleEscape ed b; split = refl; char = x .0; names = x .1 })
+    by-lt (IfClean (EscapedAt ed (b ∷ s))) 0 (hexLength ed b) (λ h e. hex-front ed b (hexLength ed b) at s h (hex-is ed b) e)
+    λ h. by-lt (IfClean (EscapedAt ed (b ∷ s))) 0 (simpleEscape ed b) (λ l e. simple-front (simple-is ed b l))
     (λ l e. absurd (omega arith))
+  where
+    simple-front : {v : ℕ} → Named ed (b ∷ []) v → EscapedAt ed (b ∷ s)
+    simple-front {v} x = record { t = b ∷ []; rest = s; v = v; split = refl; char = x .0; names = x .1 }

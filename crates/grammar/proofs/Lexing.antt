@@ -18,9 +18,9 @@ use Rattle.grammar.specs.Strings.{StringKind, literal, basic, ml-literal
 use Rattle.grammar.proofs.ListLaws.{all-weaken}
 use Rattle.grammar.proofs.Encoded.{char-bytes, chars-bytes, encodes-ascii}
 use Rattle.grammar.proofs.Escapes.{shape, escape-ascii}
-use Rattle.grammar.proofs.LineMarks.{marked, encodes-marked}
+use Rattle.grammar.proofs.LineMarks.{marked, marked-long, encodes-marked}
 use Rattle.grammar.proofs.TripleMarks.{encodes-fenced}
-use Rattle.grammar.proofs.Passing.{pass-all, triple-no, triple-two, triple-yes, InLine, line-high, literal-in, basic-in, digit-in, line-pass, line-hidden, line-close}
+use Rattle.grammar.proofs.Passing.{quotation, apostrophes, pass-all, triple-no, triple-two, triple-yes, InLine, line-high, literal-in, basic-in, digit-in, line-pass, line-hidden, line-close}
 use Rattle.grammar.proofs.MlLiteralStrings.{ml-literal-lexed}
 use Rattle.grammar.proofs.MlBasicStrings.{ml-basic-lexed}
 
@@ -55,8 +55,8 @@ kind-quotes s = rw (triple-yes 34 s)
 marked-rest : (q : ℕ) → q < 0x80 → (s rest : List ℕ) → encodes (marked q s) ++ rest ≡ q ∷ (encodes s ++ (q ∷ rest))
 marked-rest q h s rest = ap (λ x. x ++ rest) (encodes-marked q h s) ∙ ap (q ∷_) (append-assoc (encodes s) (q ∷ []) rest)
 
-marked-long : (q : ℕ) → q < 0x80 → (s : List ℕ) → length (encodes (marked q s)) ≡ suc (suc (length (encodes s)))
-marked-long q h s = ap length (encodes-marked q h s) ∙ rw (length-append (encodes s) (q ∷ [])) (omega arith)
+encoded-long : (q : ℕ) → q < 0x80 → (s : List ℕ) → length (encodes (marked q s)) ≡ suc (suc (length (encodes s)))
+encoded-long q h s = ap length (encodes-marked q h s) ∙ marked-long q (encodes s)
 
 -- no three marks, where the first byte behind the opening is none or the closing
 triple-line : (q : ℕ) (x : List ℕ) → All (InLine q) x → (rest : List ℕ) → Apart q rest → triple q (q ∷ (x ++ (q ∷ rest))) ≡ false
@@ -70,21 +70,22 @@ literals-in LiteralChars.stop = tt
 literals-in (LiteralChars.more x r) = (literal-in x, literals-in r)
 
 literal-bytes : {s : List ℕ} → LiteralChars s → All (InLine 39) (encodes s)
-literal-bytes {s} d = chars-bytes (line-high 39 (omega arith)) s (literals-in d)
+literal-bytes {s} d = chars-bytes (line-high apostrophes) s (literals-in d)
 
-literal-token : {cs v : List ℕ} → LiteralString cs v → (rest : List ℕ) → Apart 39 rest → IsToken (tokenKind literal) (encodes cs) rest
+literal-token : {cs v : List ℕ} → LiteralString cs v → (rest : List ℕ) → Apart 39 rest
+    → IsToken (tokenKind literal) (encodes cs) rest
 unfolding extent
 literal-token (literal-string {s} d) rest h =
     let e = marked-rest 39 (omega arith) s rest in
     let p = pass-all (lineTail 39 false) (InLine 39) (line-pass 39) (encodes s) (literal-bytes d) (39 ∷ rest) in
     token-of (tokenKind literal) (encodes (marked 39 s)) rest
     (ap kindOf e ∙ kind-apostrophe (encodes s ++ (39 ∷ rest)) (triple-line 39 (encodes s) (literal-bytes d) rest h))
-    (ap (λ x. suc (lineTail 39 false (drop 1 x))) e ∙ omega (arith, line-close 39 rest, marked-long 39 (omega arith) s))
+    (ap (λ x. suc (lineTail 39 false (drop 1 x))) e ∙ omega (arith, line-close 39 rest, encoded-long 39 (omega arith) s))
 
 -- ---- basic
 
 char-in : {c : ℕ} → BasicUnescaped c → All (InLine 34) (encodeScalar c)
-char-in {c} x = char-bytes (line-high 34 (omega arith)) c (basic-in x)
+char-in {c} x = char-bytes (line-high quotation) c (basic-in x)
 
 -- in one edition of TOML
 module _ (ed : Edition) where
@@ -100,7 +101,8 @@ module _ (ed : Edition) where
       let b = pass-all (lineTail 34 false) (InLine 34) (line-pass 34) (w .r) digits s in
       ap (λ x. lineTail 34 false (92 ∷ (x ++ s))) (w .is) ∙ omega (arith, ap length (w .is))
 
-  basic-tail : {s v : List ℕ} → BasicChars ed s v → (rest : List ℕ) → lineTail 34 false (encodes s ++ (34 ∷ rest)) ≡ suc (length (encodes s))
+  basic-tail : {s v : List ℕ} → BasicChars ed s v → (rest : List ℕ)
+      → lineTail 34 false (encodes s ++ (34 ∷ rest)) ≡ suc (length (encodes s))
   basic-tail BasicChars.stop rest = line-close 34 rest
   basic-tail (BasicChars.more {r = r} (basic-unescaped {c} x) d) rest =
       let p = pass-all (lineTail 34 false) (InLine 34) (line-pass 34) (encodeScalar c) (char-in x) (encodes r ++ (34 ∷ rest)) in
@@ -110,7 +112,8 @@ module _ (ed : Edition) where
       rw (slashed x r, append-assoc t (encodes r) (34 ∷ rest), length-append t (encodes r))
       (omega (arith, escape-line x (encodes r ++ (34 ∷ rest)), basic-tail d rest))
 
-  basic-triple : {s v : List ℕ} → BasicChars ed s v → (rest : List ℕ) → Apart 34 rest → triple 34 (34 ∷ (encodes s ++ (34 ∷ rest))) ≡ false
+  basic-triple : {s v : List ℕ} → BasicChars ed s v → (rest : List ℕ) → Apart 34 rest
+      → triple 34 (34 ∷ (encodes s ++ (34 ∷ rest))) ≡ false
   basic-triple BasicChars.stop rest h = triple-two 34 rest h
   basic-triple (BasicChars.more {r = r} (basic-unescaped {c} x) d) rest h =
       rw (append-assoc (encodeScalar c) (encodes r) (34 ∷ rest))
@@ -122,25 +125,29 @@ module _ (ed : Edition) where
   basic-triple (BasicChars.more {r = r} (escaped-char (escaped {t} x)) d) rest h =
       rw (slashed x r) (triple-no 34 0x5C ((t ++ encodes r) ++ (34 ∷ rest)) (λ e. omega arith))
 
-  basic-token : {cs v : List ℕ} → BasicString ed cs v → (rest : List ℕ) → Apart 34 rest → IsToken (tokenKind basic) (encodes cs) rest
+  basic-token : {cs v : List ℕ} → BasicString ed cs v → (rest : List ℕ) → Apart 34 rest
+      → IsToken (tokenKind basic) (encodes cs) rest
   unfolding extent
   basic-token (basic-string {t} d) rest h =
       let e = marked-rest 34 (omega arith) t rest in
-      token-of (tokenKind basic) (encodes (marked 34 t)) rest (ap kindOf e ∙ kind-quote (encodes t ++ (34 ∷ rest)) (basic-triple d rest h))
-      (ap (λ x. suc (lineTail 34 false (drop 1 x))) e ∙ omega (arith, basic-tail d rest, marked-long 34 (omega arith) t))
+      token-of (tokenKind basic) (encodes (marked 34 t)) rest
+      (ap kindOf e ∙ kind-quote (encodes t ++ (34 ∷ rest)) (basic-triple d rest h))
+      (ap (λ x. suc (lineTail 34 false (drop 1 x))) e ∙ omega (arith, basic-tail d rest, encoded-long 34 (omega arith) t))
 
   -- ---- the multi-line kinds
 
   ml-literal-kind : {cs v : List ℕ} → MlLiteralString cs v → (rest : List ℕ) → kindOf (encodes cs ++ rest) ≡ tokenKind ml-literal
   ml-literal-kind (ml-literal-string {b = b} o d) rest =
-      ap (λ x. kindOf (x ++ rest)) (encodes-fenced 39 (omega arith) o b) ∙ kind-apostrophes _
+      ap (λ x. kindOf (x ++ rest)) (encodes-fenced apostrophes o b) ∙ kind-apostrophes _
 
   ml-basic-kind : {cs v : List ℕ} → MlBasicString ed cs v → (rest : List ℕ) → kindOf (encodes cs ++ rest) ≡ tokenKind ml-basic
-  ml-basic-kind (ml-basic-string {b = b} o d) rest = ap (λ x. kindOf (x ++ rest)) (encodes-fenced 34 (omega arith) o b) ∙ kind-quotes _
+  ml-basic-kind (ml-basic-string {b = b} o d) rest =
+      ap (λ x. kindOf (x ++ rest)) (encodes-fenced quotation o b) ∙ kind-quotes _
 
   -- ---- all four
 
-  pub derived-token : (s : StringKind) (cs v rest : List ℕ) → Derived ed s cs v → Apart (mark s) rest → IsToken (tokenKind s) (encodes cs) rest
+  pub derived-token : (s : StringKind) (cs v rest : List ℕ) → Derived ed s cs v → Apart (mark s) rest
+      → IsToken (tokenKind s) (encodes cs) rest
   unfolding extent
   derived-token literal cs v rest d h = literal-token d rest h
   derived-token basic cs v rest (d, n) h = basic-token d rest h

@@ -25,6 +25,7 @@ use Rattle.strings.proofs.MarkLaws.{line-both}
 use Rattle.strings.proofs.DecodeLaws.{bytes-is, errors-is}
 use Rattle.grammar.proofs.ListLaws.{last-split}
 use Rattle.grammar.proofs.Encoded.{between}
+use Rattle.grammar.proofs.Reading.{ErrorFree}
 
 -- ---- marks that are there
 
@@ -46,14 +47,14 @@ both-marks e t h =
 abbrev pub marked : ℕ → List ℕ → List ℕ
 marked q m = q ∷ (m ++ (q ∷ []))
 
-marked-long : (q : ℕ) (m : List ℕ) → length (marked q m) ≡ suc (suc (length m))
+pub marked-long : (q : ℕ) (m : List ℕ) → length (marked q m) ≡ suc (suc (length m))
 marked-long q m = rw (length-append m (q ∷ [])) (omega arith)
 
 -- the ends of a marked text
-abbrev ends-at : List ℕ → Ends
-ends-at t = record { opened = true; closed = true; start = 1; end = length t - 1 }
+abbrev marked-ends-at : List ℕ → Ends
+marked-ends-at t = record { opened = true; closed = true; start = 1; end = length t - 1 }
 
-line-at : (q : ℕ) (m : List ℕ) → ends-at (marked q m) ≡ lineEnds q (marked q m)
+line-at : (q : ℕ) (m : List ℕ) → marked-ends-at (marked q m) ≡ lineEnds q (marked q m)
 line-at q m =
     let l = marked-long q m in
     let last : getD (marked q m) (suc (length m)) 0 ≡ q =
@@ -61,8 +62,8 @@ line-at q m =
     let z : length (marked q m) - 1 ≡ suc (length m) = omega arith in
     line-both q (marked q m) (omega arith) refl (ap (λ (i : ℕ). getD (marked q m) i 0) z ∙ last)
 
-body-at : (q : ℕ) (m : List ℕ) → bodyOf (ends-at (marked q m)) (marked q m) ≡ m
-body-at q m = let l = marked-long q m in take-at m (q ∷ []) (length (marked q m) - 1 - 1) (omega arith)
+marked-body : (q : ℕ) (m : List ℕ) → bodyOf (marked-ends-at (marked q m)) (marked q m) ≡ m
+marked-body q m = let l = marked-long q m in take-at m (q ∷ []) (length (marked q m) - 1 - 1) (omega arith)
 
 -- a text whose marks are there
 line-inv : (q : ℕ) (t : List ℕ) → lineEnds q t .opened ≡ true → lineEnds q t .closed ≡ true → (m : List ℕ) × (t ≡ marked q m)
@@ -90,27 +91,27 @@ encodes-marked q h s = rw (encode-1 q h, encodes-append s (q ∷ []), encode-1 q
 -- ---- from the decoder of a body to the decoder of a text
 
 module _ (e : Encoding) (q : ℕ) (low : q < 0x80) (ends : (t : List ℕ) → endsOf e t ≡ lineEnds q t) where
-  marked-ends : (m : List ℕ) → ends-at (marked q m) ≡ endsOf e (marked q m)
+  marked-ends : (m : List ℕ) → marked-ends-at (marked q m) ≡ endsOf e (marked q m)
   marked-ends m = line-at q m ∙ sym (ends (marked q m))
 
   pub line-errors : (s : List ℕ) → errorsOf e (encodes (marked q s)) ≡ collect (pieceOf e) notesAt 0 false 1 (encodes s)
   line-errors s =
       ap (errorsOf e) (encodes-marked q low s)
-      ∙ (errors-is e (marked q (encodes s)) (ends-at (marked q (encodes s))) (marked-ends (encodes s)) (markError e) refl
-      ∙ ap (collect (pieceOf e) notesAt 0 false 1) (body-at q (encodes s)))
+      ∙ (errors-is e (marked q (encodes s)) (marked-ends-at (marked q (encodes s))) (marked-ends (encodes s)) (markError e) refl
+      ∙ ap (collect (pieceOf e) notesAt 0 false 1) (marked-body q (encodes s)))
 
   pub line-bytes : (s : List ℕ) → bytesOf e (encodes (marked q s)) ≡ collect (pieceOf e) gives 0 false 1 (encodes s)
   line-bytes s =
       ap (bytesOf e) (encodes-marked q low s)
-      ∙ (bytes-is e (marked q (encodes s)) (ends-at (marked q (encodes s))) (marked-ends (encodes s))
-      ∙ ap (collect (pieceOf e) gives 0 false 1) (body-at q (encodes s)))
+      ∙ (bytes-is e (marked q (encodes s)) (marked-ends-at (marked q (encodes s))) (marked-ends (encodes s))
+      ∙ ap (collect (pieceOf e) gives 0 false 1) (marked-body q (encodes s)))
 
   -- a text without error has a body without error
   pub record LineText (cs : List ℕ) : Type 0 where
     pub body : List ℕ
     pub text : cs ≡ marked q body
     pub each : All Scalar body
-    pub clean : collect (pieceOf e) notesAt 0 false 1 (encodes body) ≡ []
+    pub clean : ErrorFree (pieceOf e) false 1 (encodes body)
 
   pub line-text : (cs : List ℕ) → All Scalar cs → errorsOf e (encodes cs) ≡ [] → LineText cs
   line-text cs sc h =

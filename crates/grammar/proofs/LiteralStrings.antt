@@ -1,6 +1,6 @@
 -- Literal strings: the decoder's pieces and the grammar.
 -- Assumes nothing.
-use Prim.Native.Nat.{ℕ, suc, _<_}
+use Prim.Native.Nat.{ℕ, _<_}
 use mathlib.Core.Path.{_≡_, refl, sym, _∙_, subst}
 use mathlib.Core.Bool.{true, false}
 use mathlib.Core.List.{List, [], _∷_, _++_, append-nil}
@@ -10,14 +10,13 @@ use Rattle.classes.specs.Runs.{run}
 use Rattle.classes.proofs.Conds.{cond-case}
 use Rattle.text.specs.Utf8.{Scalar, encodeScalar, encodes, All}
 use Rattle.text.proofs.EncodeLaws.{encode-1}
-use Rattle.strings.specs.declared.Piece.{Piece}
 use Rattle.strings.specs.declared.Encoding.the-variants.{LiteralString as LiteralText}
-use Rattle.strings.specs.Pieces.{notesAt, Pieces, collect, copyPiece}
+use Rattle.strings.specs.Pieces.{Pieces}
 use Rattle.strings.specs.Bodies.{literalPiece, pieceOf}
 use Rattle.strings.specs.Decoding.{bytesOf, errorsOf}
 use Rattle.grammar.specs.Grammar.{LiteralChars, stop, more, LiteralString, literal-string}
 use Rattle.grammar.proofs.Encoded.{side, ascii, beyond}
-use Rattle.grammar.proofs.Reading.{Reads, reads-none, reads-then, reads-char, first-clean}
+use Rattle.grammar.proofs.Reading.{IfClean, CopiesRuns, ErrorFree, ReadsAs, ReadsChars, reads-none, reads-then, reads-char, first-clean}
 use Rattle.grammar.proofs.ClassLaws.{literal-at, literal-is, literal-high}
 use Rattle.grammar.proofs.LineMarks.{line-errors, line-bytes, line-text}
 
@@ -26,19 +25,19 @@ P = pieceOf LiteralText
 
 -- ---- the pieces, on bytes
 
-plain : (at b : ℕ) (s : List ℕ) → literalChar b ≡ true → P false at (b ∷ s) ≡ copyPiece (suc (run literalChar s)) 0 at at
+plain : CopiesRuns P literalChar
 unfolding literalPiece run
 plain at b s e = rw e
 
 clean : (at b : ℕ) (r : List ℕ) → P false at (b ∷ r) .err ≡ 0 → literalChar b ≡ true
 unfolding literalPiece
-clean at b r = cond-case (λ (p : Piece). p .err ≡ 0 → literalChar b ≡ true) (literalChar b) (λ h e. h) (λ h e. absurd (omega arith))
+clean at b r = cond-case (IfClean (literalChar b ≡ true)) (literalChar b) (λ h e. h) (λ h e. absurd (omega arith))
 
-char-reads : (c at : ℕ) (s : List ℕ) → literalChar c ≡ true → Reads P false at (encodeScalar c ++ s) (encodeScalar c) false s
+char-reads : ReadsChars P literalChar
 char-reads = reads-char P literalChar plain literal-high
 
 -- a code point that is read without error is of the class
-char-clean : (c at : ℕ) (s : List ℕ) → collect P notesAt 0 false at (encodeScalar c ++ s) ≡ [] → literalChar c ≡ true
+char-clean : (c at : ℕ) (s : List ℕ) → ErrorFree P false at (encodeScalar c ++ s) → literalChar c ≡ true
 char-clean c at s e = elim (side c) [
   | ascii l ↦ clean at c s (first-clean P false at c s (rw (encode-1 c l) at e))
   | beyond l ↦ literal-high c l
@@ -46,11 +45,11 @@ char-clean c at s e = elim (side c) [
 
 -- ---- from the grammar, and to it
 
-chars-read : {cs : List ℕ} → LiteralChars cs → (at : ℕ) → Reads P false at (encodes cs) (encodes cs) false []
+chars-read : {cs : List ℕ} → LiteralChars cs → ReadsAs P cs cs
 chars-read stop at = reads-none P false at []
 chars-read (more {c} {s} x r) at = let a = char-reads c at (encodes s) (literal-at x) in reads-then P a (chars-read r (a .to))
 
-chars-clean : (cs : List ℕ) → All Scalar cs → (at : ℕ) → collect P notesAt 0 false at (encodes cs) ≡ [] → LiteralChars cs
+chars-clean : (cs : List ℕ) → All Scalar cs → (at : ℕ) → ErrorFree P false at (encodes cs) → LiteralChars cs
 chars-clean [] sc at e = stop
 chars-clean (c ∷ cs) sc at e =
     let h = char-clean c at (encodes cs) e in
@@ -73,4 +72,5 @@ literal-complete (literal-string {s} d) =
 pub literal-sound : (cs : List ℕ) → All Scalar cs → errorsOf LiteralText (encodes cs) ≡ [] → (v : List ℕ) × LiteralString cs v
 literal-sound cs sc e =
     let o = line-text LiteralText 0x27 (omega arith) (λ t. refl) cs sc e in
-    (o .body, subst (λ x. LiteralString x (o .body)) (sym (o .text)) (literal-string (chars-clean (o .body) (o .each) 1 (o .clean))))
+    let d = chars-clean (o .body) (o .each) 1 (o .clean) in
+    (o .body, subst (λ x. LiteralString x (o .body)) (sym (o .text)) (literal-string d))

@@ -24,103 +24,173 @@ use Rattle.strings.specs.Escapes.{escapePiece}
 use Rattle.strings.specs.Bodies.{skips, escapedLine, escapedNl, escapedMore, mlbContent, mlBasicPiece, pieceOf}
 use Rattle.strings.proofs.AsciiLaws.{mlb-high}
 use Rattle.grammar.specs.Grammar.{x20, x09, Newline, x0A, x0D-0A, EscapeSeqChar, Ws, MlbUnescaped, WscharNewline, newline}
-use Rattle.grammar.specs.Scalars.{Names}
 use Rattle.grammar.proofs.ListLaws.{first-there, two-there}
 use Rattle.grammar.proofs.Encoded.{side, ascii, beyond}
-use Rattle.grammar.proofs.Reading.{Reads, reads-char, reads-plain, reads-copy, reads-for, reads-drop}
+use Rattle.grammar.proofs.Reading.{IfClean, CopiesRuns, Reads, ReadsChars, ReadsNewlines, reads-char, reads-plain, reads-copy, reads-drop}
 use Rattle.grammar.proofs.ClassLaws.{wschar-is, basic-at, mlb-basic, mlb-same}
-use Rattle.grammar.proofs.Escapes.{shape, escape-at, EscapedAt, escape-inv}
+use Rattle.grammar.proofs.Escapes.{shape, EscapedAt, escape-inv}
+
+-- ---- plain bytes
+
+pub char-plain : {c : ℕ} → MlbUnescaped c → mlbPlain c ≡ true
+unfolding mlbPlain
+char-plain {c} x = or-left (mlbUnescaped c) _ (mlb-same c ∙ basic-at (mlb-basic .0 x))
+
+lf-plain : mlbPlain 0x0A ≡ true
+unfolding mlbPlain mlbUnescaped
+lf-plain = refl
+
+pub mark-plain : mlbPlain 0x22 ≡ true
+unfolding mlbPlain mlbUnescaped
+mark-plain = refl
+
+-- ---- what a line-ending backslash is
+
+pub visible-out : (b : ℕ) → 0x21 ≤ b → skips b ≡ false
+unfolding skips wschar
+visible-out b h =
+    rw (
+      ne-eqb b 0x20 (λ e. omega arith),
+      ne-eqb b 0x09 (λ e. omega arith),
+      ne-eqb b 0x0A (λ e. omega arith),
+      ne-eqb b 0x0D (λ e. omega arith),
+    )
+
+ws-run : {w n : List ℕ} → Ws w → Newline n → (s : List ℕ) → run wschar (w ++ (n ++ s)) ≡ length w
+unfolding wschar run
+ws-run Ws.stop x0A s = refl
+ws-run Ws.stop x0D-0A s = refl
+ws-run (Ws.more x20 w) n s = ap suc (ws-run w n s)
+ws-run (Ws.more x09 w) n s = ap suc (ws-run w n s)
+
+line-front : {w n : List ℕ} → Ws w → Newline n → (s : List ℕ) → skips (getD (w ++ (n ++ s)) 0 0) ≡ true
+unfolding skips wschar
+line-front Ws.stop x0A s = refl
+line-front Ws.stop x0D-0A s = refl
+line-front (Ws.more x20 w) n s = refl
+line-front (Ws.more x09 w) n s = refl
+
+line-at : (at : ℕ) {w n : List ℕ} → Ws w → Newline n → (s : List ℕ)
+    → escapedNl at (w ++ (n ++ s)) ≡ dropPiece (1 + (length w + length n)) 0 0
+unfolding escapedNl
+line-at at {w} {n} x y s = rw (ws-run x y s) (go y)
+  where
+    zeroth : (y : List ℕ) → getD (w ++ y) (length w) 0 ≡ getD y 0 0
+    zeroth y = ap (λ (i : ℕ). getD (w ++ y) i 0) (sym (add-zero (length w))) ∙ getD-append-add w y 0 0
+
+    go : {n : List ℕ} → Newline n
+        → escapedLine at (length w) (getD (w ++ (n ++ s)) (length w) 0) (getD (w ++ (n ++ s)) (length w + 1) 0)
+        ≡ dropPiece (1 + (length w + length n)) 0 0
+    go x0A = rw (zeroth (0x0A ∷ s)) (ap (λ (i : ℕ). dropPiece i 0 0) (omega arith))
+    go x0D-0A =
+        rw (zeroth (0x0D ∷ (0x0A ∷ s)), getD-append-add w (0x0D ∷ (0x0A ∷ s)) 1 0) (ap (λ (i : ℕ). dropPiece i 0 0) (omega arith))
+
+-- one stands before r
+pub record Ended (r : List ℕ) : Type 0 where
+  pub w : List ℕ
+  pub n : List ℕ
+  pub rest : List ℕ
+  pub split : r ≡ w ++ (n ++ rest)
+  pub ws : Ws w
+  pub nl : Newline n
+
+ws-taken : (r : List ℕ) → Ws (take (run wschar r) r)
+unfolding run
+ws-taken [] = Ws.stop
+ws-taken (b ∷ r) = go (wschar b) refl (ws-taken r)
+  where
+    go : (x : Bool) → wschar b ≡ x → Ws (take (run wschar r) r) → Ws (take (cond x (suc (run wschar r)) 0) (b ∷ r))
+    go true e i = Ws.more (wschar-is b e) i
+    go false e i = Ws.stop
+
+ended : (at : ℕ) (r : List ℕ) → escapedNl at r .err ≡ 0 → Ended r
+unfolding escapedNl
+ended at r =
+    by-eq (IfClean (Ended r)) (getD r k 0) 0x0A
+    (λ e h. let w = first-there s 0x0A (omega arith) (zeroth ∙ e) in fin (0x0A ∷ []) (w .0) x0A (w .1))
+    λ _. by-eq (IfClean (Ended r)) (getD r k 0) 0x0D
+    (λ e. by-eq (IfClean (Ended r)) (getD r (k + 1) 0) 0x0A
+    (λ l h.
+    let w = two-there s 0x0D 0x0A (omega arith) (omega arith) (zeroth ∙ e) (getD-drop k r 1 0 ∙ l) in
+    fin (0x0D ∷ (0x0A ∷ [])) (w .0) x0D-0A (w .1))
+    (λ l h. absurd (omega arith)))
+    (λ e h. absurd (omega arith))
+  where
+    k : ℕ
+    k = run wschar r
+
+    s : List ℕ
+    s = drop k r
+
+    zeroth : getD s 0 0 ≡ getD r k 0
+    zeroth = getD-drop k r 0 0 ∙ ap (λ (i : ℕ). getD r i 0) (add-zero k)
+
+    fin : (n rest : List ℕ) → Newline n → s ≡ n ++ rest → Ended r
+    fin n rest y p =
+        record {
+          w = take k r;
+          n = n;
+          rest = rest;
+          split = sym (take-append-drop k r) ∙ ap (λ z. take k r ++ z) p;
+          ws = ws-taken r;
+          nl = y;
+        }
+
+-- ---- what it drops
+
+pub skip-some : {t : List ℕ} → WscharNewline t → 0 < length t
+skip-some (WscharNewline.wschar w) = omega arith
+skip-some (newline x0A) = omega arith
+skip-some (newline x0D-0A) = omega arith
+
+-- at b, and r behind it, it has ended, or drops one byte or two
+pub data Skipped (b : ℕ) (r : List ℕ) : Type 0 where
+  is-out : skips b ≡ false → Skipped b r
+  is-one : WscharNewline (b ∷ []) → Skipped b r
+  is-two : (s : List ℕ) → b ≡ 0x0D → r ≡ 0x0A ∷ s → Skipped b r
+
+skip-is : (b : ℕ) → skips b ≡ true → (b ≡ 0x0D → ⊥) → WscharNewline (b ∷ [])
+unfolding skips
+skip-is b h n =
+    or-inv (wschar b) _ h (λ e. WscharNewline.wschar (wschar-is b e))
+    (λ t. or-inv (eqb b 0x0A) (eqb b 0x0D) t (λ e. subst (λ y. WscharNewline (y ∷ [])) (sym (eqb-true b 0x0A e)) (newline x0A))
+    (λ e. absurd (n (eqb-true b 0x0D e))))
 
 -- in one edition of TOML
 module _ (ed : Edition) where
   abbrev pub P : Pieces
   P = pieceOf (MlBasicText ed)
 
-  -- ---- plain bytes
+  -- ---- plain bytes, newlines and escapes are read
 
-  pub plain : (at b : ℕ) (s : List ℕ) → mlbPlain b ≡ true → P false at (b ∷ s) ≡ copyPiece (suc (run mlbPlain s)) 0 at at
+  plain : CopiesRuns P mlbPlain
   unfolding mlBasicPiece mlbContent run
   plain at b s e = rw e
 
-  pub char-plain : {c : ℕ} → MlbUnescaped c → mlbPlain c ≡ true
-  unfolding mlbPlain
-  char-plain {c} x = or-left (mlbUnescaped c) _ (mlb-same c ∙ basic-at (mlb-basic .0 x))
-
-  lf-plain : mlbPlain 0x0A ≡ true
-  unfolding mlbPlain mlbUnescaped
-  lf-plain = refl
-
-  pub mark-plain : mlbPlain 0x22 ≡ true
-  unfolding mlbPlain mlbUnescaped
-  mark-plain = refl
-
-  pub char-reads : (c at : ℕ) (s : List ℕ) → mlbPlain c ≡ true → Reads P false at (encodeScalar c ++ s) (encodeScalar c) false s
+  pub char-reads : ReadsChars P mlbPlain
   char-reads = reads-char P mlbPlain plain mlb-high
-
-  -- ---- newlines, and escapes
 
   crlf-piece : (at : ℕ) (s : List ℕ) → P false at (0x0D ∷ (0x0A ∷ s)) ≡ copyPiece 2 0 at at
   unfolding mlBasicPiece mlbContent mlbPlain mlbUnescaped
   crlf-piece at s = refl
 
-  pub newline-reads : (n : List ℕ) → Newline n → (at : ℕ) (s : List ℕ) → Reads P false at (n ++ s) n false s
+  pub newline-reads : ReadsNewlines P
   newline-reads n x0A at s = reads-plain P mlbPlain plain at 0x0A s lf-plain
   newline-reads n x0D-0A at s = reads-copy P false at (0x0D ∷ (0x0A ∷ [])) s at at (crlf-piece at s) (omega arith)
-
-  pub visible-out : (b : ℕ) → 0x21 ≤ b → skips b ≡ false
-  unfolding skips wschar
-  visible-out b h =
-      rw (
-        ne-eqb b 0x20 (λ e. omega arith),
-        ne-eqb b 0x09 (λ e. omega arith),
-        ne-eqb b 0x0A (λ e. omega arith),
-        ne-eqb b 0x0D (λ e. omega arith),
-      )
 
   slash-piece : (at : ℕ) (r : List ℕ) → P false at (0x5C ∷ r) ≡ cond (skips (getD r 0 0)) (escapedNl at r) (escapePiece ed at r)
   unfolding mlBasicPiece mlbContent mlbPlain mlbUnescaped
   slash-piece at r = refl
 
-  escape-piece : {t : List ℕ} {v : ℕ} → EscapeSeqChar ed t v → (at : ℕ) (s : List ℕ) → P false at (0x5C ∷ (t ++ s)) ≡ escapePiece ed at (t ++ s)
+  pub escape-piece : {t : List ℕ} {v : ℕ} → EscapeSeqChar ed t v → (at : ℕ) (s : List ℕ)
+      → P false at (0x5C ∷ (t ++ s)) ≡ escapePiece ed at (t ++ s)
   escape-piece {t} e at s =
       let w = shape e in
       let out : skips (getD (t ++ s) 0 0) ≡ false =
       ap (λ x. skips (getD (x ++ s) 0 0)) (w .is) ∙ visible-out (w .b) (omega (arith, w .visible)) in
       slash-piece at (t ++ s) ∙ rw out
 
-  pub escape-reads : {t : List ℕ} {v : ℕ} (e : EscapeSeqChar ed t v) → Names e → (at : ℕ) (s : List ℕ)
-      → Reads P false at ((0x5C ∷ t) ++ s) (encodeScalar v) false s
-  escape-reads {t} {v} e n at s = reads-for P false at (0x5C ∷ t) s v (escape-piece e at s ∙ escape-at e n at s) (omega arith)
-
-  -- ---- a line-ending backslash
-
-  ws-run : {w n : List ℕ} → Ws w → Newline n → (s : List ℕ) → run wschar (w ++ (n ++ s)) ≡ length w
-  unfolding wschar run
-  ws-run Ws.stop x0A s = refl
-  ws-run Ws.stop x0D-0A s = refl
-  ws-run (Ws.more x20 w) n s = ap suc (ws-run w n s)
-  ws-run (Ws.more x09 w) n s = ap suc (ws-run w n s)
-
-  line-front : {w n : List ℕ} → Ws w → Newline n → (s : List ℕ) → skips (getD (w ++ (n ++ s)) 0 0) ≡ true
-  unfolding skips wschar
-  line-front Ws.stop x0A s = refl
-  line-front Ws.stop x0D-0A s = refl
-  line-front (Ws.more x20 w) n s = refl
-  line-front (Ws.more x09 w) n s = refl
-
-  line-at : (at : ℕ) {w n : List ℕ} → Ws w → Newline n → (s : List ℕ)
-      → escapedNl at (w ++ (n ++ s)) ≡ dropPiece (1 + (length w + length n)) 0 0
-  unfolding escapedNl
-  line-at at {w} {n} x y s = rw (ws-run x y s) (go y)
-    where
-      zeroth : (y : List ℕ) → getD (w ++ y) (length w) 0 ≡ getD y 0 0
-      zeroth y = ap (λ (i : ℕ). getD (w ++ y) i 0) (sym (add-zero (length w))) ∙ getD-append-add w y 0 0
-
-      go : {n : List ℕ} → Newline n
-          → escapedLine at (length w) (getD (w ++ (n ++ s)) (length w) 0) (getD (w ++ (n ++ s)) (length w + 1) 0)
-          ≡ dropPiece (1 + (length w + length n)) 0 0
-      go x0A = rw (zeroth (0x0A ∷ s)) (ap (λ (i : ℕ). dropPiece i 0 0) (omega arith))
-      go x0D-0A = rw (zeroth (0x0D ∷ (0x0A ∷ s)), getD-append-add w (0x0D ∷ (0x0A ∷ s)) 1 0) (ap (λ (i : ℕ). dropPiece i 0 0) (omega arith))
+  -- ---- a line-ending backslash is read, and what it drops
 
   pub line-reads : {w n : List ℕ} → Ws w → Newline n → (at : ℕ) (s : List ℕ) → Reads P false at ((0x5C ∷ (w ++ n)) ++ s) [] true s
   line-reads {w} {n} x y at s =
@@ -129,8 +199,6 @@ module _ (ed : Edition) where
       rw (append-assoc w n s) (slash-piece at (w ++ (n ++ s)) ∙ rw (line-front x y s) (line-at at x y s)) in
       reads-drop P false at (0x5C ∷ (w ++ n)) s (piece ∙ ap (λ (i : ℕ). dropPiece i 0 0) (sym long)) (omega arith)
 
-  -- ---- behind it
-
   skip-piece : (at : ℕ) (s : List ℕ) {t : List ℕ} → WscharNewline t → P true at (t ++ s) ≡ dropPiece (length t) 0 0
   unfolding mlBasicPiece skips wschar escapedMore
   skip-piece at s (WscharNewline.wschar x20) = refl
@@ -138,14 +206,10 @@ module _ (ed : Edition) where
   skip-piece at s (newline x0A) = refl
   skip-piece at s (newline x0D-0A) = refl
 
-  pub skip-some : {t : List ℕ} → WscharNewline t → 0 < length t
-  skip-some (WscharNewline.wschar w) = omega arith
-  skip-some (newline x0A) = omega arith
-  skip-some (newline x0D-0A) = omega arith
-
   pub skip-reads : {t : List ℕ} → WscharNewline t → (at : ℕ) (s : List ℕ) → Reads P true at (t ++ s) [] true s
   skip-reads {t} w at s = reads-drop P true at t s (skip-piece at s w) (skip-some w)
 
+  -- what is no blank and no newline ends it
   same-piece : (at b : ℕ) (s : List ℕ) → skips b ≡ false → P true at (b ∷ s) ≡ P false at (b ∷ s)
   unfolding mlBasicPiece
   same-piece at b s h = rw h
@@ -164,101 +228,32 @@ module _ (ed : Edition) where
 
   -- ---- a piece without error
 
-  -- a line-ending backslash stands before r
-  pub record Ended (r : List ℕ) : Type 0 where
-    pub w : List ℕ
-    pub n : List ℕ
-    pub rest : List ℕ
-    pub split : r ≡ w ++ (n ++ rest)
-    pub ws : Ws w
-    pub nl : Newline n
-
   pub data Content (b : ℕ) (r : List ℕ) : Type 0 where
     is-plain : mlbPlain b ≡ true → Content b r
     is-crlf : (s : List ℕ) → b ≡ 0x0D → r ≡ 0x0A ∷ s → Content b r
     is-escape : b ≡ 0x5C → EscapedAt ed r → Content b r
     is-ended : b ≡ 0x5C → Ended r → Content b r
 
-  ws-taken : (r : List ℕ) → Ws (take (run wschar r) r)
-  unfolding run
-  ws-taken [] = Ws.stop
-  ws-taken (b ∷ r) = go (wschar b) refl (ws-taken r)
-    where
-      go : (x : Bool) → wschar b ≡ x → Ws (take (run wschar r) r) → Ws (take (cond x (suc (run wschar r)) 0) (b ∷ r))
-      go true e i = Ws.more (wschar-is b e) i
-      go false e i = Ws.stop
-
-  ended : (at : ℕ) (r : List ℕ) → escapedNl at r .err ≡ 0 → Ended r
-  unfolding escapedNl
-  ended at r =
-      by-eq Clean (getD r k 0) 0x0A (λ e h. let w = first-there s 0x0A (omega arith) (zeroth ∙ e) in fin (0x0A ∷ []) (w .0) x0A (w .1))
-      λ _. by-eq Clean (getD r k 0) 0x0D
-      (λ e. by-eq Clean (getD r (k + 1) 0) 0x0A
-      (λ l h.
-      let w = two-there s 0x0D 0x0A (omega arith) (omega arith) (zeroth ∙ e) (getD-drop k r 1 0 ∙ l) in
-      fin (0x0D ∷ (0x0A ∷ [])) (w .0) x0D-0A (w .1))
-      (λ l h. absurd (omega arith)))
-      (λ e h. absurd (omega arith))
-    where
-      k : ℕ
-      k = run wschar r
-
-      s : List ℕ
-      s = drop k r
-
-      Clean : Piece → Type 0
-      Clean p = p .err ≡ 0 → Ended r
-
-      zeroth : getD s 0 0 ≡ getD r k 0
-      zeroth = getD-drop k r 0 0 ∙ ap (λ (i : ℕ). getD r i 0) (add-zero k)
-
-      fin : (n rest : List ℕ) → Newline n → s ≡ n ++ rest → Ended r
-      fin n rest y p =
-          record {
-            w = take k r;
-            n = n;
-            rest = rest;
-            split = sym (take-append-drop k r) ∙ ap (λ z. take k r ++ z) p;
-            ws = ws-taken r;
-            nl = y;
-          }
-
   pub content-inv : (at b : ℕ) (r : List ℕ) → P false at (b ∷ r) .err ≡ 0 → Content b r
   unfolding mlBasicPiece mlbContent
   content-inv at b r =
-      cond-case Clean (mlbPlain b) (λ h e. is-plain h)
-      λ _. by-eq Clean b 0x5C
-      (λ p. cond-case Clean (skips (getD r 0 0)) (λ h e. is-ended p (ended at r e)) (λ h e. is-escape p (escape-inv ed at r e)))
-      λ _. by-eq Clean b 0x0D
-      (λ p. by-eq Clean (getD r 0 0) 0x0A
+      let Q : Piece → Type 0 = IfClean (Content b r) in
+      cond-case Q (mlbPlain b) (λ h e. is-plain h)
+      λ _. by-eq Q b 0x5C
+      (λ p. cond-case Q (skips (getD r 0 0)) (λ h e. is-ended p (ended at r e)) (λ h e. is-escape p (escape-inv ed at r e)))
+      λ _. by-eq Q b 0x0D
+      (λ p. by-eq Q (getD r 0 0) 0x0A
       (λ l e. let w = first-there r 0x0A (omega arith) l in is-crlf (w .0) p (w .1)) (λ l e. absurd (omega arith)))
       (λ p e. absurd (omega arith))
-    where
-      Clean : Piece → Type 0
-      Clean p = p .err ≡ 0 → Content b r
 
   -- within a line-ending escape
-  pub data Skipped (b : ℕ) (r : List ℕ) : Type 0 where
-    is-out : skips b ≡ false → Skipped b r
-    is-one : WscharNewline (b ∷ []) → Skipped b r
-    is-two : (s : List ℕ) → b ≡ 0x0D → r ≡ 0x0A ∷ s → Skipped b r
-
-  skip-is : (b : ℕ) → skips b ≡ true → (b ≡ 0x0D → ⊥) → WscharNewline (b ∷ [])
-  unfolding skips
-  skip-is b h n =
-      or-inv (wschar b) _ h (λ e. WscharNewline.wschar (wschar-is b e))
-      (λ t. or-inv (eqb b 0x0A) (eqb b 0x0D) t (λ e. subst (λ y. WscharNewline (y ∷ [])) (sym (eqb-true b 0x0A e)) (newline x0A))
-      (λ e. absurd (n (eqb-true b 0x0D e))))
-
   pub skip-inv : (at b : ℕ) (r : List ℕ) → P true at (b ∷ r) .err ≡ 0 → Skipped b r
   unfolding mlBasicPiece escapedMore
   skip-inv at b r =
-      cond-case Clean (skips b)
-      (λ h. by-eq Clean b 0x0D
-      (λ p. by-eq Clean (getD r 0 0) 0x0A
+      let Q : Piece → Type 0 = IfClean (Skipped b r) in
+      cond-case Q (skips b)
+      (λ h. by-eq Q b 0x0D
+      (λ p. by-eq Q (getD r 0 0) 0x0A
       (λ l e. let w = first-there r 0x0A (omega arith) l in is-two (w .0) p (w .1)) (λ l e. absurd (omega arith)))
       (λ p e. is-one (skip-is b h p)))
       (λ h e. is-out h)
-    where
-      Clean : Piece → Type 0
-      Clean p = p .err ≡ 0 → Skipped b r

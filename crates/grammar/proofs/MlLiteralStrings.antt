@@ -1,6 +1,6 @@
 -- Multi-line literal strings: the decoder's pieces, the lexer's extent and the grammar.
 -- Assumes nothing.
-use Prim.Native.Nat.{ℕ, zero, suc, _+_, _≤_, _<_}
+use Prim.Native.Nat.{ℕ, _+_, _≤_, _<_}
 use mathlib.Core.Path.{_≡_, refl, sym, _∙_, ap, subst}
 use mathlib.Core.Logic.{_⊎_, inl, inr}
 use mathlib.Core.Bool.{true, false}
@@ -15,29 +15,32 @@ use Rattle.classes.proofs.Conds.{cond-case, by-eq, or-left, or-inv}
 use Rattle.text.specs.Utf8.{Scalar, encodeScalar, encodes, All}
 use Rattle.text.proofs.EncodeLaws.{encode-1}
 use Rattle.text.proofs.ReadLaws.{encodes-append}
-use Rattle.strings.specs.declared.Piece.{Piece}
 use Rattle.strings.specs.declared.Encoding.the-variants.{MlLiteralString as MlLiteralText}
 use Rattle.strings.specs.Encodings.{mllPlain}
-use Rattle.strings.specs.Pieces.{notesAt, Pieces, collect, copyPiece}
+use Rattle.strings.specs.Pieces.{Pieces, copyPiece}
 use Rattle.strings.specs.Bodies.{mlLiteralPiece, pieceOf}
 use Rattle.strings.specs.Decoding.{bytesOf, errorsOf}
-use Rattle.grammar.specs.Grammar.{Newline, x0A, x0D-0A, MllChar, MllContent, mll-char, newline, MllContents, MllContents1, some-content, MllQuotes, one, two, MllGroups, OptMllQuotes, absent, present, MlLiteralBody, ml-literal-body, MlLiteralString, ml-literal-string}
+use Rattle.grammar.specs.Grammar.{x0A, x0D-0A, MllChar, MllContent, mll-char, newline, MllContents, MllContents1, some-content, MllQuotes, one, two, MllGroups, OptMllQuotes, absent, present, MlLiteralBody, ml-literal-body, MlLiteralString, ml-literal-string}
+use Rattle.lexing.proofs.ByLength.{by-length}
 use Rattle.grammar.specs.Prose.{MlLiteralObeys}
 use Rattle.grammar.specs.Strings.{Apart}
 use Rattle.grammar.proofs.ListLaws.{first-there}
 use Rattle.grammar.proofs.Encoded.{side, ascii, beyond, ascii-whole, ascii-led}
-use Rattle.grammar.proofs.Reading.{Reads, reads-none, reads-then, reads-char, reads-plain, reads-copy, first-clean}
+use Rattle.grammar.proofs.Reading.{IfClean, CopiesRuns, ErrorFree, Reads, ReadsAs, ReadsChars, ReadsNewlines, reads-none, reads-then, reads-char, reads-plain, reads-copy, first-clean}
 use Rattle.grammar.proofs.ClassLaws.{literal-at, literal-is, literal-high, mll-literal, mll-same}
-use Rattle.grammar.proofs.Passing.{Seen, k0, literal-in, newline-in, Passed, Through, all-passed}
-use Rattle.grammar.proofs.TripleMarks.{newline-ascii, ml-bytes, ml-clean, ml-text, MlToken, ml-lexed}
-use Rattle.grammar.proofs.MlRuns.{Flat, end, mark0, mark1, content, FlatOf, flat-through, Bodies, flat-body, Goal, mark-clean, content-clean}
+use Rattle.grammar.proofs.Passing.{apostrophes, Seen, k0, literal-in, newline-in, Through, all-passed}
+use Rattle.grammar.proofs.TripleMarks.{newline-ascii, Fences, ml-bytes, ml-no-error, ml-text, MlToken, ml-lexed}
+use Rattle.grammar.proofs.MlRuns.{Flat, end, mark0, mark1, content, FlatOf, Passes, flat-through, Bodies, flat-body, IfErrorFree, UpTo, mark-clean, content-clean}
 
 abbrev P : Pieces
 P = pieceOf MlLiteralText
 
+fences : Fences true MlLiteralText 0x27
+fences = record { mark = apostrophes; ends = λ t. refl }
+
 -- ---- the pieces, on bytes
 
-plain : (at b : ℕ) (s : List ℕ) → mllPlain b ≡ true → P false at (b ∷ s) ≡ copyPiece (suc (run mllPlain s)) 0 at at
+plain : CopiesRuns P mllPlain
 unfolding mlLiteralPiece run
 plain at b s e = rw e
 
@@ -64,20 +67,20 @@ Good b r = (mllPlain b ≡ true) ⊎ ((b ≡ 0x0D) × (s : List ℕ) × (r ≡ 0
 clean : (at b : ℕ) (r : List ℕ) → P false at (b ∷ r) .err ≡ 0 → Good b r
 unfolding mlLiteralPiece
 clean at b r =
-    cond-case (λ (p : Piece). p .err ≡ 0 → Good b r) (mllPlain b) (λ h e. inl h)
-    λ h. by-eq (λ (p : Piece). p .err ≡ 0 → Good b r) b 0x0D
+    cond-case (IfClean (Good b r)) (mllPlain b) (λ h e. inl h)
+    λ h. by-eq (IfClean (Good b r)) b 0x0D
     (λ c. by-eq (λ (n : ℕ). n ≡ 0 → Good b r) (getD r 0 0) 0x0A
     (λ l e. let w = first-there r 0x0A (omega arith) l in inr (c, w .0, w .1)) (λ l e. absurd (omega arith)))
     (λ c e. absurd (omega arith))
 
-char-reads : (c at : ℕ) (s : List ℕ) → mllPlain c ≡ true → Reads P false at (encodeScalar c ++ s) (encodeScalar c) false s
+char-reads : ReadsChars P mllPlain
 char-reads = reads-char P mllPlain plain plain-high
 
 cr-piece : (at : ℕ) (s : List ℕ) → P false at (0x0D ∷ (0x0A ∷ s)) ≡ copyPiece 1 0 (at + 1) (at + 1)
 unfolding mlLiteralPiece mllPlain mllChar
 cr-piece at s = refl
 
-newline-reads : (n : List ℕ) → Newline n → (at : ℕ) (s : List ℕ) → Reads P false at (n ++ s) n false s
+newline-reads : ReadsNewlines P
 newline-reads n x0A at s = reads-plain P mllPlain plain at 0x0A s lf-plain
 newline-reads n x0D-0A at s =
     let a = reads-copy P false at (0x0D ∷ []) (0x0A ∷ s) (at + 1) (at + 1) (cr-piece at s) (omega arith) in
@@ -93,11 +96,10 @@ content-reads : {t w r : List ℕ} → Copied t w r → (at : ℕ) (s : List ℕ
 content-reads (copied (mll-char {c} x)) at s = rw (append-nil (encodeScalar c)) (char-reads c at s (char-plain x))
 content-reads (copied (newline {t} l)) at s = rw (ascii-whole t (newline-ascii l)) (newline-reads t l at s)
 
-content-passed : (k : Seen) (t w r : List ℕ) → Copied t w r → Passed 0x27 k t
-content-passed k t w r (copied (mll-char x)) = all-passed 0x27 refl (omega arith) k t (omega arith) (literal-in (mll-literal .0 x) .0, tt)
-content-passed k t w r (copied (newline x0A)) = all-passed 0x27 refl (omega arith) k t (omega arith) (newline-in 0x27 (omega arith) x0A)
-content-passed k t w r (copied (newline x0D-0A)) =
-    all-passed 0x27 refl (omega arith) k t (omega arith) (newline-in 0x27 (omega arith) x0D-0A)
+content-passed : Passes 0x27 Copied
+content-passed k t w r (copied (mll-char x)) = all-passed apostrophes k t (omega arith) (literal-in (mll-literal .0 x) .0, tt)
+content-passed k t w r (copied (newline x0A)) = all-passed apostrophes k t (omega arith) (newline-in apostrophes x0A)
+content-passed k t w r (copied (newline x0D-0A)) = all-passed apostrophes k t (omega arith) (newline-in apostrophes x0D-0A)
 
 -- ---- from the grammar to a run
 
@@ -137,9 +139,6 @@ data Cont : List ℕ → List ℕ → Type 0 where
   fin : Cont [] []
   run-on : {t g q v : List ℕ} → MllContents1 t → MllGroups g → OptMllQuotes q → Cont (t ++ (g ++ q)) v
 
-abbrev Body : List ℕ → List ℕ → Type 0
-Body t v = MlLiteralBody t
-
 quotes-body : {p t v : List ℕ} → MllQuotes p → Cont t v → MlLiteralBody (p ++ t)
 quotes-body {p} w fin = rw (append-nil p) (ml-literal-body MllContents.stop MllGroups.stop (OptMllQuotes.present w))
 quotes-body {p} w (run-on {t} {g} {q} c gs o) =
@@ -153,7 +152,7 @@ content-body : (t w r v : List ℕ) → Copied t w r → MlLiteralBody r → MlL
 content-body t w r v (copied c) (ml-literal-body {a} {g} {q} cs gs o) =
     rw (← append-assoc t a (g ++ q)) (ml-literal-body (MllContents.more c cs) gs o)
 
-bodies : Bodies 0x27 Copied Body Cont
+bodies : Bodies 0x27 Copied (λ t v. MlLiteralBody t) Cont
 bodies =
     record {
       no-body = ml-literal-body MllContents.stop MllGroups.stop OptMllQuotes.absent;
@@ -165,57 +164,57 @@ bodies =
     }
 
 run-body : {t : List ℕ} → FlatOf 0x27 Copied k0 t → MlLiteralBody t
-run-body (v, f) = flat-body 0x27 Copied Body Cont bodies f
+run-body (v, f) = flat-body 0x27 Copied (λ t v. MlLiteralBody t) Cont bodies f
 
 -- ---- from the decoder to a run
 
 module _ (rest : List ℕ) where
-  abbrev Ih : ℕ → Type 0
-  Ih = Goal P 0x27 Copied rest
-
-  module _ (n : ℕ) (ih : Ih n) (c : ℕ) (cs : List ℕ) (l : length cs ≤ n) (sc : All Scalar (c ∷ cs)) (k : Seen) (at : ℕ)
-      (e : collect P notesAt 0 false at (encodes (c ∷ cs)) ≡ []) (x : Through 0x27 rest k (c ∷ cs)) where
+  module _ (n : ℕ) (ih : UpTo P 0x27 Copied rest n) (c : ℕ) (cs : List ℕ) (l : length cs ≤ n) (sc : All Scalar (c ∷ cs))
+      (k : Seen) (at : ℕ) (e : ErrorFree P false at (encodes (c ∷ cs))) (x : Through 0x27 rest k (c ∷ cs)) where
     -- the content t stands in front
-    front : (t ds : List ℕ) → MllContent t → c ∷ cs ≡ t ++ ds → 0 < length t → FlatOf 0x27 Copied k (c ∷ cs)
-    front t ds d p h =
+    content-front : (t ds : List ℕ) → MllContent t → c ∷ cs ≡ t ++ ds → 0 < length t → FlatOf 0x27 Copied k (c ∷ cs)
+    content-front t ds d p h =
         content-clean P 0x27 Copied rest n ih (c ∷ cs) t t ds k at (copied d) (content-reads {r = ds} (copied d) at (encodes ds))
         (content-passed k t t ds (copied d)) p h (omega arith) sc e x
+
+    mark-front : c ≡ 0x27 → FlatOf 0x27 Copied k (c ∷ cs)
+    mark-front p =
+        let a = char-reads c at (encodes cs) (ap mllPlain p ∙ mark-plain) in
+        let x₂ = subst (λ y. Through 0x27 rest k (y ∷ cs)) p x in
+        subst (λ y. FlatOf 0x27 Copied k (y ∷ cs)) (sym p)
+        (mark-clean P 0x27 Copied rest apostrophes cs (ih cs l) (sc .1) k (a .to) (sym (a .quiet) ∙ e) x₂)
 
     plain-clean : mllPlain c ≡ true → FlatOf 0x27 Copied k (c ∷ cs)
     unfolding mllPlain
     plain-clean h =
         or-inv (mllChar c) _ h
-        (λ t. front (c ∷ []) cs (mll-char (mll-literal .1 (literal-is c (sc .0) (sym (mll-same c) ∙ t)))) refl (omega arith))
-        (λ t. or-inv (eqb c 39) (eqb c 10) t
-        (λ u.
-        let p = eqb-true c 39 u in
-        let a = char-reads c at (encodes cs) h in
-        subst (λ y. FlatOf 0x27 Copied k (y ∷ cs)) (sym p) (mark-clean P 0x27 Copied rest refl (omega arith) n ih cs l (sc .1) k (a .to)
-        (sym (a .quiet) ∙ e) (subst (λ y. Through 0x27 rest k (y ∷ cs)) p x)))
-        (λ u. front (0x0A ∷ []) cs (newline x0A) (ap (λ y. y ∷ cs) (eqb-true c 10 u)) (omega arith)))
+        (λ t.
+        let u = mll-literal .1 (literal-is c (sc .0) (sym (mll-same c) ∙ t)) in
+        content-front (c ∷ []) cs (mll-char u) refl (omega arith))
+        (λ t. or-inv (eqb c 0x27) (eqb c 0x0A) t (λ u. mark-front (eqb-true c 0x27 u))
+        (λ u. content-front (0x0A ∷ []) cs (newline x0A) (ap (λ y. y ∷ cs) (eqb-true c 0x0A u)) (omega arith)))
 
     ascii-clean : c < 0x80 → FlatOf 0x27 Copied k (c ∷ cs)
     ascii-clean h =
-        let z : collect P notesAt 0 false at (c ∷ encodes cs) ≡ [] = rw (encode-1 c h) at e in
+        let z : ErrorFree P false at (c ∷ encodes cs) = rw (encode-1 c h) at e in
         elim (clean at c (encodes cs) (first-clean P false at c (encodes cs) z)) [
           | inl u ↦ plain-clean u
           | inr p ↦
               let f = ascii-led (0x0A ∷ []) cs (p .1) (omega arith, tt) (p .2) in
-              front (0x0D ∷ (0x0A ∷ [])) (f .rest) (newline x0D-0A) (ap (λ y. y ∷ cs) (p .0) ∙ ap (0x0D ∷_) (f .text)) (omega arith)
+              let text : c ∷ cs ≡ 0x0D ∷ (0x0A ∷ f .rest) = ap (λ y. y ∷ cs) (p .0) ∙ ap (0x0D ∷_) (f .text) in
+              content-front (0x0D ∷ (0x0A ∷ [])) (f .rest) (newline x0D-0A) text (omega arith)
         ]
 
     some-clean : FlatOf 0x27 Copied k (c ∷ cs)
     some-clean = elim (side c) [ ascii h ↦ ascii-clean h | beyond h ↦ plain-clean (plain-high c h) ]
 
-  chars-clean : (n : ℕ) → Ih n
-  chars-clean zero [] l sc k at e x = ([], end)
-  chars-clean zero (c ∷ cs) l sc k at e x = absurd (omega arith)
-  chars-clean (suc n) [] l sc k at e x = ([], end)
-  chars-clean (suc n) (c ∷ cs) l sc k at e x = some-clean n (chars-clean n) c cs (omega arith) sc k at e x
+  chars-clean : (cs : List ℕ) → IfErrorFree P 0x27 Copied rest cs
+  chars-clean cs =
+      by-length (IfErrorFree P 0x27 Copied rest) (λ sc k at e x. ([], end)) some-clean (length cs) cs (omega arith)
 
 -- ---- the text
 
-run-reads : {k : Seen} {t v : List ℕ} → Run k t v → (at : ℕ) → Reads P false at (encodes t) (encodes v) false []
+run-reads : {k : Seen} {t v : List ℕ} → Run k t v → ReadsAs P t v
 run-reads end at = reads-none P false at []
 run-reads (mark0 {t} r) at = let a = char-reads 0x27 at (encodes t) mark-plain in reads-then P a (run-reads r (a .to))
 run-reads (mark1 {t} r) at = let a = char-reads 0x27 at (encodes t) mark-plain in reads-then P a (run-reads r (a .to))
@@ -227,25 +226,24 @@ run-reads (content {t = t} {r} {w} {v} c f) at =
 pub ml-literal-complete : {cs v : List ℕ} (d : MlLiteralString cs v)
     → (errorsOf MlLiteralText (encodes cs) ≡ []) × (MlLiteralObeys d → bytesOf MlLiteralText (encodes cs) ≡ encodes v)
 ml-literal-complete (ml-literal-string {n} {b} o d) =
-    let low : 0x27 < 0x80 = omega arith in (
-      ml-clean true MlLiteralText 0x27 low refl refl (λ t. refl) newline-reads o b (λ at. run-reads (body-run d) at .quiet),
-      λ h. ml-bytes true MlLiteralText 0x27 low refl refl (λ t. refl) o b h
-          ∙ (run-reads (body-run d) (3 + length n) .bytes ∙ append-nil (encodes b)),
+    let reads = run-reads (body-run d) in (
+      ml-no-error fences newline-reads o b (λ at. reads at .quiet),
+      λ h. ml-bytes fences o b h ∙ (reads (3 + length n) .bytes ∙ append-nil (encodes b)),
     )
 
 -- a token without error is derived
-pub ml-literal-sound : (cs rest : List ℕ) → All Scalar cs → MlToken 0x27 (encodes cs) rest → errorsOf MlLiteralText (encodes cs) ≡ []
-    → (v : List ℕ) × (d : MlLiteralString cs v) × MlLiteralObeys d
+abbrev Meant : List ℕ → Type 0
+Meant cs = (v : List ℕ) × (d : MlLiteralString cs v) × MlLiteralObeys d
+
+pub ml-literal-sound : (cs rest : List ℕ) → All Scalar cs → MlToken 0x27 (encodes cs) rest
+    → errorsOf MlLiteralText (encodes cs) ≡ [] → Meant cs
 ml-literal-sound cs rest sc l e =
-    let o = ml-text true MlLiteralText 0x27 (omega arith) refl refl (λ t. refl) cs sc e in
-    let x =
-    ml-lexed 0x27 (omega arith) (omega arith) refl (o .opt) (o .body) rest .0 (subst (λ y. MlToken 0x27 (encodes y) rest) (o .text) l) in
-    let f = chars-clean rest (length (o .body)) (o .body) (omega arith) (o .each) k0 (o .at) (o .clean) (omega arith) in
-    subst (λ y. (v : List ℕ) × (d : MlLiteralString y v) × MlLiteralObeys d) (sym (o .text))
-    (o .body, ml-literal-string (o .opt) (run-body f), o .trimmed)
+    let o = ml-text fences cs sc e in
+    let x = ml-lexed apostrophes (o .opt) (o .body) rest .0 (subst (λ y. MlToken 0x27 (encodes y) rest) (o .text) l) in
+    let f = chars-clean rest (o .body) (o .each) k0 (o .at) (o .clean) (omega arith) in
+    subst Meant (sym (o .text)) (o .body, ml-literal-string (o .opt) (run-body f), o .trimmed)
 
 -- a derived text is one token
 pub ml-literal-lexed : {cs v : List ℕ} → MlLiteralString cs v → (rest : List ℕ) → Apart 0x27 rest → MlToken 0x27 (encodes cs) rest
 ml-literal-lexed (ml-literal-string {n} {b} o d) rest h =
-    ml-lexed 0x27 (omega arith) (omega arith) refl o b rest .1
-    (let z = flat-through refl (omega arith) content-passed (body-run d) rest h in omega arith)
+    ml-lexed apostrophes o b rest .1 (let z = flat-through apostrophes content-passed (body-run d) rest h in omega arith)

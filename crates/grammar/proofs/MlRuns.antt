@@ -11,10 +11,9 @@ use Rattle.text.specs.Utf8.{Scalar, encodes, All}
 use Rattle.text.proofs.ReadLaws.{encodes-append}
 use Rattle.text.proofs.CutLaws.{all-parts}
 use Rattle.strings.specs.Pieces.{notesAt, Pieces, collect}
-use Rattle.lexer.specs.Bytes.{hides}
 use Rattle.grammar.specs.Strings.{Apart}
-use Rattle.grammar.proofs.Reading.{Reads}
-use Rattle.grammar.proofs.Passing.{Seen, k0, k1, k2, Passed, Through, through-one, through-two, through-three, through-end, through-after, through-rest}
+use Rattle.grammar.proofs.Reading.{ErrorFree, Reads}
+use Rattle.grammar.proofs.Passing.{Mark, Seen, k0, k1, k2, Passed, Through, through-one, through-two, through-three, through-end, through-after, through-rest}
 
 -- a content: its text, its value, and what follows it
 abbrev pub Contents : Type 1
@@ -36,13 +35,17 @@ put q C k t w r c (v, f) = (w ++ v, content {k = k} c f)
 
 -- ---- a run is one token's
 
-pub flat-through : {q : ℕ} {C : Contents} {k : Seen} {t v : List ℕ} → hides q false q ≡ false → q < 0x80
-    → ((k : Seen) (t w r : List ℕ) → C t w r → Passed q k t) → Flat q C k t v → (rest : List ℕ) → Apart q rest → Through q rest k t
-flat-through {q} hq low passes (end {k}) rest h = through-end q hq low rest h k
-flat-through {q} hq low passes (mark0 {t} r) rest h = through-one q hq low rest t .1 (flat-through hq low passes r rest h)
-flat-through {q} hq low passes (mark1 {t} r) rest h = through-two q hq low rest t .1 (flat-through hq low passes r rest h)
-flat-through {q} hq low passes (content {k} {t} {r} {w} c f) rest h =
-    through-after q rest k t r (passes k t w r c) (flat-through hq low passes f rest h)
+-- the lexer passes the contents
+abbrev pub Passes : ℕ → Contents → Type 0
+Passes q C = (k : Seen) (t w r : List ℕ) → C t w r → Passed q k t
+
+pub flat-through : {q : ℕ} {C : Contents} {k : Seen} {t v : List ℕ} → Mark q → Passes q C → Flat q C k t v
+    → (rest : List ℕ) → Apart q rest → Through q rest k t
+flat-through m passes (end {k}) rest h = through-end m rest h k
+flat-through m passes (mark0 {t} r) rest h = through-one m rest t .1 (flat-through m passes r rest h)
+flat-through m passes (mark1 {t} r) rest h = through-two m rest t .1 (flat-through m passes r rest h)
+flat-through {q} m passes (content {k} {t} {r} {w} c f) rest h =
+    through-after q rest k t r (passes k t w r c) (flat-through m passes f rest h)
 
 -- ---- from a run to the grammar's body: what may follow one mark, and what may follow two
 
@@ -90,25 +93,25 @@ module _ (q : ℕ) (C : Contents) (Body Cont : List ℕ → List ℕ → Type 0)
 -- ---- from the decoder to a run
 
 module _ (P : Pieces) (q : ℕ) (C : Contents) (rest : List ℕ) where
-  -- a text of at most n code points that is read without error, in one token, is a run
-  abbrev pub Goal : ℕ → Type 0
-  Goal n =
-      (m : List ℕ) → length m ≤ n → All Scalar m → (k : Seen) (at : ℕ)
-      → collect P notesAt 0 false at (encodes m) ≡ [] → Through q rest k m → FlatOf q C k m
+  -- a text that is read without error, in one token, is a run
+  abbrev pub IfErrorFree : List ℕ → Type 0
+  IfErrorFree m =
+      All Scalar m → (k : Seen) (at : ℕ) → ErrorFree P false at (encodes m) → Through q rest k m → FlatOf q C k m
+
+  -- one of at most n code points
+  abbrev pub UpTo : ℕ → Type 0
+  UpTo n = (m : List ℕ) → length m ≤ n → IfErrorFree m
 
   -- a mark in front
-  pub mark-clean : hides q false q ≡ false → q < 0x80 → (n : ℕ) → Goal n → (cs : List ℕ) → length cs ≤ n → All Scalar cs
-      → (k : Seen) (at : ℕ)
-      → collect P notesAt 0 false at (encodes cs) ≡ [] → Through q rest k (q ∷ cs) → FlatOf q C k (q ∷ cs)
-  mark-clean hq low n ih cs l sc k0 at e x =
-      let f = ih cs l sc k1 at e (through-one q hq low rest cs .0 x) in (q ∷ f .0, mark0 (f .1))
-  mark-clean hq low n ih cs l sc k1 at e x =
-      let f = ih cs l sc k2 at e (through-two q hq low rest cs .0 x) in (q ∷ f .0, mark1 (f .1))
-  mark-clean hq low n ih cs l sc k2 at e x = absurd (through-three q hq low rest cs x)
+  pub mark-clean : Mark q → (cs : List ℕ) → IfErrorFree cs → All Scalar cs → (k : Seen) (at : ℕ)
+      → ErrorFree P false at (encodes cs) → Through q rest k (q ∷ cs) → FlatOf q C k (q ∷ cs)
+  mark-clean m cs is sc k0 at e x = let f = is sc k1 at e (through-one m rest cs .0 x) in (q ∷ f .0, mark0 (f .1))
+  mark-clean m cs is sc k1 at e x = let f = is sc k2 at e (through-two m rest cs .0 x) in (q ∷ f .0, mark1 (f .1))
+  mark-clean m cs is sc k2 at e x = absurd (through-three m rest cs x)
 
   -- a part in front that is read, and what it leaves
-  pub left-clean : (m t ds o : List ℕ) (d : Bool) (at : ℕ) (a : Reads P false at (encodes t ++ encodes ds) o d (encodes ds)) → m ≡ t ++ ds
-      → collect P notesAt 0 false at (encodes m) ≡ [] → collect P notesAt 0 d (a .to) (encodes ds) ≡ []
+  pub left-clean : (m t ds o : List ℕ) (d : Bool) (at : ℕ) (a : Reads P false at (encodes t ++ encodes ds) o d (encodes ds))
+      → m ≡ t ++ ds → ErrorFree P false at (encodes m) → ErrorFree P d (a .to) (encodes ds)
   left-clean m t ds o d at a p e =
       sym (a .quiet) ∙ (ap (collect P notesAt 0 false at) (sym (encodes-append t ds) ∙ ap encodes (sym p)) ∙ e)
 
@@ -119,10 +122,11 @@ module _ (P : Pieces) (q : ℕ) (C : Contents) (rest : List ℕ) where
       (omega arith, all-parts Scalar t ds (subst (All Scalar) p sc) .1)
 
   -- a content in front
-  pub content-clean : (n : ℕ) → Goal n → (m t w ds : List ℕ) (k : Seen) (at : ℕ) → C t w ds
+  pub content-clean : (n : ℕ) → UpTo n → (m t w ds : List ℕ) (k : Seen) (at : ℕ) → C t w ds
       → Reads P false at (encodes t ++ encodes ds) (encodes w) false (encodes ds) → Passed q k t → m ≡ t ++ ds → 0 < length t
-      → length m ≤ suc n → All Scalar m → collect P notesAt 0 false at (encodes m) ≡ [] → Through q rest k m → FlatOf q C k m
+      → length m ≤ suc n → All Scalar m → ErrorFree P false at (encodes m) → Through q rest k m → FlatOf q C k m
   content-clean n ih m t w ds k at c a passed p h l sc e x =
       let s = left-small n m t ds p h l sc in
       let x₂ = through-rest q rest k t ds passed (subst (Through q rest k) p x) in
-      subst (FlatOf q C k) (sym p) (put q C k t w ds c (ih ds (s .0) (s .1) k0 (a .to) (left-clean m t ds (encodes w) false at a p e) x₂))
+      let e₂ = left-clean m t ds (encodes w) false at a p e in
+      subst (FlatOf q C k) (sym p) (put q C k t w ds c (ih ds (s .0) (s .1) k0 (a .to) e₂ x₂))

@@ -19,7 +19,7 @@ use Rattle.grammar.specs.Grammar.{x20, x09, Newline, x0A, x0D-0A, BasicU
 use Rattle.grammar.specs.Strings.{Apart}
 use Rattle.grammar.proofs.Encoded.{chars-bytes}
 use Rattle.grammar.proofs.ClassLaws.{non-ascii-high}
-use Rattle.grammar.proofs.Escapes.{Plain}
+use Rattle.grammar.proofs.Escapes.{Harmless}
 
 -- what passes the bytes of a class one by one passes a run of them
 pub pass-all : (f : List ℕ → ℕ) (Ok : ℕ → Type 0) → ((b : ℕ) → Ok b → (s : List ℕ) → f (b ∷ s) ≡ suc (f s))
@@ -41,6 +41,20 @@ pub triple-yes : (q : ℕ) (s : List ℕ) → triple q (q ∷ (q ∷ (q ∷ s)))
 unfolding triple
 triple-yes q s = rw (eq-eqb q q refl)
 
+-- ---- quote marks
+
+-- a visible ASCII byte that hides nothing
+pub record Mark (q : ℕ) : Type 0 where
+  pub low : q < 0x80
+  pub visible : 0x20 < q
+  pub hides-none : hides q false q ≡ false
+
+pub quotation : Mark 0x22
+quotation = record { low = omega arith; visible = omega arith; hides-none = refl }
+
+pub apostrophes : Mark 0x27
+apostrophes = record { low = omega arith; visible = omega arith; hides-none = refl }
+
 -- ---- bytes that neither close nor hide
 
 -- in a string of several lines with the mark q
@@ -56,29 +70,29 @@ never-hides true y e = e
 never-hides false y e = refl
 
 -- only a backslash hides
-pub inside : (q b : ℕ) → (b ≡ q → ⊥) → (b ≡ 92 → ⊥) → InMl q b
-inside q b h k = (h, never-hides (eqb q 34) (eqb b 92) (ne-eqb b 92 k))
+pub in-ml : (q b : ℕ) → (b ≡ q → ⊥) → (b ≡ 92 → ⊥) → InMl q b
+in-ml q b h k = (h, never-hides (eqb q 34) (eqb b 92) (ne-eqb b 92 k))
 
-pub in-high : (q : ℕ) → q < 0x80 → (b : ℕ) → 0x80 ≤ b → InMl q b
-in-high q low b h = inside q b (λ e. omega arith) (λ e. omega arith)
+pub in-high : {q : ℕ} → Mark q → (b : ℕ) → 0x80 ≤ b → InMl q b
+in-high {q} m b h = in-ml q b (λ e. omega arith) (λ e. omega arith)
 
-pub line-high : (q : ℕ) → q < 0x80 → (b : ℕ) → 0x80 ≤ b → InLine q b
-line-high q low b h = (in-high q low b h, λ e. omega arith)
+pub line-high : {q : ℕ} → Mark q → (b : ℕ) → 0x80 ≤ b → InLine q b
+line-high m b h = (in-high m b h, λ e. omega arith)
 
-pub newline-in : (q : ℕ) → 0x20 < q → {n : List ℕ} → Newline n → All (InMl q) n
-newline-in q up x0A = (inside q 0x0A (λ e. omega arith) (λ e. omega arith), tt)
-newline-in q up x0D-0A =
-    (inside q 0x0D (λ e. omega arith) (λ e. omega arith), (inside q 0x0A (λ e. omega arith) (λ e. omega arith), tt))
+pub newline-in : {q : ℕ} → Mark q → {n : List ℕ} → Newline n → All (InMl q) n
+newline-in {q} m x0A = (in-ml q 0x0A (λ e. omega arith) (λ e. omega arith), tt)
+newline-in {q} m x0D-0A =
+    (in-ml q 0x0D (λ e. omega arith) (λ e. omega arith), (in-ml q 0x0A (λ e. omega arith) (λ e. omega arith), tt))
 
 -- the grammar's classes; an apostrophe's string hides nothing
 pub literal-in : {c : ℕ} → LiteralChar c → InLine 39 c
 literal-in LiteralChar.x09 = (((λ e. omega arith), refl), λ e. omega arith)
 literal-in {c} (LiteralChar.x20-26 h k) = (((λ e. omega arith), refl), λ e. omega arith)
 literal-in {c} (LiteralChar.x28-7E h k) = (((λ e. omega arith), refl), λ e. omega arith)
-literal-in {c} (LiteralChar.non-ascii n) = line-high 39 (omega arith) c (non-ascii-high n)
+literal-in {c} (LiteralChar.non-ascii n) = line-high apostrophes c (non-ascii-high n)
 
 in-basic : (c : ℕ) → (c ≡ 34 → ⊥) → (c ≡ 92 → ⊥) → (c ≡ 10 → ⊥) → InLine 34 c
-in-basic c h k l = (inside 34 c h k, l)
+in-basic c h k l = (in-ml 34 c h k, l)
 
 pub basic-in : {c : ℕ} → BasicUnescaped c → InLine 34 c
 basic-in (BasicUnescaped.wschar x20) = in-basic 0x20 (λ e. omega arith) (λ e. omega arith) (λ e. omega arith)
@@ -86,10 +100,10 @@ basic-in (BasicUnescaped.wschar x09) = in-basic 0x09 (λ e. omega arith) (λ e. 
 basic-in BasicUnescaped.x21 = in-basic 0x21 (λ e. omega arith) (λ e. omega arith) (λ e. omega arith)
 basic-in {c} (BasicUnescaped.x23-5B h k) = in-basic c (λ e. omega arith) (λ e. omega arith) (λ e. omega arith)
 basic-in {c} (BasicUnescaped.x5D-7E h k) = in-basic c (λ e. omega arith) (λ e. omega arith) (λ e. omega arith)
-basic-in {c} (BasicUnescaped.non-ascii n) = line-high 34 (omega arith) c (non-ascii-high n)
+basic-in {c} (BasicUnescaped.non-ascii n) = line-high quotation c (non-ascii-high n)
 
 -- and the digits of an escape
-pub digit-in : (c : ℕ) → Plain c → InLine 34 c
+pub digit-in : (c : ℕ) → Harmless c → InLine 34 c
 digit-in c h = in-basic c (λ e. omega (arith, h .0)) (h .2) (λ e. omega (arith, h .0))
 
 -- ---- on one line
@@ -154,8 +168,9 @@ Passed q k t = (s : List ℕ) → mlTail q false (marks q k (encodes t ++ s)) �
 abbrev pub Through : ℕ → List ℕ → Seen → List ℕ → Type 0
 Through q rest k t = mlTail q false (marks q k (encodes t ++ (q ∷ (q ∷ (q ∷ rest))))) ≡ num k + (length (encodes t) + 3)
 
-module _ (q : ℕ) (hq : hides q false q ≡ false) where
-  ml-step : (b : ℕ) (s : List ℕ) → triple q (b ∷ s) ≡ false → hides q false b ≡ false → mlTail q false (b ∷ s) ≡ suc (mlTail q false s)
+module _ {q : ℕ} (m : Mark q) where
+  ml-step : (b : ℕ) (s : List ℕ) → triple q (b ∷ s) ≡ false → hides q false b ≡ false
+      → mlTail q false (b ∷ s) ≡ suc (mlTail q false s)
   unfolding mlTail
   ml-step b s t h = rw (t, h)
 
@@ -164,11 +179,13 @@ module _ (q : ℕ) (hq : hides q false q ≡ false) where
   ml-pass b h s = ml-step b s (rw (ne-eqb b q (h .0))) (h .1)
 
   -- marks that are not three are passed
-  pub marks-pass : (k : Seen) (b : ℕ) (s : List ℕ) → (b ≡ q → ⊥) → mlTail q false (marks q k (b ∷ s)) ≡ num k + mlTail q false (b ∷ s)
+  pub marks-pass : (k : Seen) (b : ℕ) (s : List ℕ) → (b ≡ q → ⊥)
+      → mlTail q false (marks q k (b ∷ s)) ≡ num k + mlTail q false (b ∷ s)
   marks-pass k0 b s h = omega arith
-  marks-pass k1 b s h = omega (arith, ml-step q (b ∷ s) (triple-no q b s h) hq)
+  marks-pass k1 b s h = omega (arith, ml-step q (b ∷ s) (triple-no q b s h) (m .hides-none))
   marks-pass k2 b s h =
-      omega (arith, ml-step q (q ∷ (b ∷ s)) (triple-two q (b ∷ s) h) hq, ml-step q (b ∷ s) (triple-no q b s h) hq)
+      let first = ml-step q (q ∷ (b ∷ s)) (triple-two q (b ∷ s) h) (m .hides-none) in
+      omega (arith, ml-step q (b ∷ s) (triple-no q b s h) (m .hides-none))
 
   ml-third : (s : List ℕ) → mlTail q false (q ∷ (q ∷ (q ∷ s))) ≡ 3 + upToTwo q s
   unfolding mlTail triple
@@ -178,20 +195,21 @@ module _ (q : ℕ) (hq : hides q false q ≡ false) where
       → mlTail q false (marks q k (x ++ s)) ≡ num k + (length x + mlTail q false s)
   bytes-pass k [] l h s = absurd (omega arith)
   bytes-pass k (b ∷ x) l h s =
-      omega (arith, marks-pass k b (x ++ s) (h .0 .0), ml-pass b (h .0) (x ++ s), pass-all (mlTail q false) (InMl q) ml-pass x (h .1) s)
+      let rest = pass-all (mlTail q false) (InMl q) ml-pass x (h .1) s in
+      omega (arith, marks-pass k b (x ++ s) (h .0 .0), ml-pass b (h .0) (x ++ s))
 
   -- one or more code points that neither close nor hide
-  pub all-passed : q < 0x80 → (k : Seen) (t : List ℕ) → 0 < length t → All (InMl q) t → Passed q k t
-  all-passed low k [] l h s = absurd (omega arith)
-  all-passed low k (c ∷ t) l h s =
+  pub all-passed : (k : Seen) (t : List ℕ) → 0 < length t → All (InMl q) t → Passed q k t
+  all-passed k [] l h s = absurd (omega arith)
+  all-passed k (c ∷ t) l h s =
       let p = parts c in
       let e : encodes (c ∷ t) ≡ p .first ∷ (p .tails ++ encodes t) = ap (λ (x : List ℕ). x ++ encodes t) (p .whole) in
-      bytes-pass k (encodes (c ∷ t)) (omega (arith, ap length e)) (chars-bytes (in-high q low) (c ∷ t) h) s
+      bytes-pass k (encodes (c ∷ t)) (omega (arith, ap length e)) (chars-bytes (in-high m) (c ∷ t) h) s
 
   -- ---- the mark itself, and the three at the end
-  module _ (low : q < 0x80) (rest : List ℕ) where
+  module _ (rest : List ℕ) where
     mark-bytes : (cs : List ℕ) → encodes (q ∷ cs) ≡ q ∷ encodes cs
-    mark-bytes cs = rw (encode-1 q low)
+    mark-bytes cs = rw (encode-1 q (m .low))
 
     pub through-one : (cs : List ℕ) → Through q rest k0 (q ∷ cs) ↔ Through q rest k1 cs
     through-one cs = ((λ h. let y = rw (mark-bytes cs) at h in omega arith), λ h. rw (mark-bytes cs) (omega arith))

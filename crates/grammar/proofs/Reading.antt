@@ -1,4 +1,5 @@
 -- What it is to read a part of a body without error, for any definition of pieces.
+-- The rest of the crate says by these names what the four kinds have in common.
 -- Assumes nothing.
 use Prim.Native.Nat.{ℕ, suc, _+_, _≤_, _<_}
 use mathlib.Core.Path.{_≡_, refl, sym, _∙_, ap}
@@ -8,14 +9,27 @@ use native.Mathlib.Omega.{arith}
 use lib.ListN.{length, length-append, take, drop}
 use lib.Seq.{take-at, drop-at}
 use Rattle.classes.specs.Runs.{run}
-use Rattle.text.specs.Utf8.{encodeScalar, All}
+use Rattle.text.specs.Utf8.{encodeScalar, encodes, All}
 use Rattle.strings.specs.declared.Piece.{Piece}
 use Rattle.strings.specs.Pieces.{gives, notes, notesAt, Pieces, collect, copyPiece, charPiece, dropPiece}
 use Rattle.strings.proofs.PieceLaws.{gives-copy, gives-char, gives-nothing, collect-step, notes-none}
 use Rattle.strings.proofs.Bounds.{notes-clean}
+use Rattle.grammar.specs.Grammar.{Newline}
 use Rattle.grammar.proofs.Encoded.{char-bytes}
 
+-- what a piece says if it has no error
+abbrev pub IfClean : Type 0 → Piece → Type 0
+IfClean X p = p .err ≡ 0 → X
+
+-- a byte of the class f and the run of that class behind it are one piece, which copies them
+abbrev pub CopiesRuns : Pieces → (ℕ → Bool) → Type 0
+CopiesRuns P f = (at b : ℕ) (s : List ℕ) → f b ≡ true → P false at (b ∷ s) ≡ copyPiece (suc (run f s)) 0 at at
+
 module _ (P : Pieces) where
+  -- s, from the place at on, has no error
+  abbrev pub ErrorFree : Bool → ℕ → List ℕ → Type 0
+  ErrorFree d at s = collect P notesAt 0 d at s ≡ []
+
   -- s gives o without error, and s′ is left; d and d′ say whether that is within a line-ending escape
   pub record Reads (d : Bool) (at : ℕ) (s o : List ℕ) (d′ : Bool) (s′ : List ℕ) : Type 0 where
     pub to : ℕ
@@ -69,32 +83,38 @@ module _ (P : Pieces) where
       let p = dropPiece (length t) 0 0 in
       reads-piece d at t s [] p e l refl refl (gives-nothing p (t ++ s) refl)
 
+  -- the code points cs give the value v, and nothing is left
+  abbrev pub ReadsAs : List ℕ → List ℕ → Type 0
+  ReadsAs cs v = (at : ℕ) → Reads false at (encodes cs) (encodes v) false []
+
+  -- a code point of the class f gives itself
+  abbrev pub ReadsChars : (ℕ → Bool) → Type 0
+  ReadsChars f = (c at : ℕ) (s : List ℕ) → f c ≡ true → Reads false at (encodeScalar c ++ s) (encodeScalar c) false s
+
+  -- and so does a newline
+  abbrev pub ReadsNewlines : Type 0
+  ReadsNewlines = (n : List ℕ) → Newline n → (at : ℕ) (s : List ℕ) → Reads false at (n ++ s) n false s
+
   -- the first piece of a body that is read without error has none
-  pub first-clean : (d : Bool) (at b : ℕ) (r : List ℕ) → collect P notesAt 0 d at (b ∷ r) ≡ [] → P d at (b ∷ r) .err ≡ 0
+  pub first-clean : (d : Bool) (at b : ℕ) (r : List ℕ) → ErrorFree d at (b ∷ r) → P d at (b ∷ r) .err ≡ 0
   first-clean d at b r e =
       notes-clean (P d at (b ∷ r)) (ap length (append-eq-nil-iff {p = notes (P d at (b ∷ r))} .0 e .0))
 
   -- a whole run of plain bytes is one piece, and yet they may be read one by one
-  module _ (f : ℕ → Bool) (plain : (at b : ℕ) (s : List ℕ) → f b ≡ true → P false at (b ∷ s) ≡ copyPiece (suc (run f s)) 0 at at) where
-    rest-gives : (at : ℕ) (s : List ℕ) → take (run f s) s ++ collect P gives (run f s) false at s ≡ collect P gives 0 false at s
-    unfolding gives run
-    rest-gives at [] = refl
-    rest-gives at (b ∷ s) = go (f b) refl
-      where
-        go : (x : Bool) → f b ≡ x
-            → take (cond x (suc (run f s)) 0) (b ∷ s) ++ collect P gives (cond x (suc (run f s)) 0) false at (b ∷ s)
-            ≡ collect P gives 0 false at (b ∷ s)
-        go true e = rw (plain at b s e)
-        go false e = refl
-
-    rest-notes : (at : ℕ) (s : List ℕ) → collect P notesAt (run f s) false at s ≡ collect P notesAt 0 false at s
-    unfolding notes run
-    rest-notes at [] = refl
-    rest-notes at (b ∷ s) = go (f b) refl
-      where
-        go : (x : Bool) → f b ≡ x → collect P notesAt (cond x (suc (run f s)) 0) false at (b ∷ s) ≡ collect P notesAt 0 false at (b ∷ s)
-        go true e = rw (plain at b s e)
-        go false e = refl
+  module _ (f : ℕ → Bool) (plain : CopiesRuns P f) where
+    -- g says h n of a copy of n bytes: what it says of the rest of a run, it says of the bytes of that rest one by one
+    module _ {A : Type 0} (g : Piece → List ℕ → List A) (h : ℕ → List ℕ → List A) (none : (s : List ℕ) → h 0 s ≡ [])
+        (copied : (n at : ℕ) (s : List ℕ) → g (copyPiece n 0 at at) s ≡ h n s) where
+      rest-says : (at : ℕ) (s : List ℕ) → h (run f s) s ++ collect P g (run f s) false at s ≡ collect P g 0 false at s
+      unfolding run
+      rest-says at [] = rw (none [])
+      rest-says at (b ∷ s) = go (f b) refl
+        where
+          go : (x : Bool) → f b ≡ x
+              → h (cond x (suc (run f s)) 0) (b ∷ s) ++ collect P g (cond x (suc (run f s)) 0) false at (b ∷ s)
+              ≡ collect P g 0 false at (b ∷ s)
+          go true e = rw (plain at b s e, copied (suc (run f s)) at (b ∷ s))
+          go false e = rw (none (b ∷ s))
 
     pub reads-plain : (at b : ℕ) (s : List ℕ) → f b ≡ true → Reads false at (b ∷ s) (b ∷ []) false s
     unfolding gives notes
@@ -102,15 +122,13 @@ module _ (P : Pieces) where
         record {
           to = suc at;
           place = omega arith;
-          quiet = rw (plain at b s e) (rest-notes (suc at) s);
-          bytes = rw (plain at b s e) (ap (b ∷_) (rest-gives (suc at) s));
+          quiet = rw (plain at b s e) (rest-says notesAt (λ n r. []) (λ r. refl) (λ n i r. refl) (suc at) s);
+          bytes = rw (plain at b s e) (ap (b ∷_) (rest-says gives take (λ r. refl) (λ n i r. refl) (suc at) s));
         }
 
     reads-bytes : (x : List ℕ) → All (λ b. f b ≡ true) x → (at : ℕ) (s : List ℕ) → Reads false at (x ++ s) x false s
     reads-bytes [] h at s = reads-none false at s
     reads-bytes (b ∷ x) h at s = let a = reads-plain at b (x ++ s) (h .0) in reads-then a (reads-bytes x (h .1) (a .to) s)
 
-    -- a code point of the class
-    pub reads-char : ((b : ℕ) → 0x80 ≤ b → f b ≡ true) → (c at : ℕ) (s : List ℕ) → f c ≡ true
-        → Reads false at (encodeScalar c ++ s) (encodeScalar c) false s
+    pub reads-char : ((b : ℕ) → 0x80 ≤ b → f b ≡ true) → ReadsChars f
     reads-char high c at s e = reads-bytes (encodeScalar c) (char-bytes high c e) at s

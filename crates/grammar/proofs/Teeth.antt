@@ -165,13 +165,13 @@ abbrev ml-literal-text : List ℕ
 ml-literal-text = 39 ∷ 39 ∷ 39 ∷ 10 ∷ 97 ∷ 13 ∷ 10 ∷ 39 ∷ 39 ∷ 98 ∷ 39 ∷ 39 ∷ 39 ∷ []
 
 pub ml-literal-means : Means Toml10 ml-literal ml-literal-text (97 ∷ 13 ∷ 10 ∷ 39 ∷ 39 ∷ 98 ∷ [])
-ml-literal-means = (
-  ml-literal-string (OptNewline.present Newline.x0A) (ml-literal-body
-      (MllContents.more (mll 97 (omega arith) (omega arith)) (MllContents.more (MllContent.newline Newline.x0D-0A) MllContents.stop))
-      (MllGroups.more MllQuotes.two (MllContents1.some-content (mll 98 (omega arith) (omega arith)) MllContents.stop) MllGroups.stop)
-      OptMllQuotes.absent),
-  tt,
-)
+ml-literal-means =
+    let line : MllContents (13 ∷ 10 ∷ []) = MllContents.more (MllContent.newline Newline.x0D-0A) MllContents.stop in
+    let b : MllContents1 (98 ∷ []) = MllContents1.some-content (mll 98 (omega arith) (omega arith)) MllContents.stop in (
+      ml-literal-string (OptNewline.present Newline.x0A) (ml-literal-body
+          (MllContents.more (mll 97 (omega arith) (omega arith)) line) (MllGroups.more MllQuotes.two b MllGroups.stop) OptMllQuotes.absent),
+      tt,
+    )
 
 pub ml-literal-decodes : Decodes Toml10 ml-literal (encodes ml-literal-text) (97 ∷ 13 ∷ 10 ∷ 39 ∷ 39 ∷ 98 ∷ [])
 unfolding encodeScalar errorsOf bytesOf notes mlEnds mlStart mlClosed mlEnd newlineLen threes gives mlLiteralPiece run mllPlain mllChar
@@ -193,7 +193,8 @@ line-end =
 pub ml-basic-means : Means Toml10 ml-basic ml-basic-text (97 ∷ 34 ∷ 98 ∷ 13 ∷ 10 ∷ [])
 unfolding startsNewline startsBlank mlb line-end
 ml-basic-means =
-    let line : MlbContents Toml10 (13 ∷ 10 ∷ []) (13 ∷ 10 ∷ []) = MlbContents.more (MlbContent.newline Newline.x0D-0A) MlbContents.stop in (
+    let crlf : List ℕ = 13 ∷ 10 ∷ [] in
+    let line : MlbContents Toml10 crlf crlf = MlbContents.more (MlbContent.newline Newline.x0D-0A) MlbContents.stop in (
       ml-basic-string OptNewline.absent (ml-basic-body
           (MlbContents.more (mlb 97 (omega arith) (omega arith)) (MlbContents.more line-end MlbContents.stop))
           (MlbGroups.more MlbQuotes.one (MlbContents1.some-content (mlb 98 (omega arith) (omega arith)) line) MlbGroups.stop)

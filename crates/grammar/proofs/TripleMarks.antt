@@ -23,16 +23,15 @@ use Rattle.strings.specs.Decoding.{bytesOf, errorsOf}
 use Rattle.classes.proofs.Conds.{both-left, both-right}
 use Rattle.strings.proofs.MarkLaws.{ml-is, start-open, closed-is, end-closed}
 use Rattle.strings.proofs.DecodeLaws.{bytes-is, errors-is}
-use Rattle.lexer.specs.Bytes.{hides}
 use Rattle.lexer.specs.Extents.{mlTail}
 use Rattle.grammar.specs.Grammar.{Newline, x0A, x0D-0A, OptNewline, absent, present}
 use Rattle.grammar.specs.Prose.{startsNewline, Trimmed}
 use Rattle.strings.proofs.AnswerLaws.{nil}
 use Rattle.grammar.proofs.Encoded.{side, ascii, beyond, first-is, AllAscii, encodes-ascii, between}
-use Rattle.grammar.proofs.Reading.{Reads, reads-none}
+use Rattle.grammar.proofs.Reading.{ErrorFree, Reads, ReadsNewlines, reads-none}
 use Rattle.grammar.proofs.LineMarks.{both-marks}
 use Rattle.grammar.proofs.ClassLaws.{no-true}
-use Rattle.grammar.proofs.Passing.{InMl, newline-in, pass-all, ml-pass}
+use Rattle.grammar.proofs.Passing.{Mark, InMl, newline-in, pass-all, ml-pass}
 
 -- ---- three marks at the front
 
@@ -79,7 +78,13 @@ newline-split (b ∷ s) = go (eqb b 10) (eqb b 13) refl refl s
       where
         two : (z : Bool) → eqb c 10 ≡ z → Split (b ∷ (c ∷ s))
         two true r =
-            record { n = 13 ∷ (10 ∷ []); rest = s; opt = present x0D-0A; text = rw (eqb-true b 13 q, eqb-true c 10 r); long = rw (p, q, r) }
+            record {
+              n = 13 ∷ (10 ∷ []);
+              rest = s;
+              opt = present x0D-0A;
+              text = rw (eqb-true b 13 q, eqb-true c 10 r);
+              long = rw (p, q, r);
+            }
         two false r = record { n = []; rest = b ∷ (c ∷ s); opt = absent; text = refl; long = rw (p, q, r) }
 
 pub newline-ascii : {n : List ℕ} → Newline n → AllAscii n
@@ -113,14 +118,14 @@ starts-len (b ∷ (c ∷ s)) = go (eqb b 10) (eqb b 13 && eqb c 10)
     go false false = ((λ e. refl), λ e. refl)
 
 -- the count on bytes that a mark follows is the count on code points
-module _ (q : ℕ) (q10 : eqb q 10 ≡ false) (q13 : eqb q 13 ≡ false) where
+module _ {q : ℕ} (m : Mark q) where
   head-is : (cs r : List ℕ) → eqb (getD (encodes cs ++ (q ∷ r)) 0 0) 10 ≡ eqb (getD cs 0 0) 10
-  head-is [] r = q10
+  head-is [] r = ne-eqb q 10 (λ e. omega arith)
   head-is (c ∷ cs) r = rw (parts c .whole) (first-is c 10 (omega arith))
 
   pub count-same : (cs r : List ℕ) → newlineLen (encodes cs ++ (q ∷ r)) ≡ newlineLen cs
   unfolding newlineLen
-  count-same [] r = rw (q10, q13)
+  count-same [] r = rw (ne-eqb q 10 (λ e. omega arith), ne-eqb q 13 (λ e. omega arith))
   count-same (c ∷ cs) r = elim (side c) [
     | ascii l ↦ rw (encode-1 c l, head-is cs r)
     | beyond l ↦
@@ -143,26 +148,29 @@ fenced q n m = delim q ++ (n ++ (m ++ delim q))
 fenced-long : (q : ℕ) (n m : List ℕ) → length (fenced q n m) ≡ (3 + length n) + length m + 3
 fenced-long q n m = rw (length-append n (m ++ delim q), length-append m (delim q)) (omega arith)
 
-pub encodes-fenced : (q : ℕ) → q < 0x80 → {n : List ℕ} → OptNewline n → (s : List ℕ) → encodes (fenced q n s) ≡ fenced q n (encodes s)
-encodes-fenced q h {n} o s =
+pub encodes-fenced : {q : ℕ} → Mark q → {n : List ℕ} → OptNewline n → (s : List ℕ)
+    → encodes (fenced q n s) ≡ fenced q n (encodes s)
+encodes-fenced {q} m {n} o s =
+    let h : q < 0x80 = m .low in
     encodes-ascii (delim q ++ n) (s ++ delim q) (h, (h, (h, option-ascii o)))
     ∙ ap (λ x. delim q ++ (n ++ x)) (encodes-append s (delim q) ∙ rw (encode-1 q h))
 
 -- its ends, where the body starts at a
-abbrev ends-at : ℕ → List ℕ → Ends
-ends-at a t = record { opened = true; closed = true; start = a; end = length t - 3 }
+abbrev fenced-ends-at : ℕ → List ℕ → Ends
+fenced-ends-at a t = record { opened = true; closed = true; start = a; end = length t - 3 }
 
 module _ (trims : Bool) (q : ℕ) where
   ml-at : (n m : List ℕ) → newlineLen (n ++ (m ++ delim q)) ≡ length n
-      → ends-at (3 + length n) (fenced q n m) ≡ mlEnds trims q (fenced q n m)
+      → fenced-ends-at (3 + length n) (fenced q n m) ≡ mlEnds trims q (fenced q n m)
   ml-at n m h =
       let t = fenced q n m in
       let l = fenced-long q n m in
       let split : t ≡ (delim q ++ (n ++ m)) ++ delim q = ap (λ x. delim q ++ x) (sym (append-assoc n m (delim q))) in
-      let last : drop (length t - 3) t ≡ delim q =
-      ap (λ x. drop (length t - 3) x) split ∙ drop-at (delim q ++ (n ++ m)) (delim q) (length t - 3) (omega (arith, length-append n m)) in
-      let shut : threes q (drop (length t - 3) t) ≡ true = ap (threes q) last ∙ threes-at q [] in
-      ml-is trims q t true true (3 + length n) (length t - 3) (sym (threes-at q (n ++ (m ++ delim q))))
+      let end = length t - 3 in
+      let last : drop end t ≡ delim q =
+      ap (drop end) split ∙ drop-at (delim q ++ (n ++ m)) (delim q) end (omega (arith, length-append n m)) in
+      let shut : threes q (drop end t) ≡ true = ap (threes q) last ∙ threes-at q [] in
+      ml-is trims q t true true (3 + length n) end (sym (threes-at q (n ++ (m ++ delim q))))
       (ap (λ (i : ℕ). 3 + i) (sym h) ∙ start-open t)
       (sym shut ∙ closed-is q (3 + length n) t (omega arith)) (end-closed q (3 + length n) t trims)
 
@@ -194,57 +202,65 @@ module _ (trims : Bool) (q : ℕ) where
           let d₂ : drop k (w .rest) ≡ q ∷ (q ∷ (q ∷ r)) = sym d₁ ∙ d in
           let r₁ : r ≡ [] = nil r (omega (arith, length-drop k (w .rest), ap length d₂)) in
           let m = take k (w .rest) in
-          let p : w .rest ≡ m ++ delim q = sym (take-append-drop k (w .rest)) ∙ ap (λ x. m ++ x) (d₂ ∙ ap (λ x. q ∷ (q ∷ (q ∷ x))) r₁) in
+          let d₃ : drop k (w .rest) ≡ delim q = d₂ ∙ ap (λ x. delim q ++ x) r₁ in
+          let p : w .rest ≡ m ++ delim q = sym (take-append-drop k (w .rest)) ∙ ap (λ x. m ++ x) d₃ in
           let u : s ≡ w .n ++ (m ++ delim q) = w .text ∙ ap (λ x. w .n ++ x) p in
-          record { n = w .n; m = m; opt = w .opt; text = e ∙ ap (λ x. q ∷ (q ∷ (q ∷ x))) u; long = ap newlineLen (sym u) ∙ w .long }
+          record { n = w .n; m = m; opt = w .opt; text = e ∙ ap (λ x. delim q ++ x) u; long = ap newlineLen (sym u) ∙ w .long }
 
-      go : (s : List ℕ) → t ≡ q ∷ (q ∷ (q ∷ s))
-          → (leb ((3 + newlineLen (drop 3 t)) + 3) (length t) && threes q (drop (length t - 3) t)) ≡ true → Fenced t
+      -- both triples have room
+      roomy : Bool
+      roomy = leb ((3 + newlineLen (drop 3 t)) + 3) (length t)
+
+      go : (s : List ℕ) → t ≡ q ∷ (q ∷ (q ∷ s)) → (roomy && threes q (drop (length t - 3) t)) ≡ true → Fenced t
       go s e c =
           let w = newline-split s in
           let x : newlineLen (drop 3 t) ≡ length (w .n) = ap (λ y. newlineLen (drop 3 y)) e ∙ w .long in
-          let l =
-          leb-true ((3 + newlineLen (drop 3 t)) + 3) (length t) (both-left (leb ((3 + newlineLen (drop 3 t)) + 3) (length t)) _ c) in
-          fin s e w (omega arith) (threes-inv q (drop (length t - 3) t) (both-right (leb ((3 + newlineLen (drop 3 t)) + 3) (length t)) _ c))
+          let l = leb-true ((3 + newlineLen (drop 3 t)) + 3) (length t) (both-left roomy _ c) in
+          fin s e w (omega arith) (threes-inv q (drop (length t - 3) t) (both-right roomy _ c))
 
-  body-at : (n m : List ℕ) → bodyOf (ends-at (3 + length n) (fenced q n m)) (fenced q n m) ≡ m
-  body-at n m =
+  fenced-body : (n m : List ℕ) → bodyOf (fenced-ends-at (3 + length n) (fenced q n m)) (fenced q n m) ≡ m
+  fenced-body n m =
       let l = fenced-long q n m in
       let k = length (fenced q n m) - 3 - (3 + length n) in
       ap (take k) (drop-at (delim q ++ n) (m ++ delim q) (3 + length n) (omega arith)) ∙ take-at m (delim q) k (omega arith)
 
 -- ---- from the decoder of a body to the decoder of a text
 
-module _ (trims : Bool) (e : Encoding) (q : ℕ) (low : q < 0x80) (q10 : eqb q 10 ≡ false) (q13 : eqb q 13 ≡ false)
-    (ends : (t : List ℕ) → endsOf e t ≡ mlEnds trims q t) where
+-- texts of the kind e stand between triple marks q; trims: where the closing is missing, marks at the end are no body
+pub record Fences (trims : Bool) (e : Encoding) (q : ℕ) : Type 0 where
+  pub mark : Mark q
+  pub ends : (t : List ℕ) → endsOf e t ≡ mlEnds trims q t
+
+module _ {trims : Bool} {e : Encoding} {q : ℕ} (fences : Fences trims e q) where
   -- the newline in front of n and b is n
   abbrev Whole : List ℕ → List ℕ → Type 0
   Whole n b = newlineLen (n ++ b) ≡ length n
 
   whole-bytes : {n : List ℕ} → OptNewline n → (b : List ℕ) → newlineLen (n ++ (encodes b ++ delim q)) ≡ newlineLen (n ++ b)
   whole-bytes {n} o b =
-      ap newlineLen (sym (append-assoc n (encodes b) (delim q)) ∙ ap (λ x. x ++ delim q) (sym (encodes-ascii n b (option-ascii o))))
-      ∙ count-same q q10 q13 (n ++ b) (q ∷ (q ∷ []))
+      let text : n ++ (encodes b ++ delim q) ≡ encodes (n ++ b) ++ delim q =
+      sym (append-assoc n (encodes b) (delim q)) ∙ ap (λ x. x ++ delim q) (sym (encodes-ascii n b (option-ascii o))) in
+      ap newlineLen text ∙ count-same (fences .mark) (n ++ b) (q ∷ (q ∷ []))
 
   fenced-ends : {n : List ℕ} → OptNewline n → (b : List ℕ) → Whole n b
-      → ends-at (3 + length n) (fenced q n (encodes b)) ≡ endsOf e (fenced q n (encodes b))
-  fenced-ends {n} o b h = ml-at trims q n (encodes b) (whole-bytes o b ∙ h) ∙ sym (ends (fenced q n (encodes b)))
+      → fenced-ends-at (3 + length n) (fenced q n (encodes b)) ≡ endsOf e (fenced q n (encodes b))
+  fenced-ends {n} o b h = ml-at trims q n (encodes b) (whole-bytes o b ∙ h) ∙ sym (fences .ends (fenced q n (encodes b)))
 
   errors-of : {n : List ℕ} → OptNewline n → (b : List ℕ) → Whole n b
       → errorsOf e (encodes (fenced q n b)) ≡ collect (pieceOf e) notesAt 0 false (3 + length n) (encodes b)
   errors-of {n} o b h =
       let t = fenced q n (encodes b) in
-      ap (errorsOf e) (encodes-fenced q low o b)
-      ∙ (errors-is e t (ends-at (3 + length n) t) (fenced-ends o b h) (markError e) refl
-      ∙ ap (collect (pieceOf e) notesAt 0 false (3 + length n)) (body-at trims q n (encodes b)))
+      ap (errorsOf e) (encodes-fenced (fences .mark) o b)
+      ∙ (errors-is e t (fenced-ends-at (3 + length n) t) (fenced-ends o b h) (markError e) refl
+      ∙ ap (collect (pieceOf e) notesAt 0 false (3 + length n)) (fenced-body trims q n (encodes b)))
 
   bytes-of : {n : List ℕ} → OptNewline n → (b : List ℕ) → Whole n b
       → bytesOf e (encodes (fenced q n b)) ≡ collect (pieceOf e) gives 0 false (3 + length n) (encodes b)
   bytes-of {n} o b h =
       let t = fenced q n (encodes b) in
-      ap (bytesOf e) (encodes-fenced q low o b)
-      ∙ (bytes-is e t (ends-at (3 + length n) t) (fenced-ends o b h)
-      ∙ ap (collect (pieceOf e) gives 0 false (3 + length n)) (body-at trims q n (encodes b)))
+      ap (bytesOf e) (encodes-fenced (fences .mark) o b)
+      ∙ (bytes-is e t (fenced-ends-at (3 + length n) t) (fenced-ends o b h)
+      ∙ ap (collect (pieceOf e) gives 0 false (3 + length n)) (fenced-body trims q n (encodes b)))
 
   trimmed-whole : {n : List ℕ} (o : OptNewline n) (b : List ℕ) → Trimmed o b → Whole n b
   trimmed-whole absent b h = starts-len b .0 h
@@ -259,7 +275,7 @@ module _ (trims : Bool) (e : Encoding) (q : ℕ) (low : q < 0x80) (q10 : eqb q 1
       → bytesOf e (encodes (fenced q n b)) ≡ collect (pieceOf e) gives 0 false (3 + length n) (encodes b)
   ml-bytes o b h = bytes-of o b (trimmed-whole o b h)
 
-  module _ (reads : (n : List ℕ) → Newline n → (at : ℕ) (s : List ℕ) → Reads (pieceOf e) false at (n ++ s) n false s) where
+  module _ (reads : ReadsNewlines (pieceOf e)) where
     option-reads : {n : List ℕ} → OptNewline n → (at : ℕ) (s : List ℕ) → Reads (pieceOf e) false at (n ++ s) n false s
     option-reads absent at s = reads-none (pieceOf e) false at s
     option-reads {n} (present l) at s = reads n l at s
@@ -281,10 +297,10 @@ module _ (trims : Bool) (e : Encoding) (q : ℕ) (low : q < 0x80) (q10 : eqb q 1
         ∙ (sym (a .quiet) ∙ ap (collect (pieceOf e) notesAt 0 false 3) (sym bytes))))
 
     -- a text whose body is read without error has none
-    pub ml-clean : {n : List ℕ} → OptNewline n → (b : List ℕ) → ((at : ℕ) → collect (pieceOf e) notesAt 0 false at (encodes b) ≡ [])
+    pub ml-no-error : {n : List ℕ} → OptNewline n → (b : List ℕ) → ((at : ℕ) → ErrorFree (pieceOf e) false at (encodes b))
         → errorsOf e (encodes (fenced q n b)) ≡ []
-    ml-clean {n} (present l) b h = errors-of (present l) b (newline-long l b) ∙ h (3 + length n)
-    ml-clean absent b h = kept-errors b ∙ h 3
+    ml-no-error {n} (present l) b h = errors-of (present l) b (newline-long l b) ∙ h (3 + length n)
+    ml-no-error absent b h = kept-errors b ∙ h 3
 
   -- a text without error has a body without error
   pub record MlText (cs : List ℕ) : Type 0 where
@@ -295,14 +311,15 @@ module _ (trims : Bool) (e : Encoding) (q : ℕ) (low : q < 0x80) (q10 : eqb q 1
     pub text : cs ≡ fenced q n body
     pub each : All Scalar body
     pub at : ℕ
-    pub clean : collect (pieceOf e) notesAt 0 false at (encodes body) ≡ []
+    pub clean : ErrorFree (pieceOf e) false at (encodes body)
 
   pub ml-text : (cs : List ℕ) → All Scalar cs → errorsOf e (encodes cs) ≡ [] → MlText cs
   ml-text cs sc h =
       let b = both-marks e (encodes cs) h in
-      let p = ml-inv trims q (encodes cs) (rw (ends (encodes cs)) at (b .0)) (rw (ends (encodes cs)) at (b .1)) in
-      let w =
-      between (delim q ++ p .n) (delim q) cs (p .m) (low, (low, (low, option-ascii (p .opt)))) (low, (low, (low, tt))) sc (p .text) in
+      let p = ml-inv trims q (encodes cs) (rw (fences .ends (encodes cs)) at (b .0)) (rw (fences .ends (encodes cs)) at (b .1)) in
+      let low : q < 0x80 = fences .mark .low in
+      let before : AllAscii (delim q ++ p .n) = (low, (low, (low, option-ascii (p .opt)))) in
+      let w = between (delim q ++ p .n) (delim q) cs (p .m) before (low, (low, (low, tt))) sc (p .text) in
       let l : Whole (p .n) (w .inner) =
       sym (whole-bytes (p .opt) (w .inner)) ∙ (ap (λ x. newlineLen (p .n ++ (x ++ delim q))) (w .bytes) ∙ p .long) in
       record {
@@ -322,23 +339,28 @@ module _ (trims : Bool) (e : Encoding) (q : ℕ) (low : q < 0x80) (q10 : eqb q 1
 abbrev pub MlToken : ℕ → List ℕ → List ℕ → Type 0
 MlToken q t rest = suc (suc (suc (mlTail q false (drop 3 (t ++ rest))))) ≡ length t
 
-module _ (q : ℕ) (low : q < 0x80) (up : 0x20 < q) (hq : hides q false q ≡ false) where
+module _ {q : ℕ} (m : Mark q) where
   option-in : {n : List ℕ} → OptNewline n → All (InMl q) n
   option-in absent = tt
-  option-in (present l) = newline-in q up l
+  option-in (present l) = newline-in m l
 
   module _ {n : List ℕ} (o : OptNewline n) (b rest : List ℕ) where
-    tail-of : mlTail q false (drop 3 (encodes (fenced q n b) ++ rest)) ≡ length n + mlTail q false (encodes b ++ (delim q ++ rest))
+    -- the body, the closing and the rest
+    abbrev behind : List ℕ
+    behind = encodes b ++ (delim q ++ rest)
+
+    tail-of : mlTail q false (drop 3 (encodes (fenced q n b) ++ rest)) ≡ length n + mlTail q false behind
     tail-of =
-        ap (λ x. mlTail q false (drop 3 (x ++ rest))) (encodes-fenced q low o b)
-        ∙ (ap (mlTail q false) (append-assoc n (encodes b ++ delim q) rest ∙ ap (λ x. n ++ x) (append-assoc (encodes b) (delim q) rest))
-        ∙ pass-all (mlTail q false) (InMl q) (ml-pass q hq) n (option-in o) (encodes b ++ (delim q ++ rest)))
+        let text : (n ++ (encodes b ++ delim q)) ++ rest ≡ n ++ behind =
+        append-assoc n (encodes b ++ delim q) rest ∙ ap (λ x. n ++ x) (append-assoc (encodes b) (delim q) rest) in
+        ap (λ x. mlTail q false (drop 3 (x ++ rest))) (encodes-fenced m o b)
+        ∙ (ap (mlTail q false) text ∙ pass-all (mlTail q false) (InMl q) (ml-pass m) n (option-in o) behind)
 
     long-of : length (encodes (fenced q n b)) ≡ 3 + (length n + (length (encodes b) + 3))
     long-of =
-        ap length (encodes-fenced q low o b)
+        ap length (encodes-fenced m o b)
         ∙ rw (length-append n (encodes b ++ delim q), length-append (encodes b) (delim q)) (omega arith)
 
     -- the token ends with the text exactly where the lexer goes through the body and the closing
-    pub ml-lexed : MlToken q (encodes (fenced q n b)) rest ↔ (mlTail q false (encodes b ++ (delim q ++ rest)) ≡ length (encodes b) + 3)
+    pub ml-lexed : MlToken q (encodes (fenced q n b)) rest ↔ (mlTail q false behind ≡ length (encodes b) + 3)
     ml-lexed = ((λ h. omega (arith, tail-of, long-of)), λ h. omega (arith, tail-of, long-of))

@@ -126,12 +126,12 @@ pub record Demand3 (ed : Edition) : Type 0 where
       → List·Memᴰ r (tokensOf doc)
   -- a derived text at any cursor's place, its own quote mark not behind it, is the token that a step gives there, on the
   -- cursor's line, which does not pass its place plus 1; the next cursor's line is counted on by the LFs of the text
-  pub step-back : (doc : List ℕ) → length doc ≤ limit → (c : Cursor) → c .line ≤ c .place + 1 → (s : StringKind) (cs v rest : List ℕ) → Derived ed s cs v
-      → drop (c .place) doc ≡ encodes cs ++ rest → Apart (mark s) rest
+  pub step-back : (doc : List ℕ) → length doc ≤ limit → (c : Cursor) → c .line ≤ c .place + 1
+      → (s : StringKind) (cs v rest : List ℕ) → Derived ed s cs v → drop (c .place) doc ≡ encodes cs ++ rest → Apart (mark s) rest
       → stepOf doc c
       ≡ Given (tokenOf (tokenKind s) (c .place) (c .place + length (encodes cs)) (c .line))
       (cursorOf (c .place + length (encodes cs)) (c .line + lineFeeds (encodes cs)) (c .ended))
   -- and where whole lexing has a token r that starts there, r is that token
-  pub token-back : (doc : List ℕ) (r : Token) → List·Memᴰ r (tokensOf doc) → (s : StringKind) (cs v rest : List ℕ) → Derived ed s cs v
-      → drop (r .span .start) doc ≡ encodes cs ++ rest → Apart (mark s) rest
+  pub token-back : (doc : List ℕ) (r : Token) → List·Memᴰ r (tokensOf doc)
+      → (s : StringKind) (cs v rest : List ℕ) → Derived ed s cs v → drop (r .span .start) doc ≡ encodes cs ++ rest → Apart (mark s) rest
       → r ≡ tokenOf (tokenKind s) (r .span .start) (r .span .start + length (encodes cs)) (lineOf doc (r .span .start))

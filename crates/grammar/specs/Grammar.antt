@@ -172,7 +172,8 @@ pub data MlbQuotes : List ℕ → Type 0 where
 -- *( mlb-quotes 1*mlb-content )
 pub data MlbGroups (ed : Edition) : List ℕ → List ℕ → Type 0 where
   stop : MlbGroups ed [] []
-  more : {q t r w v : List ℕ} → MlbQuotes q → MlbContents1 ed t w → MlbGroups ed r v → MlbGroups ed (q ++ (t ++ r)) (q ++ (w ++ v))
+  more : {q t r w v : List ℕ} → MlbQuotes q → MlbContents1 ed t w → MlbGroups ed r v
+      → MlbGroups ed (q ++ (t ++ r)) (q ++ (w ++ v))
 
 -- [ mlb-quotes ]
 pub data OptMlbQuotes : List ℕ → Type 0 where
@@ -181,7 +182,8 @@ pub data OptMlbQuotes : List ℕ → Type 0 where
 
 -- ml-basic-body = *mlb-content *( mlb-quotes 1*mlb-content ) [ mlb-quotes ]
 pub data MlBasicBody (ed : Edition) : List ℕ → List ℕ → Type 0 where
-  ml-basic-body : {a g q w v : List ℕ} → MlbContents ed a w → MlbGroups ed g v → OptMlbQuotes q → MlBasicBody ed (a ++ (g ++ q)) (w ++ (v ++ q))
+  ml-basic-body : {a g q w v : List ℕ} → MlbContents ed a w → MlbGroups ed g v → OptMlbQuotes q
+      → MlBasicBody ed (a ++ (g ++ q)) (w ++ (v ++ q))
 
 -- ml-basic-string = ml-basic-string-delim [ newline ] ml-basic-body
 --                   ml-basic-string-delim

@@ -1,3 +1,4 @@
+pub mod ByLength
 pub mod CutLaws
 pub mod LocalLaws
 pub mod Lexing
