@@ -23,7 +23,7 @@ use Rattle.lexer.specs.Lines.{lineFeeds, lineOf}
 use Rattle.lexer.specs.Tokens.{tokenAt}
 use Rattle.lexer.proofs.TokenLaws.{token-fits}
 use Rattle.lexing.specs.Lexing.{textOf}
-use Rattle.lexing.proofs.Lexing.{token-cut, lexed}
+use Rattle.lexing.proofs.Lexing.{token-cut, by-rule}
 use Rattle.strings.specs.declared.Edition.{Edition}
 use Rattle.grammar.specs.Strings.{StringKind, literal, basic, ml-literal, ml-basic, tokenKind, encoding, mark, Apart, Derived, Means}
 use Rattle.grammar.specs.Demand3.{TextDerived, TextMeans, Agrees, Demand3}
@@ -174,7 +174,7 @@ module _ (ed : Edition) where
   demand-3 =
       record {
         tokens = λ doc u l r m s e.
-            let x = lexed doc r m in
+            let x = by-rule doc r m in
             subst (λ (y : Token). Agrees ed s (textOf doc y)) (sym (listed-is doc r m))
             (place-agrees doc (r .span .start) (lineOf doc (r .span .start)) (x .whole u) l s (sym (x .kind) ∙ e));
         steps = λ doc c u r d e s h.

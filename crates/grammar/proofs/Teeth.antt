@@ -169,7 +169,9 @@ ml-literal-means =
     let line : MllContents (13 ∷ 10 ∷ []) = MllContents.more (MllContent.newline Newline.x0D-0A) MllContents.stop in
     let b : MllContents1 (98 ∷ []) = MllContents1.some-content (mll 98 (omega arith) (omega arith)) MllContents.stop in (
       ml-literal-string (OptNewline.present Newline.x0A) (ml-literal-body
-          (MllContents.more (mll 97 (omega arith) (omega arith)) line) (MllGroups.more MllQuotes.two b MllGroups.stop) OptMllQuotes.absent),
+          (MllContents.more (mll 97 (omega arith) (omega arith)) line)
+          (MllGroups.more MllQuotes.two b MllGroups.stop)
+          OptMllQuotes.absent),
       tt,
     )
 

@@ -28,7 +28,7 @@ use Rattle.lexer.specs.declared.Start.the-variants.{At}
 use Rattle.lexer.specs.declared.Step.{Step}
 use Rattle.lexer.specs.declared.Step.the-variants.{Token as Given, End}
 use Rattle.lexer.proofs.TokenLaws.{token-fits-at, tokens-step, tokens-end, start-fits}
-use Rattle.lexing.proofs.Lexing.{step-eof, step-end, token-cut, start-cut, lexed}
+use Rattle.lexing.proofs.Lexing.{step-eof, step-end, token-cut, start-cut, by-rule}
 use Rattle.grammar.specs.Demand3.{Reached, start, next}
 
 -- ---- a token of whole lexing is the token at its start
@@ -41,7 +41,7 @@ token-of-fields r k e l p q x =
 
 pub listed-is : (doc : List ℕ) (r : Token) → List·Memᴰ r (tokensOf doc)
     → r ≡ tokenAt (r .span .start) (lineOf doc (r .span .start)) (drop (r .span .start) doc)
-listed-is doc r m = let x = lexed doc r m in token-of-fields r _ _ _ (x .kind) (x .end) (x .line)
+listed-is doc r m = let x = by-rule doc r m in token-of-fields r _ _ _ (x .kind) (x .end) (x .line)
 
 -- ---- a token of a step is the token at the cursor's place
 

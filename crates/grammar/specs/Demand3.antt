@@ -133,5 +133,6 @@ pub record Demand3 (ed : Edition) : Type 0 where
       (cursorOf (c .place + length (encodes cs)) (c .line + lineFeeds (encodes cs)) (c .ended))
   -- and where whole lexing has a token r that starts there, r is that token
   pub token-back : (doc : List ℕ) (r : Token) → List·Memᴰ r (tokensOf doc)
-      → (s : StringKind) (cs v rest : List ℕ) → Derived ed s cs v → drop (r .span .start) doc ≡ encodes cs ++ rest → Apart (mark s) rest
+      → (s : StringKind) (cs v rest : List ℕ) → Derived ed s cs v
+      → drop (r .span .start) doc ≡ encodes cs ++ rest → Apart (mark s) rest
       → r ≡ tokenOf (tokenKind s) (r .span .start) (r .span .start + length (encodes cs)) (lineOf doc (r .span .start))

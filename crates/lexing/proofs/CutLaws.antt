@@ -84,7 +84,8 @@ unfolding lineTail
 line-clean q h [] l = at-end
 line-clean q h (b ∷ s) l =
     cond-case (Clean (b ∷ s)) (closes q h b) (λ t. after (one-ascii q l b (both-right (not h) _ t)))
-    λ _. cond-case (Clean (b ∷ s)) (eqb b 10) (λ t. before (one-ascii 10 (omega arith) b t)) (λ _. further (line-clean q (hides q h b) s l))
+    λ _. cond-case (Clean (b ∷ s)) (eqb b 10) (λ t. before (one-ascii 10 (omega arith) b t))
+    (λ _. further (line-clean q (hides q h b) s l))
 
 no-mark : (q : ℕ) → 0 < q → eqb 0 q ≡ true → ⊥
 no-mark q h t = omega (arith, eqb-true 0 q t)
@@ -144,8 +145,8 @@ unfolding tokenLen kindOf extent
 token-clean [] = at-end
 token-clean (b ∷ s) =
     by-kind (λ (k : TokenKind). Clean (b ∷ s) (extent k (b ∷ s))) b (triple b (b ∷ s))
-    (λ e. after (omega arith)) (λ e. after (omega arith)) (λ e. after (omega arith)) (λ e. after (omega arith)) (λ e. after (omega arith))
-    (λ e. after (omega arith)) (λ e. after (omega arith))
+    (λ e. after (omega arith)) (λ e. after (omega arith)) (λ e. after (omega arith)) (λ e. after (omega arith))
+    (λ e. after (omega arith)) (λ e. after (omega arith)) (λ e. after (omega arith))
     (λ t. run-after wschar wschar-ascii b s (wschar-ascii b t))
     (λ e. further (run-clean inComment (λ x u. eol-ascii x (not-false _ u)) s))
     (λ t. newline-clean b s (eol-ascii b t))

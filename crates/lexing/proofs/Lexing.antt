@@ -3,11 +3,11 @@
 use Prim.Native.Nat.{ℕ, zero, suc, _+_, _-_, _≤_, _<_}
 use mathlib.Core.Path.{_≡_, refl, sym, ap, _∙_, subst}
 use mathlib.Core.Logic.{inl, inr}
-use mathlib.Core.Bool.{Bool, true, false, cond, _||_}
+use mathlib.Core.Bool.{Bool, true, false, _||_}
 use mathlib.Core.List.{List, [], _∷_, _++_, append-assoc, append-nil, List·Memᴰ, map, List·Memᴰ·head, List·Memᴰ·tail, List·Memᴰ·cases-cons, List·Memᴰ·not-nil}
 use native.Mathlib.Omega.{arith}
 use native.Mathlib.Decide.{decLt}
-use borrow.Author.Tests.{eqb-true, le-ltb, eq-eqb, ne-eqb}
+use borrow.Author.Tests.{le-ltb, eq-eqb, ne-eqb}
 use lib.Dec.{eqb, ltb}
 use lib.ListN.{length, getD, take, drop, length-drop, drop-of-length-le}
 use lib.Seq.{drop-drop}
@@ -16,7 +16,6 @@ use Rattle.text.specs.Utf8.{Utf8, encodeScalar, encodes}
 use Rattle.text.specs.Utf8Read.{scalars}
 use Rattle.text.proofs.ReadLaws.{scalars-char, encodes-of, front}
 use Rattle.text.proofs.CutLaws.{one-utf8, cut, ascii-cut, utf8-append}
-use Rattle.text.specs.declared.refusal.Refusal.the-variants.{TooLong, OutOfPlace}
 use Rattle.token.specs.declared.TokenKind.the-variants.{Eof}
 use Rattle.token.specs.declared.Token.{Token}
 use Rattle.token.specs.Records.{tokenOf, recordOf}
@@ -28,20 +27,25 @@ use Rattle.lexer.specs.Whole.{recordsOf}
 use Rattle.lexer.specs.declared.Cursor.{Cursor}
 use Rattle.lexer.specs.declared.Step.{Step}
 use Rattle.lexer.specs.declared.Step.the-variants.{Token as Given, End, Refused}
-use Rattle.classes.proofs.Conds.{cond-case, of-choice, both-left, both-right}
-use Rattle.lexer.proofs.LineLaws.{lines-none, lines-split, start-no-line, lines-taken}
+use Rattle.classes.proofs.Conds.{cond-case, of-choice}
+use Rattle.lexer.proofs.LineLaws.{lines-none, lines-split, mark-bytes, start-no-line, lines-taken}
 use Rattle.lexer.proofs.TokenLaws.{token-fits, token-long, token-fits-at, line-fits-at, tokens-cons, tokens-step, tokens-end, start-fits}
 use Rattle.place.specs.Positions.{positionAnswer}
 use Rattle.lexing.specs.Lexing.{cursorBehind, stepsFrom, Gives, StepsWhole, TokenLine, OnLines, RecordLines, movedCursor, movedStep, StepsMoved, Follow, NoGap, NotEmpty, Uncut, Local}
 use Rattle.lexing.specs.Cuts.{Clean, at-end, before, after, further}
 use Rattle.lexing.proofs.CutLaws.{token-clean}
 use Rattle.lexing.proofs.LocalLaws.{token-local}
+use Rattle.lexing.proofs.ByLength.{by-length}
 
 -- ---- steps and whole lexing
 
 module _ (doc : List ℕ) (l : length doc ≤ limit) where
+  -- the cursor behind the token at a place
+  abbrev cursorPast : ℕ → ℕ → Cursor
+  cursorPast at line = cursorOf (at + tokenLen (drop at doc)) (lineAfter line (drop at doc)) false
+
   pub step-token : (at line : ℕ) → at < length doc → line ≤ at + 1
-      → stepOf doc (cursorOf at line false) ≡ Given (tokenAt at line (drop at doc)) (cursorOf (at + tokenLen (drop at doc)) (lineAfter line (drop at doc)) false)
+      → stepOf doc (cursorOf at line false) ≡ Given (tokenAt at line (drop at doc)) (cursorPast at line)
   unfolding stepOf
   step-token at line h o =
       let within : at ≤ length doc = omega arith in
@@ -52,32 +56,36 @@ module _ (doc : List ℕ) (l : length doc ≤ limit) where
       → stepOf doc (cursorOf (length doc) line false) ≡ Given (eofAt (length doc) line) (cursorOf (length doc) line true)
   unfolding stepOf
   step-eof line o =
-      let within : length doc ≤ length doc = omega arith in
-      simp (le-ltb limit (length doc) l, le-ltb (length doc) (length doc) within, le-ltb (length doc + 1) line o, eq-eqb (length doc) (length doc) refl)
+      let n = length doc in
+      simp (le-ltb limit n l, le-ltb n n (omega arith), le-ltb (n + 1) line o, eq-eqb n n refl)
 
   pub step-end : (line : ℕ) → line ≤ length doc + 1 → stepOf doc (cursorOf (length doc) line true) ≡ End
   unfolding stepOf
   step-end line o =
-      let within : length doc ≤ length doc = omega arith in
-      simp (le-ltb limit (length doc) l, le-ltb (length doc) (length doc) within, le-ltb (length doc + 1) line o, eq-eqb (length doc) (length doc) refl)
+      let n = length doc in
+      simp (le-ltb limit n l, le-ltb n n (omega arith), le-ltb (n + 1) line o, eq-eqb n n refl)
 
   ended : (k line : ℕ) → line ≤ length doc + 1 → Gives [] (stepsFrom k doc (cursorOf (length doc) line true))
   unfolding stepsFrom
   ended zero line o = tt
   ended (suc k) line o = rw (step-end line o) (ended k line o)
 
-  at-the-end : (k line : ℕ) → line ≤ length doc + 1 → Gives (eofAt (length doc) line ∷ []) (stepsFrom k doc (cursorOf (length doc) line false))
+  at-the-end : (k line : ℕ) → line ≤ length doc + 1
+      → Gives (eofAt (length doc) line ∷ []) (stepsFrom k doc (cursorOf (length doc) line false))
   unfolding stepsFrom
   at-the-end zero line o = tt
   at-the-end (suc k) line o = rw (step-eof line o) (refl, ended k line o)
 
-  from-place : (k at line : ℕ) → at ≤ length doc → line ≤ at + 1 → Gives (tokensFrom at line (drop at doc)) (stepsFrom k doc (cursorOf at line false))
+  from-place : (k at line : ℕ) → at ≤ length doc → line ≤ at + 1
+      → Gives (tokensFrom at line (drop at doc)) (stepsFrom k doc (cursorOf at line false))
   unfolding stepsFrom
   from-place zero at line h o = tt
   from-place (suc k) at line h o =
       elim (decLt at (length doc)) [
-        | yes w ↦ rw (tokens-step doc at line w, step-token at line w o)
-            (refl, from-place k (at + tokenLen (drop at doc)) (lineAfter line (drop at doc)) (token-fits-at doc at h) (line-fits-at doc at line o))
+        | yes w ↦
+            let next = cursorPast at line in
+            let rest = from-place k (next .place) (next .line) (token-fits-at doc at h) (line-fits-at doc at line o) in
+            rw (tokens-step doc at line w, step-token at line w o) (refl, rest)
         | no w ↦
             let e : at ≡ length doc = omega arith in
             rw (e, tokens-end doc (length doc) line (omega arith)) (at-the-end (suc k) line (omega arith))
@@ -116,13 +124,13 @@ pub record Stands (at line : ℕ) (s : List ℕ) (t : Token) : Type 0 where
   pub is : t ≡ tokenAt (at + place) (line + lineFeeds (take place s)) (drop place s)
   pub whole : Utf8 s → Utf8 (drop place s)
 
-token-by : {a b l m : ℕ} {s t : List ℕ} → a ≡ b → l ≡ m → s ≡ t → tokenAt a l s ≡ tokenAt b m t
-token-by {a} {b} {l} {m} {s} {t} p q e =
+same-token-at : {a b l m : ℕ} {s t : List ℕ} → a ≡ b → l ≡ m → s ≡ t → tokenAt a l s ≡ tokenAt b m t
+same-token-at {a} {b} {l} {m} {s} {t} p q e =
     ap (λ (k : ℕ). tokenAt k l s) p ∙ ap (λ (k : ℕ). tokenAt b k s) q ∙ ap (tokenAt b m) e
 
-later : (at line n : ℕ) (s : List ℕ) (t : Token) → n ≤ length s → (Utf8 s → Utf8 (drop n s))
+stands-later : (at line n : ℕ) (s : List ℕ) (t : Token) → n ≤ length s → (Utf8 s → Utf8 (drop n s))
     → Stands (at + n) (line + lineFeeds (take n s)) (drop n s) t → Stands at line s t
-later at line n s t h u w =
+stands-later at line n s t h u w =
     let e : drop (w .place) (drop n s) ≡ drop (n + w .place) s = drop-drop (w .place) n s in
     let same : at + n + w .place ≡ at + (n + w .place) = omega arith in
     let on : line + lineFeeds (take n s) + lineFeeds (take (w .place) (drop n s)) ≡ line + lineFeeds (take (n + w .place) s) =
@@ -130,34 +138,46 @@ later at line n s t h u w =
     record {
       place = n + w .place;
       within = omega (arith, w .within, length-drop n s);
-      is = w .is ∙ token-by same on e;
+      is = w .is ∙ same-token-at same on e;
       whole = λ x. subst Utf8 e (w .whole (u x));
     }
 
-here : (at line : ℕ) (s : List ℕ) (t : Token) → t ≡ tokenAt at line s → Stands at line s t
-here at line s t e =
-    record { place = 0; within = omega arith; is = e ∙ token-by (omega arith) (omega (arith, lines-none)) refl; whole = λ u. u }
+stands-here : (at line : ℕ) (s : List ℕ) (t : Token) → t ≡ tokenAt at line s → Stands at line s t
+stands-here at line s t e =
+    record {
+      place = 0;
+      within = omega arith;
+      is = e ∙ same-token-at (omega arith) (omega (arith, lines-none)) refl;
+      whole = λ u. u;
+    }
 
 nothing-left : (at line : ℕ) → tokensFrom at line [] ≡ tokenAt at line [] ∷ []
 unfolding tokensFrom walk tokenLen kindOf extent
 nothing-left at line = let same : at ≡ at + 0 = omega arith in ap (λ (k : ℕ). tokenOf Eof at k line ∷ []) same
 
 last-token : (at line : ℕ) (t : Token) → List·Memᴰ t (tokensFrom at line []) → Stands at line [] t
-last-token at line t m =
-    elim (List·Memᴰ·cases-cons (subst (List·Memᴰ t) (nothing-left at line) m)) [ inl e ↦ here at line [] t e | inr k ↦ absurd (List·Memᴰ·not-nil k) ]
+last-token at line t m = elim (List·Memᴰ·cases-cons (subst (List·Memᴰ t) (nothing-left at line) m)) [
+  | inl e ↦ stands-here at line [] t e
+  | inr k ↦ absurd (List·Memᴰ·not-nil k)
+]
 
-each-token : (n at line : ℕ) (s : List ℕ) → length s ≤ n → (t : Token) → List·Memᴰ t (tokensFrom at line s) → Stands at line s t
-each-token zero at line [] l t m = last-token at line t m
-each-token zero at line (b ∷ s) l t m = absurd (omega arith)
-each-token (suc n) at line [] l t m = last-token at line t m
-each-token (suc n) at line (b ∷ s) l t m =
+abbrev EachStands : List ℕ → Type 0
+EachStands s = (at line : ℕ) (t : Token) → List·Memᴰ t (tokensFrom at line s) → Stands at line s t
+
+-- behind the first token stand the others, as they do in what is left
+each-behind : (n : ℕ) → ((s : List ℕ) → length s ≤ n → EachStands s) → (b : ℕ) (s : List ℕ) → length s ≤ n → EachStands (b ∷ s)
+each-behind n ih b s l at line t m =
+    let k = tokenLen (b ∷ s) in
     let long = token-long (b ∷ s) (omega arith) in
-    let fits = token-fits (b ∷ s) in
+    let left = length-drop k (b ∷ s) in
     elim (List·Memᴰ·cases-cons (subst (List·Memᴰ t) (tokens-cons at line (b ∷ s) (omega arith)) m)) [
-      | inl e ↦ here at line (b ∷ s) t e
-      | inr k ↦ later at line (tokenLen (b ∷ s)) (b ∷ s) t fits (λ u. token-cut (b ∷ s) u .1)
-          (each-token n (at + tokenLen (b ∷ s)) (lineAfter line (b ∷ s)) (drop (tokenLen (b ∷ s)) (b ∷ s)) (omega (arith, length-drop (tokenLen (b ∷ s)) (b ∷ s))) t k)
+      | inl e ↦ stands-here at line (b ∷ s) t e
+      | inr i ↦ stands-later at line k (b ∷ s) t (token-fits (b ∷ s)) (λ u. token-cut (b ∷ s) u .1)
+          (ih (drop k (b ∷ s)) (omega arith) (at + k) (lineAfter line (b ∷ s)) t i)
     ]
+
+each-token : (s : List ℕ) → EachStands s
+each-token s = by-length EachStands last-token each-behind (length s) s (omega arith)
 
 -- ---- behind a byte order mark
 
@@ -165,7 +185,8 @@ bom-rest : (s : List ℕ) → Utf8 (0xEF ∷ 0xBB ∷ 0xBF ∷ s) → Utf8 s
 unfolding encodeScalar
 bom-rest s u =
     let a : scalars (0xEF ∷ 0xBB ∷ 0xBF ∷ s) ≡ 0xFEFF ∷ scalars s = scalars-char 0xFEFF (inr (omega arith, omega arith)) s in
-    let e : 0xEF ∷ 0xBB ∷ 0xBF ∷ encodes (scalars s) ≡ 0xEF ∷ 0xBB ∷ 0xBF ∷ s = sym (ap encodes a) ∙ encodes-of (0xEF ∷ 0xBB ∷ 0xBF ∷ s) u in
+    let e : 0xEF ∷ 0xBB ∷ 0xBF ∷ encodes (scalars s) ≡ 0xEF ∷ 0xBB ∷ 0xBF ∷ s =
+    sym (ap encodes a) ∙ encodes-of (0xEF ∷ 0xBB ∷ 0xBF ∷ s) u in
     let z : encodes (scalars s) ≡ s = cc in
     (scalars s, front s .each, z)
 
@@ -179,38 +200,39 @@ pub start-cut : (s : List ℕ) → Utf8 s → Utf8 (drop (startOf s) s)
 unfolding startOf
 start-cut s u =
     cond-case (λ (n : ℕ). Utf8 (drop n s)) (hasBom s)
-    (λ t.
-    let rest = both-right (eqb (getD s 0 0) 0xEF) _ t in
-    bom-drop s (eqb-true _ _ (both-left (eqb (getD s 0 0) 0xEF) _ t)) (eqb-true _ _ (both-left (eqb (getD s 1 0) 0xBB) _ rest))
-    (eqb-true _ _ (both-right (eqb (getD s 1 0) 0xBB) _ rest)) u)
-    (λ t. u)
+    (λ t. let m = mark-bytes s t in bom-drop s (m .0) (m .1) (m .2) u) (λ t. u)
 
 -- ---- each token of a document
 
 -- lines counted from the start on are those counted from byte 0 on: a byte order mark holds no LF
-line-by : (doc : List ℕ) (n place : ℕ) → place ≡ startOf doc + n → 1 + lineFeeds (take n (drop (startOf doc) doc)) ≡ lineOf doc place
+line-by : (doc : List ℕ) (n place : ℕ) → place ≡ startOf doc + n
+    → 1 + lineFeeds (take n (drop (startOf doc) doc)) ≡ lineOf doc place
 line-by doc n place e =
-    let rest : drop n (drop (startOf doc) doc) ≡ drop place doc = drop-drop n (startOf doc) doc ∙ ap (λ (k : ℕ). drop k doc) (sym e) in
-    omega (arith, lines-split n (drop (startOf doc) doc), lines-split place doc, start-no-line doc, ap lineFeeds rest)
+    let s = drop (startOf doc) doc in
+    let rest : drop n s ≡ drop place doc = drop-drop n (startOf doc) doc ∙ ap (λ (k : ℕ). drop k doc) (sym e) in
+    omega (arith, lines-split n s, lines-split place doc, start-no-line doc, ap lineFeeds rest)
 
-pub record Lexed (doc : List ℕ) (t : Token) : Type 0 where
+-- a token has its kind, its end and its line by the rules at its start
+pub record ByRule (doc : List ℕ) (t : Token) : Type 0 where
   pub within : t .span .start ≤ length doc
   pub kind : t .kind ≡ kindOf (drop (t .span .start) doc)
   pub end : t .span .end ≡ t .span .start + tokenLen (drop (t .span .start) doc)
   pub line : t .line ≡ lineOf doc (t .span .start)
   pub whole : Utf8 doc → Utf8 (drop (t .span .start) doc)
 
-pub lexed : (doc : List ℕ) (t : Token) → List·Memᴰ t (tokensOf doc) → Lexed doc t
+pub by-rule : (doc : List ℕ) (t : Token) → List·Memᴰ t (tokensOf doc) → ByRule doc t
 unfolding tokensOf
-lexed doc t m =
-    let w = each-token (length (drop (startOf doc) doc)) (startOf doc) 1 (drop (startOf doc) doc) (omega arith) t m in
+by-rule doc t m =
+    let w = each-token (drop (startOf doc) doc) (startOf doc) 1 t m in
     let start : t .span .start ≡ startOf doc + w .place = ap (λ (u : Token). u .span .start) (w .is) in
     let e : drop (w .place) (drop (startOf doc) doc) ≡ drop (t .span .start) doc =
     drop-drop (w .place) (startOf doc) doc ∙ ap (λ (n : ℕ). drop n doc) (sym start) in
+    let is : tokenAt (startOf doc + w .place) (t .line) (drop (w .place) (drop (startOf doc) doc))
+    ≡ tokenAt (t .span .start) (t .line) (drop (t .span .start) doc) = same-token-at (sym start) refl e in
     record {
       within = omega (arith, w .within, length-drop (startOf doc) doc, start-fits doc);
       kind = ap (λ (u : Token). u .kind) (w .is) ∙ ap kindOf e;
-      end = ap (λ (u : Token). u .span .end) (w .is) ∙ ap (λ (x : List ℕ). startOf doc + w .place + tokenLen x) e ∙ ap (λ (n : ℕ). n + tokenLen (drop (t .span .start) doc)) (sym start);
+      end = ap (λ (u : Token). u .span .end) (w .is) ∙ ap (λ (u : Token). u .span .end) is;
       line = ap (λ (u : Token). u .line) (w .is) ∙ line-by doc (w .place) (t .span .start) start;
       whole = λ u. subst Utf8 e (w .whole (start-cut doc u));
     }
@@ -218,13 +240,13 @@ lexed doc t m =
 -- ---- lines
 
 pub token-line : TokenLine
-token-line doc t m = lexed doc t m .line
+token-line doc t m = by-rule doc t m .line
 
 pub record-lines : RecordLines
 unfolding recordsOf positionAnswer
-record-lines doc l = go (tokensOf doc) (λ t m. lexed doc t m)
+record-lines doc l = go (tokensOf doc) (λ t m. by-rule doc t m)
   where
-    go : (ts : List Token) → ((t : Token) → List·Memᴰ t ts → Lexed doc t) → OnLines doc (map recordOf ts)
+    go : (ts : List Token) → ((t : Token) → List·Memᴰ t ts → ByRule doc t) → OnLines doc (map recordOf ts)
     go [] h = tt
     go (t ∷ ts) h =
         let w = h t (List·Memᴰ·head refl) in (
@@ -233,19 +255,21 @@ record-lines doc l = go (tokensOf doc) (λ t m. lexed doc t m)
         )
 
 -- one step from a cursor some lines on
-step-moved : (doc : List ℕ) (c : Cursor) (d : ℕ) → c .line + d ≤ c .place + 1 → stepOf doc (movedCursor d c) ≡ movedStep d (stepOf doc c)
+step-moved : (doc : List ℕ) (c : Cursor) (d : ℕ) → c .line + d ≤ c .place + 1
+    → stepOf doc (movedCursor d c) ≡ movedStep d (stepOf doc c)
 unfolding stepOf
 step-moved doc c d h =
     let s = drop (c .place) doc in
     let on : lineAfter (c .line + d) s ≡ lineAfter (c .line) s + d = omega arith in
     let in-line = le-ltb (c .place + 1) (c .line) (omega arith) in
     let moved-too = le-ltb (c .place + 1) (c .line + d) h in
-    let same : astray doc (movedCursor d c) ≡ astray doc c = ap (λ (x : Bool). ltb (length doc) (c .place) || x) (moved-too ∙ sym in-line) in
+    let same : astray doc (movedCursor d c) ≡ astray doc c =
+    ap (λ (x : Bool). ltb (length doc) (c .place) || x) (moved-too ∙ sym in-line) in
     let token = ap (λ (n : ℕ). Given (tokenAt (c .place) (c .line + d) s) (cursorOf (c .place + tokenLen s) n (c .ended))) on in
     let within : stepWithin doc (movedCursor d c) ≡ movedStep d (stepWithin doc c) =
     sym (of-choice (movedStep d) (eqb (c .place) (length doc)) (of-choice (movedStep d) (c .ended) refl refl) (sym token)) in
-    sym (of-choice (movedStep d) (ltb limit (length doc)) refl (of-choice (movedStep d) (astray doc c) refl (sym within))
-    ∙ ap (λ (x : Bool). cond (ltb limit (length doc)) (Refused TooLong) (cond x (Refused (OutOfPlace (length doc))) (stepWithin doc (movedCursor d c)))) (sym same))
+    let moved = of-choice (movedStep d) (astray doc c) refl (sym within) in
+    rw same (sym (of-choice (movedStep d) (ltb limit (length doc)) refl moved))
 
 -- and the next one may be as many lines on
 still-moved : (doc : List ℕ) (c : Cursor) (d : ℕ) → c .line + d ≤ c .place + 1
@@ -264,9 +288,10 @@ unfolding stepsFrom
 steps-moved doc c d h zero = refl
 steps-moved doc c d h (suc k) =
     let next = cursorBehind c (stepOf doc c) in
-    rw (step-moved doc c d h) (ap (λ (r : List Step). movedStep d (stepOf doc c) ∷ r) (behind (stepOf doc c) ∙ steps-moved doc next d (still-moved doc c d h) k))
+    let rest = steps-moved doc next d (still-moved doc c d h) k in
+    rw (step-moved doc c d h, behind (stepOf doc c)) (ap (λ (r : List Step). movedStep d (stepOf doc c) ∷ r) rest)
   where
-    behind : (s : Step) → stepsFrom k doc (cursorBehind (movedCursor d c) (movedStep d s)) ≡ stepsFrom k doc (movedCursor d (cursorBehind c s))
+    behind : (s : Step) → cursorBehind (movedCursor d c) (movedStep d s) ≡ movedCursor d (cursorBehind c s)
     behind (Given t e) = refl
     behind End = refl
     behind (Refused r) = refl
@@ -277,7 +302,7 @@ nothing-kind = refl
 
 pub not-empty : NotEmpty
 not-empty doc t m d =
-    let w = lexed doc t m in
+    let w = by-rule doc t m in
     elim (decLt (t .span .start) (length doc)) [
       | yes h ↦
           let long = token-long (drop (t .span .start) doc) (omega (arith, length-drop (t .span .start) doc)) in
@@ -289,7 +314,7 @@ not-empty doc t m d =
 
 pub uncut : Uncut
 uncut doc u t m =
-    let w = lexed doc t m in
+    let w = by-rule doc t m in
     let rest = drop (t .span .start) doc in
     let size : tokenLen rest ≡ t .span .end - t .span .start = omega (arith, w .end) in
     subst (λ (n : ℕ). Utf8 (take n rest)) size (token-cut rest (w .whole u) .0)
@@ -300,14 +325,14 @@ nothing-long : tokenLen [] ≡ 0
 unfolding tokenLen kindOf extent
 nothing-long = refl
 
-follow-end : (at line : ℕ) → Follow at (tokensFrom at line []) (at + 0)
+abbrev Follows : List ℕ → Type 0
+Follows s = (at line : ℕ) → Follow at (tokensFrom at line s) (at + length s)
+
+follow-end : Follows []
 follow-end at line = rw (nothing-left at line) (refl, omega (arith, nothing-long))
 
-follow : (n at line : ℕ) (s : List ℕ) → length s ≤ n → Follow at (tokensFrom at line s) (at + length s)
-follow zero at line [] l = follow-end at line
-follow zero at line (b ∷ s) l = absurd (omega arith)
-follow (suc n) at line [] l = follow-end at line
-follow (suc n) at line (b ∷ s) l =
+follow-behind : (n : ℕ) → ((s : List ℕ) → length s ≤ n → Follows s) → (b : ℕ) (s : List ℕ) → length s ≤ n → Follows (b ∷ s)
+follow-behind n ih b s l at line =
     let k = tokenLen (b ∷ s) in
     let rest = drop k (b ∷ s) in
     let long = token-long (b ∷ s) (omega arith) in
@@ -315,14 +340,19 @@ follow (suc n) at line (b ∷ s) l =
     let left = length-drop k (b ∷ s) in
     let same : at + k + length rest ≡ at + length (b ∷ s) = omega arith in
     let on = lineAfter line (b ∷ s) in
-    rw (tokens-cons at line (b ∷ s) (omega arith)) (refl, subst (Follow (at + k) (tokensFrom (at + k) on rest)) same (follow n (at + k) on rest (omega arith)))
+    rw (tokens-cons at line (b ∷ s) (omega arith))
+    (refl, subst (Follow (at + k) (tokensFrom (at + k) on rest)) same (ih rest (omega arith) (at + k) on))
+
+follow : (s : List ℕ) → Follows s
+follow s = by-length Follows follow-end follow-behind (length s) s (omega arith)
 
 pub no-gap : NoGap
 unfolding tokensOf
 no-gap doc =
-    let same : startOf doc + length (drop (startOf doc) doc) ≡ length doc = omega (arith, length-drop (startOf doc) doc, start-fits doc) in
-    subst (Follow (startOf doc) (tokensFrom (startOf doc) 1 (drop (startOf doc) doc))) same
-    (follow (length (drop (startOf doc) doc)) (startOf doc) 1 (drop (startOf doc) doc) (omega arith))
+    let start = startOf doc in
+    let s = drop start doc in
+    let same : start + length s ≡ length doc = omega (arith, length-drop start doc, start-fits doc) in
+    subst (Follow start (tokensFrom start 1 s)) same (follow s start 1)
 
 -- ---- how far a token looks
 

@@ -32,9 +32,9 @@ record Front (b n : ℕ) (s t : List ℕ) : Type 0 where
   is : t ≡ b ∷ rest
   agree : Agree n s rest
 
-front : (b n : ℕ) (s t : List ℕ) → Agree (suc n) (b ∷ s) t → Front b n s t
-front b n s [] a = absurd (omega (arith, ap length a))
-front b n s (c ∷ t) a =
+same-front : (b n : ℕ) (s t : List ℕ) → Agree (suc n) (b ∷ s) t → Front b n s t
+same-front b n s [] a = absurd (omega (arith, ap length a))
+same-front b n s (c ∷ t) a =
     let same : b ∷ take n s ≡ c ∷ take n t = a in
     let e : b ≡ c = cc in
     let r : take n s ≡ take n t = cc in
@@ -65,8 +65,8 @@ unfolding run
 run-local p [] t = λ a. rw (nothing 0 t a)
 run-local p (b ∷ s) t =
     cond-case (λ (n : ℕ). Agree (suc n) (b ∷ s) t → run p t ≡ n) (p b)
-    (λ e a. let f = front b (suc (run p s)) s t a in rw (f .is, e) (ap suc (run-local p s (f .rest) (f .agree))))
-    (λ e a. let f = front b 0 s t a in rw (f .is, e))
+    (λ e a. let f = same-front b (suc (run p s)) s t a in rw (f .is, e) (ap suc (run-local p s (f .rest) (f .agree))))
+    (λ e a. let f = same-front b 0 s t a in rw (f .is, e))
 
 pub line-local : (q : ℕ) (h : Bool) (s t : List ℕ) → Agree (suc (lineTail q h s)) s t → lineTail q h t ≡ lineTail q h s
 unfolding lineTail
@@ -74,10 +74,12 @@ line-local q h [] t = λ a. rw (nothing 0 t a)
 line-local q h (b ∷ s) t =
     let P : ℕ → Type 0 = λ n. Agree (suc n) (b ∷ s) t → lineTail q h t ≡ n in
     cond-case P (closes q h b)
-    (λ e a. let f = front b 1 s t a in rw (f .is, e))
+    (λ e a. let f = same-front b 1 s t a in rw (f .is, e))
     λ e. cond-case P (eqb b 10)
-    (λ u a. let f = front b 0 s t a in rw (f .is, e, u))
-    (λ u a. let f = front b (suc (lineTail q (hides q h b) s)) s t a in rw (f .is, e, u) (ap suc (line-local q (hides q h b) s (f .rest) (f .agree))))
+    (λ u a. let f = same-front b 0 s t a in rw (f .is, e, u))
+    (λ u a.
+    let f = same-front b (suc (lineTail q (hides q h b) s)) s t a in
+    rw (f .is, e, u) (ap suc (line-local q (hides q h b) s (f .rest) (f .agree))))
 
 -- ---- marks
 
@@ -127,21 +129,24 @@ ml-nothing : (q : ℕ) (h : Bool) (s : List ℕ) → mlTail q h s ≡ 0 → s �
 unfolding mlTail
 ml-nothing q h [] = λ e. refl
 ml-nothing q h (b ∷ s) =
-    cond-case (λ (n : ℕ). n ≡ 0 → b ∷ s ≡ []) (not h && triple q (b ∷ s)) (λ t e. absurd (omega arith)) (λ t e. absurd (omega arith))
+    cond-case (λ (n : ℕ). n ≡ 0 → b ∷ s ≡ []) (not h && triple q (b ∷ s))
+    (λ t e. absurd (omega arith)) (λ t e. absurd (omega arith))
 
 -- where a string goes on over its first byte, both lists have three marks there or neither
-same-marks : (q : ℕ) (h : Bool) (b : ℕ) (s t : List ℕ) → Agree (suc (suc (mlTail q h s))) (b ∷ s) t → triple q t ≡ triple q (b ∷ s)
+same-marks : (q : ℕ) (h : Bool) (b : ℕ) (s t : List ℕ) → Agree (suc (suc (mlTail q h s))) (b ∷ s) t
+    → triple q t ≡ triple q (b ∷ s)
 same-marks q h b s t a = go (mlTail q h s) refl a
   where
     go : (m : ℕ) → mlTail q h s ≡ m → Agree (suc (suc m)) (b ∷ s) t → triple q t ≡ triple q (b ∷ s)
     go zero e a =
         let none = ml-nothing q h s e in
-        let f = front b 1 s t a in
+        let f = same-front b 1 s t a in
         let end : f .rest ≡ [] = nothing 0 (f .rest) (subst (λ (x : List ℕ). Agree 1 x (f .rest)) none (f .agree)) in
         rw (f .is, end, none)
     go (suc m) e a = triple-local q (b ∷ s) t (fewer 3 (suc (suc (suc m))) (b ∷ s) t (omega arith) a)
 
-ml-closed : (q : ℕ) (h : Bool) (b : ℕ) (s : List ℕ) → (not h && triple q (b ∷ s)) ≡ true → mlTail q h (b ∷ s) ≡ 3 + upToTwo q (drop 3 (b ∷ s))
+ml-closed : (q : ℕ) (h : Bool) (b : ℕ) (s : List ℕ) → (not h && triple q (b ∷ s)) ≡ true
+    → mlTail q h (b ∷ s) ≡ 3 + upToTwo q (drop 3 (b ∷ s))
 unfolding mlTail
 ml-closed q h b s t = rw t
 
@@ -154,16 +159,16 @@ ml-local q h (b ∷ s) t =
     let u = upToTwo q (drop 3 (b ∷ s)) in
     let more : suc (3 + u) ≡ suc (suc (suc (suc u))) = omega arith in
     let all : Agree (suc (suc (suc (suc u)))) (b ∷ s) t = subst (λ (n : ℕ). Agree n (b ∷ s) t) more a in
-    let f = front b (suc (suc (suc u))) s t all in
+    let f = same-front b (suc (suc (suc u))) s t all in
     let marks = triple-local q (b ∷ s) t (fewer 3 (suc (suc (suc (suc u)))) (b ∷ s) t (omega arith) all) in
     let two = two-local q (drop 3 (b ∷ s)) (drop 3 t) (behind-three (suc u) (b ∷ s) t all) in
-    let opens : (not h && triple q (b ∷ f .rest)) ≡ true = ap (λ (x : Bool). not h && x) (ap (triple q) (sym (f .is)) ∙ marks) ∙ e in
+    let opens : (not h && triple q (b ∷ f .rest)) ≡ true = rw (← f .is, marks) e in
     ap (mlTail q h) (f .is) ∙ ml-closed q h b (f .rest) opens
     ∙ ap (λ (l : List ℕ). 3 + upToTwo q (drop 3 l)) (sym (f .is)) ∙ ap (λ (n : ℕ). 3 + n) two)
     (λ e a.
-    let f = front b (suc (mlTail q (hides q h b) s)) s t a in
+    let f = same-front b (suc (mlTail q (hides q h b) s)) s t a in
     let marks = same-marks q (hides q h b) b s t a in
-    let shut : (not h && triple q (b ∷ f .rest)) ≡ false = ap (λ (x : Bool). not h && x) (ap (triple q) (sym (f .is)) ∙ marks) ∙ e in
+    let shut : (not h && triple q (b ∷ f .rest)) ≡ false = rw (← f .is, marks) e in
     rw (f .is, shut) (ap suc (ml-local q (hides q h b) s (f .rest) (f .agree))))
 
 -- ---- whole tokens
@@ -209,9 +214,11 @@ no-second q s e = rw e (go (eqb (getD s 0 0) q))
 two-long : (b : ℕ) (s : List ℕ) → (b ≡ 39) ⊎ (b ≡ 34) → 2 ≤ tokenLen (b ∷ b ∷ s)
 unfolding tokenLen kindOf kindBy wschar extent lineTail
 two-long b s (inl e) =
-    rw e (cond-case (λ (k : TokenKind). 2 ≤ extent k (39 ∷ 39 ∷ s)) (triple 39 (39 ∷ 39 ∷ s)) (λ _. omega arith) (λ _. omega arith))
+    let P : TokenKind → Type 0 = λ k. 2 ≤ extent k (39 ∷ 39 ∷ s) in
+    rw e (cond-case P (triple 39 (39 ∷ 39 ∷ s)) (λ _. omega arith) (λ _. omega arith))
 two-long b s (inr e) =
-    rw e (cond-case (λ (k : TokenKind). 2 ≤ extent k (34 ∷ 34 ∷ s)) (triple 34 (34 ∷ 34 ∷ s)) (λ _. omega arith) (λ _. omega arith))
+    let P : TokenKind → Type 0 = λ k. 2 ≤ extent k (34 ∷ 34 ∷ s) in
+    rw e (cond-case P (triple 34 (34 ∷ 34 ∷ s)) (λ _. omega arith) (λ _. omega arith))
 
 one-mark : (b : ℕ) (s : List ℕ) → (b ≡ 39) ⊎ (b ≡ 34) → tokenLen (b ∷ s) ≤ 1 → eqb (getD s 0 0) b ≡ false
 one-mark b [] q l = ne-eqb 0 b (λ e. ⊎-elim (λ u. omega arith) (λ u. omega arith) q)
@@ -230,7 +237,7 @@ unfolding kindOf
 kind-local b s t a =
     let n = tokenLen (b ∷ s) in
     let long = token-long (b ∷ s) (omega arith) in
-    let f = front b n s t a in
+    let f = same-front b n s t a in
     let same : kindOf t ≡ kindBy b (triple b t) = ap kindOf (f .is) ∙ ap (λ (l : List ℕ). kindBy b (triple b l)) (sym (f .is)) in
     elim (decLt 1 n) [
       | yes h ↦ same ∙ ap (kindBy b) (triple-local b (b ∷ s) t (fewer 3 (suc n) (b ∷ s) t (omega arith) a))
