@@ -21,26 +21,26 @@ tokenStart b =
     || (eqb b 0x20 || (eqb b 0x09 || (eqb b 0x23 || (eqb b 0x0D || eqb b 0x0A))))))))))
 
 -- non-ascii = %x80-D7FF / %xE000-10FFFF
-unfoldable pub nonAscii : ℕ → Bool
+abbrev pub nonAscii : ℕ → Bool
 nonAscii b = leb 0x80 b
 
 -- literal-char = %x09 / %x20-26 / %x28-7E / non-ascii
 unfoldable pub literalChar : ℕ → Bool
-literalChar b = eqb b 0x09 || (among 0x20 0x26 b || (among 0x28 0x7E b || leb 0x80 b))
+literalChar b = eqb b 0x09 || (among 0x20 0x26 b || (among 0x28 0x7E b || nonAscii b))
 
 -- mll-char = %x09 / %x20-26 / %x28-7E / non-ascii
 unfoldable pub mllChar : ℕ → Bool
-mllChar b = eqb b 0x09 || (among 0x20 0x26 b || (among 0x28 0x7E b || leb 0x80 b))
+mllChar b = eqb b 0x09 || (among 0x20 0x26 b || (among 0x28 0x7E b || nonAscii b))
 
 -- basic-unescaped = wschar / %x21 / %x23-5B / %x5D-7E / non-ascii
 unfoldable pub basicUnescaped : ℕ → Bool
 basicUnescaped b =
-    (eqb b 0x20 || eqb b 0x09) || (eqb b 0x21 || (among 0x23 0x5B b || (among 0x5D 0x7E b || leb 0x80 b)))
+    (eqb b 0x20 || eqb b 0x09) || (eqb b 0x21 || (among 0x23 0x5B b || (among 0x5D 0x7E b || nonAscii b)))
 
 -- mlb-unescaped = wschar / %x21 / %x23-5B / %x5D-7E / non-ascii
 unfoldable pub mlbUnescaped : ℕ → Bool
 mlbUnescaped b =
-    (eqb b 0x20 || eqb b 0x09) || (eqb b 0x21 || (among 0x23 0x5B b || (among 0x5D 0x7E b || leb 0x80 b)))
+    (eqb b 0x20 || eqb b 0x09) || (eqb b 0x21 || (among 0x23 0x5B b || (among 0x5D 0x7E b || nonAscii b)))
 
 -- DIGIT = %x30-39 ; 0-9
 unfoldable pub digit : ℕ → Bool

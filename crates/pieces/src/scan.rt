@@ -5,7 +5,7 @@ ghost use mathlib.Core.Bool.{true};
 ghost use Prim.Native.Nat.{_+_, _<_, _≤_};
 ghost use lib.ListN.{length, drop, getD};
 ghost use Rattle.classes.specs.Runs.{run};
-ghost use Rattle.classes.proofs.RunLaws.{Block};
+ghost use Rattle.classes.proofs.RunLaws.{Block, SameEnd};
 ghost use Rattle.strings.specs.Encodings.{mllPlain, mlbPlain, basicInvalid, mlbInvalid, plain};
 ghost use Rattle.pieces.specs.Scan.{setOf, Wide, stopsOf, NoneSet};
 use classes::is_basic_unescaped;
@@ -111,7 +111,7 @@ pub(crate) fn run_from(set: Set, s: &[u8], start: usize) -> usize
 // the compiler makes a loop of its own for it, with that encoding's bytes as constants.
 pub(crate) fn plain_blocks(e: Encoding, s: &[u8], start: usize, n: usize) -> usize
     requires { ⌜ Wide e × (start ≤ length (now s)) × (0 < n) ⌝ }
-    ensures { λ r. ⌜ (r ≤ length (now (s .entry))) × (r + run (plain e) (drop r (now (s .entry))) ≡ start + run (plain e) (drop start (now (s .entry)))) ⌝ }
+    ensures { λ r. ⌜ SameEnd (plain e) (now (s .entry)) start r ⌝ }
 {
     let mut i = start;
     while n <= s.len() - i {

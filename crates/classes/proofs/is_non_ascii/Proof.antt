@@ -1,12 +1,10 @@
 -- `is_non_ascii` is right because its test is the definition's.
 -- Assumes nothing.
 use mathlib.Core.Path.{refl}
-use Rattle.classes.specs.Classes.{nonAscii}
 use Rattle.classes.proofs.is_non_ascii.Statement.{statement}
 use Rattle.classes.proofs.is_non_ascii.Tie as tie
 
 returns : tie.Need-returns
-unfolding nonAscii
 returns c = refl
 
 pub is-non-ascii-spec : {M : Type 1} → statement M

@@ -1,17 +1,16 @@
 -- `plain_blocks` is right because each block passed leaves the end of the run where it was.
 -- Assumes nothing.
-use Prim.Native.Nat.{_+_, _-_, _≤_}
-use mathlib.Core.Path.{_≡_}
+use Prim.Native.Nat.{_-_}
 use native.Mathlib.Omega.{arith}
 use borrow.Author.Tests.{not-false}
-use lib.ListN.{length, drop}
-use Rattle.classes.specs.Runs.{run}
+use lib.ListN.{length}
+use Rattle.classes.proofs.RunLaws.{SameEnd}
 use Rattle.strings.specs.Encodings.{plain}
 use Rattle.pieces.proofs.scan.plain_blocks.Statement.{statement}
 use Rattle.pieces.proofs.scan.plain_blocks.Tie as tie
 
 abbrev Inv-loop : tie.InvT-loop
-Inv-loop e s start n i₀ i = (i ≤ length s) × (i + run (plain e) (drop i s) ≡ start + run (plain e) (drop start s))
+Inv-loop e s start n i₀ i = SameEnd (plain e) s start i
 
 abbrev μ-loop : tie.MeasureT-loop
 μ-loop e s start n i₀ i = length s - i

@@ -1,19 +1,18 @@
 -- `run_from` is right because a byte of the set does not move the end of the run.
 -- Assumes nothing.
-use Prim.Native.Nat.{_+_, _-_, _≤_}
-use mathlib.Core.Path.{_≡_, sym, _∙_}
+use Prim.Native.Nat.{_-_}
+use mathlib.Core.Path.{sym, _∙_}
 use native.Mathlib.Omega.{arith}
 use borrow.Author.Needs.{needs}
 use borrow.Author.Tests.{not-false, not-true}
-use lib.ListN.{length, drop, set}
-use Rattle.classes.specs.Runs.{run}
-use Rattle.classes.proofs.RunLaws.{run-step, run-stop, run-end}
+use lib.ListN.{length}
+use Rattle.classes.proofs.RunLaws.{SameEnd, run-step, run-stop, run-end}
 use Rattle.pieces.specs.Scan.{setOf}
 use Rattle.pieces.proofs.scan.run_from.Statement.{statement}
 use Rattle.pieces.proofs.scan.run_from.Tie as tie
 
 abbrev Inv-loop : tie.InvT-loop
-Inv-loop set s start i₀ i = (i ≤ length s) × (i + run (setOf set) (drop i s) ≡ start + run (setOf set) (drop start s))
+Inv-loop set s start i₀ i = SameEnd (setOf set) s start i
 
 abbrev μ-loop : tie.MeasureT-loop
 μ-loop set s start i₀ i = length s - i
