@@ -54,23 +54,24 @@ module _ (p : ℕ → Bool) (s : List ℕ) (i : ℕ) where
   pub block-end : (j n : ℕ) → j ≡ n → Block p s i j → Block p s i n
   block-end j n e b = subst (λ (k : ℕ). Block p s i k) e b
 
--- r is a place of s, and from it on the run ends where it does from `start` on
-abbrev pub SameEnd : (ℕ → Bool) → List ℕ → ℕ → ℕ → Type 0
-SameEnd p s start r = (r ≤ length s) × (r + run p (drop r s) ≡ start + run p (drop start s))
+-- r is a place of s from which a scan goes on as from `start`: it ends at the same place; `reach` is how far it reaches from the
+-- front of a list
+abbrev pub SameEnd : (List ℕ → ℕ) → List ℕ → ℕ → ℕ → Type 0
+SameEnd reach s start r = (r ≤ length s) × (r + reach (drop r s) ≡ start + reach (drop start s))
 
--- what a loop over the run shows: it begins at the start, a block or a byte leaves the end where it was, and where
+-- what a loop over a run shows: it begins at the start, a block or a byte leaves the end where it was, and where
 -- nothing is left of the run its end is reached
 module _ (p : ℕ → Bool) (s : List ℕ) (start : ℕ) where
-  pub same-end-start : start ≤ length s → SameEnd p s start start
+  pub same-end-start : start ≤ length s → SameEnd (run p) s start start
   same-end-start h = (h, refl)
 
-  pub same-end-block : (i n : ℕ) → i + n ≤ length s → Block p s i n → SameEnd p s start i → SameEnd p s start (i + n)
+  pub same-end-block : (i n : ℕ) → i + n ≤ length s → Block p s i n → SameEnd (run p) s start i → SameEnd (run p) s start (i + n)
   same-end-block i n h b e = (h, omega arith)
 
-  pub same-end-byte : (i : ℕ) → i < length s → p (getD s i 0) ≡ true → SameEnd p s start i → SameEnd p s start (i + 1)
+  pub same-end-byte : (i : ℕ) → i < length s → p (getD s i 0) ≡ true → SameEnd (run p) s start i → SameEnd (run p) s start (i + 1)
   same-end-byte i h t e = (omega arith, omega (arith, run-step p s i h t))
 
-  pub same-end-reached : (r : ℕ) → run p (drop r s) ≡ 0 → SameEnd p s start r → r ≡ start + run p (drop start s)
+  pub same-end-reached : (r : ℕ) → run p (drop r s) ≡ 0 → SameEnd (run p) s start r → r ≡ start + run p (drop start s)
   same-end-reached r z e = omega arith
 
 -- a run that is empty, and one that is not, by the first byte

@@ -111,7 +111,7 @@ pub(crate) fn run_from(set: Set, s: &[u8], start: usize) -> usize
 // the compiler makes a loop of its own for it, with that encoding's bytes as constants.
 pub(crate) fn plain_blocks(e: Encoding, s: &[u8], start: usize, n: usize) -> usize
     requires { ⌜ Wide e × (start ≤ length (now s)) × (0 < n) ⌝ }
-    ensures { λ r. ⌜ SameEnd (plain e) (now (s .entry)) start r ⌝ }
+    ensures { λ r. ⌜ SameEnd (run (plain e)) (now (s .entry)) start r ⌝ }
 {
     let mut i = start;
     while n <= s.len() - i {

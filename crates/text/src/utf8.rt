@@ -73,7 +73,7 @@ fn ascii_run(s: &[u8], start: usize) -> usize
 // Blocks of n ASCII bytes, passed over.
 fn ascii_blocks(s: &[u8], start: usize, n: usize) -> usize
     requires { ⌜ (start ≤ length (now s)) × (0 < n) ⌝ }
-    ensures { λ r. ⌜ SameEnd ascii (now (s .entry)) start r ⌝ }
+    ensures { λ r. ⌜ SameEnd (run ascii) (now (s .entry)) start r ⌝ }
 {
     let mut i = start;
     while n <= s.len() - i {

@@ -4,13 +4,14 @@ use Prim.Native.Nat.{_-_}
 use native.Mathlib.Omega.{arith}
 use borrow.Author.Tests.{not-false}
 use lib.ListN.{length}
+use Rattle.classes.specs.Runs.{run}
 use Rattle.classes.proofs.RunLaws.{SameEnd}
 use Rattle.strings.specs.Encodings.{plain}
 use Rattle.pieces.proofs.scan.plain_blocks.Statement.{statement}
 use Rattle.pieces.proofs.scan.plain_blocks.Tie as tie
 
 abbrev Inv-loop : tie.InvT-loop
-Inv-loop e s start n i₀ i = SameEnd (plain e) s start i
+Inv-loop e s start n i₀ i = SameEnd (run (plain e)) s start i
 
 abbrev μ-loop : tie.MeasureT-loop
 μ-loop e s start n i₀ i = length s - i

@@ -6,13 +6,14 @@ use native.Mathlib.Omega.{arith}
 use borrow.Author.Needs.{needs}
 use borrow.Author.Tests.{not-false, not-true}
 use lib.ListN.{length}
+use Rattle.classes.specs.Runs.{run}
 use Rattle.classes.proofs.RunLaws.{SameEnd, run-step, run-stop, run-end}
 use Rattle.pieces.specs.Scan.{setOf}
 use Rattle.pieces.proofs.scan.run_from.Statement.{statement}
 use Rattle.pieces.proofs.scan.run_from.Tie as tie
 
 abbrev Inv-loop : tie.InvT-loop
-Inv-loop set s start i₀ i = SameEnd (setOf set) s start i
+Inv-loop set s start i₀ i = SameEnd (run (setOf set)) s start i
 
 abbrev μ-loop : tie.MeasureT-loop
 μ-loop set s start i₀ i = length s - i

@@ -5,12 +5,13 @@ use native.Mathlib.Omega.{arith}
 use borrow.Author.Tests.{not-false}
 use lib.ListN.{length}
 use Rattle.text.specs.Utf8Read.{ascii}
+use Rattle.classes.specs.Runs.{run}
 use Rattle.classes.proofs.RunLaws.{SameEnd, same-end-start, same-end-block}
 use Rattle.text.proofs.utf8.ascii_blocks.Statement.{statement}
 use Rattle.text.proofs.utf8.ascii_blocks.Tie as tie
 
 abbrev Inv-loop : tie.InvT-loop
-Inv-loop s start n i₀ i = SameEnd ascii s start i
+Inv-loop s start n i₀ i = SameEnd (run ascii) s start i
 
 abbrev μ-loop : tie.MeasureT-loop
 μ-loop s start n i₀ i = length s - i

@@ -5,12 +5,13 @@ use native.Mathlib.Omega.{arith}
 use borrow.Author.Tests.{lt-ltb, le-ltb}
 use lib.ListN.{length}
 use Rattle.text.specs.Utf8Read.{ascii}
+use Rattle.classes.specs.Runs.{run}
 use Rattle.classes.proofs.RunLaws.{run-stop, run-end, SameEnd, same-end-byte, same-end-reached}
 use Rattle.text.proofs.utf8.ascii_run.Statement.{statement}
 use Rattle.text.proofs.utf8.ascii_run.Tie as tie
 
 abbrev Inv-loop : tie.InvT-loop
-Inv-loop s start wide i₀ i = SameEnd ascii s start i
+Inv-loop s start wide i₀ i = SameEnd (run ascii) s start i
 
 abbrev μ-loop : tie.MeasureT-loop
 μ-loop s start wide i₀ i = length s - i
