@@ -14,10 +14,8 @@ use Rattle.lexer.specs.Steps.{startAnswer, stepOf, cursorOf}
 use Rattle.lexer.specs.Whole.{lexAnswer, lexMemory}
 use Rattle.place.specs.Spans.{spanAnswer}
 use Rattle.place.specs.Positions.{positionAnswer}
-use Rattle.strings.specs.Encodings.{choiceBy}
-use Rattle.strings.specs.Decoding.{decodeIn, bytesBy, errorsBy, after}
 use Rattle.toml.specs.Numbers.{flag, checkNumbers, startNumbers, stepNumbers, lexNumbers, spanNumbers, partOf}
-use Rattle.toml.specs.Numbers.{positionNumbers, decodeNumbers, describedNumbers, encodedNumbers}
+use Rattle.toml.specs.Numbers.{positionNumbers, decodeAnswer, outputAfter, errorsAfter, describedNumbers, encodedNumbers}
 use Rattle.toml.specs.declared.Answered.{Answered}
 use Rattle.toml.specs.declared.Started.{Started}
 use Rattle.toml.specs.declared.Stepped.{Stepped}
@@ -39,10 +37,12 @@ toml-step doc place ended line = only-equal (stepNumbers (stepOf doc (cursorOf p
 
 -- the answer, and the records afterwards
 pub toml-lex : (doc : List ℕ) (old : List (List ℕ))
-    → Only (λ (r : Answered). r ≡ lexNumbers (lexAnswer doc (length old))) × Only (λ (new : List (List ℕ)). new ≡ lexMemory doc old)
+    → Only (λ (r : Answered). r ≡ lexNumbers (lexAnswer doc (length old)))
+    × Only (λ (new : List (List ℕ)). new ≡ lexMemory doc old)
 toml-lex doc old = (only-equal (lexNumbers (lexAnswer doc (length old))), only-equal (lexMemory doc old))
 
-pub toml-check-span : (doc : List ℕ) (start end : ℕ) → Only (λ (r : Answered). r ≡ spanNumbers (spanAnswer doc (spanOf start end)))
+pub toml-check-span : (doc : List ℕ) (start end : ℕ)
+    → Only (λ (r : Answered). r ≡ spanNumbers (spanAnswer doc (spanOf start end)))
 toml-check-span doc start end = only-equal (spanNumbers (spanAnswer doc (spanOf start end)))
 
 -- the first clause already admits one answer
@@ -54,20 +54,19 @@ toml-position doc offset = only-equal (positionNumbers (positionAnswer doc offse
 
 -- the answer, the output and the error records afterwards
 pub toml-decode-in : (text : List ℕ) (edition kind : ℕ) (output : List ℕ) (errors : List (List ℕ))
-    → Only (λ (r : DecodedText). r ≡ decodeNumbers (decodeIn text edition kind (length output) (length errors)))
-    × (Only (λ (new : List ℕ). new ≡ after (decodeIn text edition kind (length output) (length errors)) (bytesBy (choiceBy edition kind) text) output)
-    × Only (λ (new : List (List ℕ)). new ≡ after (decodeIn text edition kind (length output) (length errors)) (errorsBy (choiceBy edition kind) text) errors))
-toml-decode-in text edition kind output errors =
-    let d = decodeIn text edition kind (length output) (length errors) in (
-      only-equal (decodeNumbers d),
-      (only-equal (after d (bytesBy (choiceBy edition kind) text) output), only-equal (after d (errorsBy (choiceBy edition kind) text) errors)),
-    )
+    → Only (λ (r : DecodedText). r ≡ decodeAnswer text edition kind output errors)
+    × (Only (λ (new : List ℕ). new ≡ outputAfter text edition kind output errors)
+    × Only (λ (new : List (List ℕ)). new ≡ errorsAfter text edition kind output errors))
+toml-decode-in text edition kind output errors = (
+  only-equal (decodeAnswer text edition kind output errors),
+  (only-equal (outputAfter text edition kind output errors), only-equal (errorsAfter text edition kind output errors)),
+)
 
 -- the same for a call that names no edition, which reads TOML 1.0
 pub toml-decode : (text : List ℕ) (kind : ℕ) (output : List ℕ) (errors : List (List ℕ))
-    → Only (λ (r : DecodedText). r ≡ decodeNumbers (decodeIn text 10 kind (length output) (length errors)))
-    × (Only (λ (new : List ℕ). new ≡ after (decodeIn text 10 kind (length output) (length errors)) (bytesBy (choiceBy 10 kind) text) output)
-    × Only (λ (new : List (List ℕ)). new ≡ after (decodeIn text 10 kind (length output) (length errors)) (errorsBy (choiceBy 10 kind) text) errors))
+    → Only (λ (r : DecodedText). r ≡ decodeAnswer text 10 kind output errors)
+    × (Only (λ (new : List ℕ). new ≡ outputAfter text 10 kind output errors)
+    × Only (λ (new : List (List ℕ)). new ≡ errorsAfter text 10 kind output errors))
 toml-decode text kind output errors = toml-decode-in text 10 kind output errors
 
 pub toml-description : (kind : ℕ) → Only (λ (r : Described). r ≡ describedNumbers (descriptionOf kind))

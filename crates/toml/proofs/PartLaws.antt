@@ -3,22 +3,19 @@
 use Prim.Native.Nat.{ℕ}
 use mathlib.Core.Path.{_≡_, refl, ap, _∙_}
 use mathlib.Core.List.{List}
-use lib.ListN.{take, drop}
 use Rattle.token.specs.Records.{spanOf}
 use Rattle.place.specs.Spans.{spanAnswer, textChecked, spanText}
 use Rattle.place.specs.declared.SpanCheck.{SpanCheck}
 use Rattle.place.specs.declared.SpanCheck.the-variants.{Whole, Refused}
-use Rattle.toml.specs.Numbers.{partOf}
+use Rattle.toml.specs.Numbers.{partOf, partText}
 use Rattle.toml.specs.declared.Part.{Part}
 
-abbrev textIn : List ℕ → Part → List ℕ
-textIn doc p = take (p .length) (drop (p .start) doc)
-
-part-text : (doc : List ℕ) (start end : ℕ) (s : SpanCheck) → textIn doc (partOf s start end) ≡ textChecked s doc (spanOf start end)
+part-text : (doc : List ℕ) (start end : ℕ) (s : SpanCheck)
+    → partText doc (partOf s start end) ≡ textChecked s doc (spanOf start end)
 part-text doc start end Whole = refl
 part-text doc start end (Refused r) = refl
 
 pub parted : (doc : List ℕ) (start end : ℕ) (r : Part) → r ≡ partOf (spanAnswer doc (spanOf start end)) start end
-    → (r ≡ partOf (spanAnswer doc (spanOf start end)) start end) × (textIn doc r ≡ spanText doc (spanOf start end))
+    → (r ≡ partOf (spanAnswer doc (spanOf start end)) start end) × (partText doc r ≡ spanText doc (spanOf start end))
 unfolding spanText
-parted doc start end r e = (e, ap (textIn doc) e ∙ part-text doc start end (spanAnswer doc (spanOf start end)))
+parted doc start end r e = (e, ap (partText doc) e ∙ part-text doc start end (spanAnswer doc (spanOf start end)))

@@ -3,7 +3,9 @@
 -- Assumes nothing.
 use Prim.Native.Nat.{ℕ, _-_}
 use mathlib.Core.Bool.{Bool, true, false, not}
+use mathlib.Core.List.{List}
 use lib.Dec.{eqb}
+use lib.ListN.{length, take, drop}
 use Rattle.text.specs.Refusals.{refusalNumber, refusalValue, refusalLength}
 use Rattle.text.specs.declared.refusal.Refusal.{Refusal}
 use Rattle.text.specs.declared.utf8.Utf8Check.{Utf8Check}
@@ -25,6 +27,8 @@ use Rattle.place.specs.declared.SpanCheck.{SpanCheck}
 use Rattle.place.specs.declared.SpanCheck.the-variants.{Whole, Refused as Misplaced}
 use Rattle.place.specs.declared.Position.{Position}
 use Rattle.place.specs.declared.Position.the-variants.{At as Placed, Refused as Unplaced}
+use Rattle.strings.specs.Encodings.{choiceBy}
+use Rattle.strings.specs.Decoding.{decodeIn, bytesBy, errorsBy, after}
 use Rattle.strings.specs.declared.Decoded.{Decoded}
 use Rattle.strings.specs.declared.Decoded.the-variants.{Written, Refused as Undecoded}
 use Rattle.toml.specs.declared.Answered.{Answered}
@@ -105,6 +109,10 @@ abbrev pub partOf : SpanCheck → ℕ → ℕ → Part
 partOf Whole start end = partFrom start end
 partOf (Misplaced r) start end = record { start = 0; length = 0 }
 
+-- the bytes of a part
+abbrev pub partText : List ℕ → Part → List ℕ
+partText doc p = take (p .length) (drop (p .start) doc)
+
 -- line and column
 abbrev pub positionNumbers : Position → Positioned
 positionNumbers (Placed line column) = record { answer = given 0; line = line; column = column }
@@ -114,6 +122,19 @@ positionNumbers (Unplaced r) = record { answer = refusedBy r; line = 0; column =
 abbrev pub decodeNumbers : Decoded → DecodedText
 decodeNumbers (Written bytes errors) = record { answer = given bytes; errors = errors }
 decodeNumbers (Undecoded r) = record { answer = refusedBy r; errors = 0 }
+
+-- decode a text of an edition and a kind into lent memory that held `output` and `errors`: the answer, and what each of the
+-- two holds afterwards
+abbrev pub decodeAnswer : List ℕ → ℕ → ℕ → List ℕ → List (List ℕ) → DecodedText
+decodeAnswer text edition kind output errors = decodeNumbers (decodeIn text edition kind (length output) (length errors))
+
+abbrev pub outputAfter : List ℕ → ℕ → ℕ → List ℕ → List (List ℕ) → List ℕ
+outputAfter text edition kind output errors =
+    after (decodeIn text edition kind (length output) (length errors)) (bytesBy (choiceBy edition kind) text) output
+
+abbrev pub errorsAfter : List ℕ → ℕ → ℕ → List ℕ → List (List ℕ) → List (List ℕ)
+errorsAfter text edition kind output errors =
+    after (decodeIn text edition kind (length output) (length errors)) (errorsBy (choiceBy edition kind) text) errors
 
 -- description and encoding of a kind
 abbrev pub toldBy : Answer → Answered

@@ -1,7 +1,7 @@
 // What C and Rust link: every call as an exported function, its answer in numbers. Each makes the
 // call and spells its answer; include/toml.h says the same in words. Rule: specs/Numbers.antt.
 ghost use mathlib.Core.Path.{_≡_};
-ghost use lib.ListN.{length, take, drop};
+ghost use lib.ListN.{length};
 ghost use Rattle.text.specs.Answers.{checkOf};
 ghost use Rattle.token.specs.Descriptions.{descriptionOf};
 ghost use Rattle.token.specs.Encodings.{encodingOf};
@@ -10,11 +10,9 @@ ghost use Rattle.lexer.specs.Steps.{startAnswer, stepOf, cursorOf};
 ghost use Rattle.lexer.specs.Whole.{lexAnswer, lexMemory};
 ghost use Rattle.place.specs.Spans.{spanAnswer, spanText};
 ghost use Rattle.place.specs.Positions.{positionAnswer};
-ghost use Rattle.strings.specs.Encodings.{choiceOf, choiceBy};
-ghost use Rattle.strings.specs.Decoding.{decodeOf, decodeIn, bytesBy, errorsBy, after};
 ghost use Rattle.toml.specs.Numbers.{bitOf, flag, given, refusedBy, toldBy, cursorNumbers, noToken, partFrom};
-ghost use Rattle.toml.specs.Numbers.{checkNumbers, startNumbers, stepNumbers, lexNumbers, spanNumbers, partOf};
-ghost use Rattle.toml.specs.Numbers.{positionNumbers, decodeNumbers, describedNumbers, encodedNumbers};
+ghost use Rattle.toml.specs.Numbers.{checkNumbers, startNumbers, stepNumbers, lexNumbers, spanNumbers, partOf, partText};
+ghost use Rattle.toml.specs.Numbers.{positionNumbers, decodeAnswer, outputAfter, errorsAfter, describedNumbers, encodedNumbers};
 use lexer::Cursor;
 use lexer::Lexed;
 use lexer::Start;
@@ -183,7 +181,7 @@ pub extern "C" fn toml_check_span(doc: &[u8], start: usize, end: usize) -> Answe
 #[no_mangle]
 pub extern "C" fn toml_text(doc: &[u8], start: usize, end: usize) -> Part
     ensures answer { λ r. ⌜ r ≡ partOf (spanAnswer (now (doc .entry)) (spanOf start end)) start end ⌝ }
-    ensures text { λ r. ⌜ take (r .length) (drop (r .start) (now (doc .entry))) ≡ spanText (now (doc .entry)) (spanOf start end) ⌝ }
+    ensures text { λ r. ⌜ partText (now (doc .entry)) r ≡ spanText (now (doc .entry)) (spanOf start end) ⌝ }
 {
     match place::check_span(doc, Span::new(start, end)) {
         SpanCheck::Whole => part_from(start, end),
@@ -219,9 +217,11 @@ pub extern "C" fn toml_decode(
     output: &mut [u8],
     errors: &mut [[usize; 3]],
 ) -> DecodedText
-    ensures answer { λ r. ⌜ r ≡ decodeNumbers (decodeOf (now (text .entry)) kind (length (now (output .entry))) (length (now (errors .entry)))) ⌝ }
-    ensures bytes { λ _. ⌜ now (output .exit) ≡ after (decodeOf (now (text .entry)) kind (length (now (output .entry))) (length (now (errors .entry)))) (bytesBy (choiceOf kind) (now (text .entry))) (now (output .entry)) ⌝ }
-    ensures records { λ _. ⌜ now (errors .exit) ≡ after (decodeOf (now (text .entry)) kind (length (now (output .entry))) (length (now (errors .entry)))) (errorsBy (choiceOf kind) (now (text .entry))) (now (errors .entry)) ⌝ }
+    ensures answer { λ r. ⌜ r ≡ decodeAnswer (now (text .entry)) 10 kind (now (output .entry)) (now (errors .entry)) ⌝ }
+    ensures bytes { λ _. ⌜ now (output .exit)
+        ≡ outputAfter (now (text .entry)) 10 kind (now (output .entry)) (now (errors .entry)) ⌝ }
+    ensures records { λ _. ⌜ now (errors .exit)
+        ≡ errorsAfter (now (text .entry)) 10 kind (now (output .entry)) (now (errors .entry)) ⌝ }
 {
     toml_decode_in(text, TOML_10, kind, output, errors)
 }
@@ -238,9 +238,11 @@ pub extern "C" fn toml_decode_in(
     output: &mut [u8],
     errors: &mut [[usize; 3]],
 ) -> DecodedText
-    ensures answer { λ r. ⌜ r ≡ decodeNumbers (decodeIn (now (text .entry)) edition kind (length (now (output .entry))) (length (now (errors .entry)))) ⌝ }
-    ensures bytes { λ _. ⌜ now (output .exit) ≡ after (decodeIn (now (text .entry)) edition kind (length (now (output .entry))) (length (now (errors .entry)))) (bytesBy (choiceBy edition kind) (now (text .entry))) (now (output .entry)) ⌝ }
-    ensures records { λ _. ⌜ now (errors .exit) ≡ after (decodeIn (now (text .entry)) edition kind (length (now (output .entry))) (length (now (errors .entry)))) (errorsBy (choiceBy edition kind) (now (text .entry))) (now (errors .entry)) ⌝ }
+    ensures answer { λ r. ⌜ r ≡ decodeAnswer (now (text .entry)) edition kind (now (output .entry)) (now (errors .entry)) ⌝ }
+    ensures bytes { λ _. ⌜ now (output .exit)
+        ≡ outputAfter (now (text .entry)) edition kind (now (output .entry)) (now (errors .entry)) ⌝ }
+    ensures records { λ _. ⌜ now (errors .exit)
+        ≡ errorsAfter (now (text .entry)) edition kind (now (output .entry)) (now (errors .entry)) ⌝ }
 {
     match decoder::decode_in(text, edition, kind, output, errors) {
         Decoded::Written { bytes, errors } => DecodedText {

@@ -25,10 +25,16 @@ refused-requires : tie.Need-refused-requires
 refused-requires c κs = search needs
 
 returns : tie.Need-returns
-returns c = rw (c .answer-of .ensures) (ap spanNumbers (sym (c .before .enum-told .given .1) ∙ rw (c .before .before .before .before .new .ensures) at (c .before .before .before .check-span .ensures .0)))
+returns c =
+    let answer = rw (c .before .before .before .before .new .ensures) at (c .before .before .before .check-span .ensures .0) in
+    let check = sym (c .before .enum-told .given .1) ∙ answer in
+    rw (c .answer-of .ensures) (ap spanNumbers check)
 
 returns-2 : tie.Need-returns-2
-returns-2 c = rw (c .refused .ensures) (ap spanNumbers (sym (c .before .before .r .given .1) ∙ rw (c .before .before .before .before .before .new .ensures) at (c .before .before .before .before .check-span .ensures .0)))
+returns-2 c =
+    let answer = rw (c .before .before .before .before .before .new .ensures) at (c .before .before .before .before .check-span .ensures .0) in
+    let check = sym (c .before .before .r .given .1) ∙ answer in
+    rw (c .refused .ensures) (ap spanNumbers check)
 
 pub toml-check-span-spec : {M : Type 1} → statement M
 toml-check-span-spec =

@@ -22,10 +22,14 @@ refused-requires : tie.Need-refused-requires
 refused-requires c κs = search needs
 
 returns : tie.Need-returns
-returns c = rw (c .answer-of .ensures) (ap checkNumbers (sym (c .before .enum-told .given .1) ∙ c .before .before .before .check-utf8 .ensures .0))
+returns c =
+    let check = sym (c .before .enum-told .given .1) ∙ c .before .before .before .check-utf8 .ensures .0 in
+    rw (c .answer-of .ensures) (ap checkNumbers check)
 
 returns-2 : tie.Need-returns-2
-returns-2 c = rw (c .refused .ensures) (ap checkNumbers (sym (c .before .before .r .given .1) ∙ c .before .before .before .before .check-utf8 .ensures .0))
+returns-2 c =
+    let check = sym (c .before .before .r .given .1) ∙ c .before .before .before .before .check-utf8 .ensures .0 in
+    rw (c .refused .ensures) (ap checkNumbers check)
 
 pub toml-check-utf8-spec : {M : Type 1} → statement M
 toml-check-utf8-spec =

@@ -1,4 +1,5 @@
--- `toml_decode_in` is right because the decoder's answer is spelled case by case, and the lent memory is as the decoder leaves it.
+-- `toml_decode_in` is right because the decoder's answer is spelled case by case, and the lent memory is as the decoder
+-- leaves it.
 -- Assumes nothing.
 use mathlib.Core.Path.{sym, ap, _∙_}
 use Rattle.toml.specs.Numbers.{decodeNumbers}
@@ -28,7 +29,12 @@ same-length-2 : tie.Need-same-length-2
 same-length-2 c = search needs
 
 returns : tie.Need-returns
-returns c = let e = c .before .before .before .before .before .before .before .decode-in .ensures .0 in (rw (c .answer-of .ensures) (ap decodeNumbers (sym (c .before .before .bytes .given .1) ∙ e)), (rw e at (c .before .before .before .before .before .before .before .decode-in .ensures .1 .0), rw e at (c .before .before .before .before .before .before .before .decode-in .ensures .1 .1 .0)))
+returns c =
+    let decode = c .before .before .before .before .before .before .before .decode-in .ensures in
+    let decoded = sym (c .before .before .bytes .given .1) ∙ decode .0 in (
+      rw (c .answer-of .ensures) (ap decodeNumbers decoded),
+      (rw (decode .0) at (decode .1 .0), rw (decode .0) at (decode .1 .1 .0)),
+    )
 
 same-length-3 : tie.Need-same-length-3
 same-length-3 c = search needs
@@ -37,7 +43,12 @@ same-length-4 : tie.Need-same-length-4
 same-length-4 c = search needs
 
 returns-2 : tie.Need-returns-2
-returns-2 c = let e = c .before .before .before .before .before .before .before .decode-in .ensures .0 in (rw (c .refused .ensures) (ap decodeNumbers (sym (c .before .before .r .given .1) ∙ e)), (rw e at (c .before .before .before .before .before .before .before .decode-in .ensures .1 .0), rw e at (c .before .before .before .before .before .before .before .decode-in .ensures .1 .1 .0)))
+returns-2 c =
+    let decode = c .before .before .before .before .before .before .before .decode-in .ensures in
+    let decoded = sym (c .before .before .r .given .1) ∙ decode .0 in (
+      rw (c .refused .ensures) (ap decodeNumbers decoded),
+      (rw (decode .0) at (decode .1 .0), rw (decode .0) at (decode .1 .1 .0)),
+    )
 
 pub toml-decode-in-spec : {M : Type 1} → statement M
 toml-decode-in-spec =

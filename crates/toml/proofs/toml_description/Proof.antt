@@ -1,6 +1,6 @@
 -- `toml_description` is right because it spells the description, field by field.
 -- Assumes nothing.
-use mathlib.Core.Path.{sym, ap, _∙_}
+use mathlib.Core.Path.{ap}
 use Rattle.toml.specs.Numbers.{describedNumbers}
 use borrow.Author.Needs.{needs}
 use Rattle.toml.proofs.toml_description.Statement.{statement}

@@ -1,6 +1,6 @@
 -- `toml_encoding` is right because it spells the encoding, field by field.
 -- Assumes nothing.
-use mathlib.Core.Path.{sym, ap, _∙_}
+use mathlib.Core.Path.{ap}
 use Rattle.toml.specs.Numbers.{encodedNumbers}
 use borrow.Author.Needs.{needs}
 use Rattle.toml.proofs.toml_encoding.Statement.{statement}

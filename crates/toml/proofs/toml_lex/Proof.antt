@@ -25,13 +25,19 @@ same-length : tie.Need-same-length
 same-length c = search needs
 
 returns : tie.Need-returns
-returns c = (rw (c .answer-of .ensures) (ap lexNumbers (sym (c .before .before .n .given .1) ∙ c .before .before .before .before .before .lex .ensures .0)), c .before .before .before .before .before .lex .ensures .1 .1 .1 .1)
+returns c =
+    let lex = c .before .before .before .before .before .lex .ensures in
+    let lexed = sym (c .before .before .n .given .1) ∙ lex .0 in
+    (rw (c .answer-of .ensures) (ap lexNumbers lexed), lex .1 .1 .1 .1)
 
 same-length-2 : tie.Need-same-length-2
 same-length-2 c = search needs
 
 returns-2 : tie.Need-returns-2
-returns-2 c = (rw (c .refused .ensures) (ap lexNumbers (sym (c .before .before .r .given .1) ∙ c .before .before .before .before .before .lex .ensures .0)), c .before .before .before .before .before .lex .ensures .1 .1 .1 .1)
+returns-2 c =
+    let lex = c .before .before .before .before .before .lex .ensures in
+    let lexed = sym (c .before .before .r .given .1) ∙ lex .0 in
+    (rw (c .refused .ensures) (ap lexNumbers lexed), lex .1 .1 .1 .1)
 
 pub toml-lex-spec : {M : Type 1} → statement M
 toml-lex-spec =

@@ -22,10 +22,14 @@ refused-requires : tie.Need-refused-requires
 refused-requires c κs = search needs
 
 returns : tie.Need-returns
-returns c = rw (c .answer-of .ensures) (ap positionNumbers (sym (c .before .before .line .given .1) ∙ c .before .before .before .before .position-of .ensures .0))
+returns c =
+    let position = sym (c .before .before .line .given .1) ∙ c .before .before .before .before .position-of .ensures .0 in
+    rw (c .answer-of .ensures) (ap positionNumbers position)
 
 returns-2 : tie.Need-returns-2
-returns-2 c = rw (c .refused .ensures) (ap positionNumbers (sym (c .before .before .r .given .1) ∙ c .before .before .before .before .position-of .ensures .0))
+returns-2 c =
+    let position = sym (c .before .before .r .given .1) ∙ c .before .before .before .before .position-of .ensures .0 in
+    rw (c .refused .ensures) (ap positionNumbers position)
 
 pub toml-position-spec : {M : Type 1} → statement M
 toml-position-spec =
