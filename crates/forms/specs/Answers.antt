@@ -2,7 +2,7 @@
 -- Assumes nothing.
 use Prim.Native.Nat.{ℕ}
 use mathlib.Core.Bool.{Bool, true, false, cond}
-use mathlib.Core.List.{List, [], _∷_, _++_}
+use mathlib.Core.List.{[], _∷_, _++_}
 use lib.Dec.{eqb}
 use lib.ListN.{take}
 use Rattle.text.specs.declared.refusal.Refusal.{Refusal}
@@ -53,9 +53,10 @@ abbrev pub refusedWhole : Refusal → Answer
 refusedWhole r =
     cond (eqb (refusalNumber r) 1) (threeBy form.Broken 1 (refusalValue r) (refusalLength r)) (refusedAs form.Refused r)
 
-abbrev pub flagOf : Bool → ℕ
-flagOf true = 1
-flagOf false = 0
+-- 1 for yes
+abbrev pub bitOf : Bool → ℕ
+bitOf true = 1
+bitOf false = 0
 
 -- lex: the tokens; lexline: the tokens with their lines; lexcap: 0 and their count
 abbrev pub tokensAs : Lexed → Answer
@@ -95,7 +96,7 @@ spanCheckedAs (Misplaced r) = refusedAs form.Two r
 
 -- start: the cursor; pos: line and column
 abbrev pub startedAs : Start → Answer
-startedAs (At c) = answeredBy form.Four (c .place) (flagOf (c .ended))
+startedAs (At c) = answeredBy form.Four (c .place) (bitOf (c .ended))
 startedAs (Unstarted r) = refusedAs form.Four r
 
 abbrev pub positionedAs : Position → Answer
@@ -105,7 +106,7 @@ positionedAs (Unfound r) = refusedAs form.Four r
 -- step: the token and the next cursor
 abbrev pub nextAs : Token → Cursor → Answer
 nextAs t c =
-    record { form = form.Stepped; numbers = take 3 (recordOf t) ++ (c .place ∷ flagOf (c .ended) ∷ 0 ∷ 0 ∷ 0 ∷ []) }
+    record { form = form.Stepped; numbers = take 3 (recordOf t) ++ (c .place ∷ bitOf (c .ended) ∷ 0 ∷ 0 ∷ 0 ∷ []) }
 
 abbrev pub steppedAs : Step → Answer
 steppedAs (Next t c) = nextAs t c
@@ -115,7 +116,7 @@ steppedAs (Unstepped r) = refusedAs form.NoStep r
 -- stepline: both with their lines
 abbrev pub nextLineAs : Token → Cursor → Answer
 nextLineAs t c =
-    record { form = form.SteppedLine; numbers = recordOf t ++ (c .place ∷ flagOf (c .ended) ∷ c .line ∷ 0 ∷ []) }
+    record { form = form.SteppedLine; numbers = recordOf t ++ (c .place ∷ bitOf (c .ended) ∷ c .line ∷ 0 ∷ []) }
 
 abbrev pub steppedLineAs : Step → Answer
 steppedLineAs (Next t c) = nextLineAs t c

@@ -1,7 +1,10 @@
 // What the result of each call, and a line's fault, come to as an answer: a form and the numbers that
 // fill it. Definitions: specs/Answers.antt.
 ghost use mathlib.Core.Path.{_≡_};
-ghost use Rattle.forms.specs.Answers.{filledBy, answeredBy, threeBy, refusedAs, refusedWhole, tokensAs, tokenLinesAs, tokenCountAs, decodedAs, decodedCountAs, checkedAs, faultedAs, spanCheckedAs, startedAs, positionedAs, steppedAs, steppedLineAs, nextAs, nextLineAs, hexAs, describedAs, faultAs, faultForm, flagOf};
+ghost use Rattle.forms.specs.Answers.{filledBy, answeredBy, threeBy, refusedAs, refusedWhole, bitOf, faultAs, faultForm};
+ghost use Rattle.forms.specs.Answers.{tokensAs, tokenLinesAs, tokenCountAs, decodedAs, decodedCountAs, checkedAs, faultedAs};
+ghost use Rattle.forms.specs.Answers.{spanCheckedAs, startedAs, positionedAs, steppedAs, steppedLineAs, nextAs, nextLineAs};
+ghost use Rattle.forms.specs.Answers.{hexAs, describedAs};
 use asking::Fault;
 use lexer::Cursor;
 use lexer::Lexed;
@@ -143,7 +146,7 @@ pub fn started(start: Start) -> Answer
     ensures { λ r. ⌜ r ≡ startedAs start ⌝ }
 {
     match start {
-        Start::At(cursor) => answered(Form::Four, cursor.place, flag(cursor.ended)),
+        Start::At(cursor) => answered(Form::Four, cursor.place, bit(cursor.ended)),
         Start::Refused(why) => refused(Form::Four, why),
     }
 }
@@ -190,7 +193,7 @@ fn lines_and_next(token: Token, next: Cursor) -> Answer
             record[2],
             record[3],
             next.place,
-            flag(next.ended),
+            bit(next.ended),
             next.line,
             0,
         ],
@@ -208,7 +211,7 @@ fn token_and_next(token: Token, next: Cursor) -> Answer
             record[1],
             record[2],
             next.place,
-            flag(next.ended),
+            bit(next.ended),
             0,
             0,
             0,
@@ -259,8 +262,8 @@ fn fault_form(why: Fault) -> Form
 }
 
 // 1 for yes.
-fn flag(b: bool) -> usize
-    ensures { λ r. ⌜ r ≡ flagOf b ⌝ }
+fn bit(b: bool) -> usize
+    ensures { λ r. ⌜ r ≡ bitOf b ⌝ }
 {
     if b { 1 } else { 0 }
 }

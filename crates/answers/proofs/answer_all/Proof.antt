@@ -1,13 +1,19 @@
 -- `answer_all` is safe, since its memory keeps its length, and ends, since its turns run out.
 -- Assumes nothing.
 use mathlib.Core.Path.{_≡_}
+use mathlib.Core.List.{List}
 use lib.ListN.{length}
 use borrow.Author.Needs.{needs}
 use Rattle.answers.proofs.answer_all.Statement.{statement}
 use Rattle.answers.proofs.answer_all.Tie as tie
 
+-- lent memory keeps its length
+abbrev Same : {A : Type 0} → List A → List A → Type 0
+Same now old = length now ≡ length old
+
 abbrev Inv-loop : tie.InvT-loop
-Inv-loop input₀ line₀ bytes₀ errors₀ tokens₀ reading₀ turns₀ input line bytes errors tokens reading turns = (length input ≡ length input₀) × (length line ≡ length line₀) × (length bytes ≡ length bytes₀) × (length errors ≡ length errors₀) × (length tokens ≡ length tokens₀)
+Inv-loop input₀ line₀ bytes₀ errors₀ tokens₀ reading₀ turns₀ input line bytes errors tokens reading turns =
+    Same input input₀ × Same line line₀ × Same bytes bytes₀ × Same errors errors₀ × Same tokens tokens₀
 
 abbrev μ-loop : tie.MeasureT-loop
 μ-loop input₀ line₀ bytes₀ errors₀ tokens₀ reading₀ turns₀ input line bytes errors tokens reading turns = turns

@@ -1,6 +1,5 @@
 -- `answer_to` is safe: the document is within the line's memory.
 -- Assumes nothing.
-use Prim.Native.Nat.{_-_}
 use native.Mathlib.Omega.{arith}
 use lib.ListN.{length-take}
 use borrow.Author.Needs.{needs}

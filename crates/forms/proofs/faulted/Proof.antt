@@ -32,7 +32,9 @@ returns c = c .three .ensures ∙ ap faultedAs (sym (c .before .enum-told .given
 
 returns-2 : tie.Need-returns-2
 returns-2 c =
-    rw (c .three2 .ensures, c .before .before .before .number .ensures, c .before .before .value .ensures, c .before .length .ensures)
+    let number = c .before .before .before .number .ensures in
+    let value = c .before .before .value .ensures in
+    rw (c .three2 .ensures, number, value, c .before .length .ensures)
     (ap faultedAs (sym (c .before .before .before .before .before .check .given .1)))
 
 pub faulted-spec : {M : Type 1} → statement M

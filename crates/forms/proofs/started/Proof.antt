@@ -9,8 +9,8 @@ use Rattle.forms.proofs.started.Tie as tie
 enum-known-start : tie.Need-enum-known-start
 enum-known-start c = search needs
 
-flag-requires : tie.Need-flag-requires
-flag-requires c κs = search needs
+bit-requires : tie.Need-bit-requires
+bit-requires c κs = search needs
 
 answered-requires : tie.Need-answered-requires
 answered-requires c κs = search needs
@@ -22,7 +22,7 @@ refused-requires : tie.Need-refused-requires
 refused-requires c κs = search needs
 
 returns : tie.Need-returns
-returns c = simp (c .answered .ensures, c .before .flag .ensures, c .before .before .before .start .given .1)
+returns c = simp (c .answered .ensures, c .before .bit .ensures, c .before .before .before .start .given .1)
 
 returns-2 : tie.Need-returns-2
 returns-2 c = c .refused .ensures ∙ ap startedAs (sym (c .before .before .start2 .given .1))
@@ -32,7 +32,7 @@ started-spec =
     tie.close
     (tie.spec
     enum-known-start
-    flag-requires
+    bit-requires
     answered-requires
     enum-known-start-2
     refused-requires

@@ -16,13 +16,13 @@ array-read-t11 c = search needs
 array-read-t14 : tie.Need-array-read-t14
 array-read-t14 c = search needs
 
-flag-requires : tie.Need-flag-requires
-flag-requires c κs = search needs
+bit-requires : tie.Need-bit-requires
+bit-requires c κs = search needs
 
 returns : tie.Need-returns
-returns c = simp (c .before .as-record .ensures, c .flag .ensures)
+returns c = simp (c .before .as-record .ensures, c .bit .ensures)
 
 pub token-and-next-spec : {M : Type 1} → statement M
 token-and-next-spec =
     tie.close
-    (tie.spec as-record-requires array-read-t8 array-read-t11 array-read-t14 flag-requires returns)
+    (tie.spec as-record-requires array-read-t8 array-read-t11 array-read-t14 bit-requires returns)

@@ -1,7 +1,7 @@
 -- `print_records` stays in its buffer because it writes out what it has before a line might not fit.
 -- Assumes nothing.
 use Prim.Native.Nat.{_-_, _≤_}
-use mathlib.Core.Path.{_≡_, refl}
+use mathlib.Core.Path.{_≡_}
 use lib.ListN.{length}
 use borrow.Author.Needs.{needs}
 use Rattle.listing.proofs.print_records.Statement.{statement}

@@ -19,7 +19,8 @@ enum-known-answer c = search needs
 
 lines-requires : tie.Need-lines-requires
 lines-requires c κs =
-    let is = sym (ap (λ (r : LexedEight). r .answer) (c .before .before .before .before .lex-eight .ensures)) ∙ c .before .answer .given .1 in
+    let lexed = ap (λ (r : LexedEight). r .answer) (c .before .before .before .before .lex-eight .ensures) in
+    let is = sym lexed ∙ c .before .answer .given .1 in
     subst (λ (r : Lexed). writesOf r ≤ 8) is (writes-fit _ eightBlank)
 
 enum-known-answer-2 : tie.Need-enum-known-answer-2

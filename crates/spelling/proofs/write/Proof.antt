@@ -1,6 +1,5 @@
 -- `write` is safe: it writes a part of the buffer that is within it.
 -- Assumes nothing.
-use Prim.Native.Nat.{_-_}
 use native.Mathlib.Omega.{arith}
 use lib.ListN.{length-take}
 use borrow.Author.Needs.{needs}

@@ -1,6 +1,5 @@
 -- `calls::deccap` is safe: it lends no more bytes and records than there are.
 -- Assumes nothing.
-use Prim.Native.Nat.{_-_}
 use native.Mathlib.Omega.{arith}
 use lib.ListN.{length-take}
 use borrow.Author.Needs.{needs}

@@ -1,6 +1,5 @@
 -- `calls::lexcap` is safe: it lends no more records than there are.
 -- Assumes nothing.
-use Prim.Native.Nat.{_-_}
 use native.Mathlib.Omega.{arith}
 use lib.ListN.{length-take}
 use borrow.Author.Needs.{needs}
