@@ -43,13 +43,15 @@ same-is true false t = absurd t
 same-is false true t = absurd t
 same-is false false t = refl
 
--- a class has the value v at each of the n bytes from a on
-pub class-is : (v : Bool) (f : ℕ → Bool) (a n : ℕ) → T (allFrom (λ b. same v (f b)) a n) → (b : ℕ) → a ≤ b → b < a + n → v ≡ f b
-class-is v f a n t b l h = same-is v (f b) (at-each (λ b. same v (f b)) a n t b l h)
-
--- two classes agree at each of them
-pub classes-agree : (f g : ℕ → Bool) (a n : ℕ) → T (allFrom (λ b. same (f b) (g b)) a n) → (b : ℕ) → a ≤ b → b < a + n → f b ≡ g b
+-- two classes agree at each of the n bytes from a on
+pub classes-agree : (f g : ℕ → Bool) (a n : ℕ) → T (allFrom (λ b. same (f b) (g b)) a n)
+    → (b : ℕ) → a ≤ b → b < a + n → f b ≡ g b
 classes-agree f g a n t b l h = same-is (f b) (g b) (at-each (λ b. same (f b) (g b)) a n t b l h)
+
+-- a class has the value v at each of them
+pub class-is : (v : Bool) (f : ℕ → Bool) (a n : ℕ) → T (allFrom (λ b. same v (f b)) a n)
+    → (b : ℕ) → a ≤ b → b < a + n → v ≡ f b
+class-is v = classes-agree (λ b. v)
 
 -- ---- a `match` on a byte: its arms of single bytes, and what is left
 

@@ -1,5 +1,6 @@
 // Prints, for each byte class, the ranges of bytes that its function says yes to, over all 256
-// bytes. The expected ranges, in the file stdout, are copied by hand from the ABNF of TOML 1.0.0.
+// bytes. The expected ranges, in the file stdout, are copied by hand from the ABNF of TOML 1.0.0, but
+// for token-start, which is the lexer's own, and continuation, which is UTF-8's.
 use libc::STDOUT_FILENO;
 
 fn main() {

@@ -1,6 +1,7 @@
-// Runs the worked examples of decoding, and each refusal, through the compiled code. A line for each
-// call: kind, bytes and records lent, then the answer's number and two values; below it what the
-// lent memory holds afterwards, where 2A and 0 0 0 were before. `stdout` is written from the rules.
+// Runs the worked examples of `decode`, and each of its refusals but 2 (whose texts no program's stack
+// can hold), through the compiled code. A line for each call: kind, bytes and records lent, then the
+// answer's number and two values, and with 1 a third; below it what the lent memory holds afterwards,
+// where 2A and 0 0 0 were before. `stdout` is written from the rules.
 ghost use Prim.Native.Nat.{_≤_, _<_};
 use decoder::Decoded;
 

@@ -40,13 +40,13 @@ filledBy f a b = record { form = f; numbers = a ∷ b ∷ 0 ∷ 0 ∷ 0 ∷ 0 �
 abbrev pub answeredBy : Form → ℕ → ℕ → Answer
 answeredBy f a b = record { form = f; numbers = 0 ∷ 0 ∷ a ∷ b ∷ 0 ∷ 0 ∷ 0 ∷ 0 ∷ [] }
 
--- a refusal's number and the number returned, and zeros for the call's other results
-abbrev pub refusedAs : Form → Refusal → Answer
-refusedAs f r = filledBy f (refusalNumber r) (refusalValue r)
-
 -- three numbers, and zeros behind them
 abbrev pub threeBy : Form → ℕ → ℕ → ℕ → Answer
 threeBy f a b c = record { form = f; numbers = a ∷ b ∷ c ∷ 0 ∷ 0 ∷ 0 ∷ 0 ∷ 0 ∷ [] }
+
+-- a refusal's number and the number returned, and zeros for the call's other results
+abbrev pub refusedAs : Form → Refusal → Answer
+refusedAs f r = filledBy f (refusalNumber r) (refusalValue r)
 
 -- a refusal in a line of its own: with 1 the length of the faulty sequence too
 abbrev pub refusedWhole : Refusal → Answer
@@ -80,7 +80,7 @@ abbrev pub decodedCountAs : Decoded → Answer
 decodedCountAs (Written b e) = threeBy form.Three 0 b e
 decodedCountAs (Undecoded r) = refusedAs form.Three r
 
--- utf8 and span: 0 and 0
+-- utf8: 0 and 0
 abbrev pub checkedAs : Utf8Check → Answer
 checkedAs Valid = filledBy form.Two 0 0
 checkedAs (Unchecked r) = refusedAs form.Two r
@@ -90,6 +90,7 @@ abbrev pub faultedAs : Utf8Check → Answer
 faultedAs Valid = threeBy form.Three 0 0 0
 faultedAs (Unchecked r) = threeBy form.Three (refusalNumber r) (refusalValue r) (refusalLength r)
 
+-- span: 0 and 0
 abbrev pub spanCheckedAs : SpanCheck → Answer
 spanCheckedAs Whole = filledBy form.Two 0 0
 spanCheckedAs (Misplaced r) = refusedAs form.Two r

@@ -20,7 +20,7 @@ use text::Utf8Check;
 use token::Answer as Described;
 use token::Token;
 
-// A call that answered: numbers, and zeros behind them.
+// Two numbers, and zeros behind them.
 fn filled(form: Form, a: usize, b: usize) -> Answer
     ensures { λ r. ⌜ r ≡ filledBy form a b ⌝ }
 {
@@ -37,6 +37,16 @@ fn answered(form: Form, a: usize, b: usize) -> Answer
     Answer {
         form,
         numbers: [0, 0, a, b, 0, 0, 0, 0],
+    }
+}
+
+// Three numbers, and zeros behind them.
+fn three(form: Form, a: usize, b: usize, c: usize) -> Answer
+    ensures { λ r. ⌜ r ≡ threeBy form a b c ⌝ }
+{
+    Answer {
+        form,
+        numbers: [a, b, c, 0, 0, 0, 0, 0],
     }
 }
 
@@ -57,30 +67,21 @@ fn refused_whole(why: Refusal) -> Answer
     refused(Form::Refused, why)
 }
 
-fn three(form: Form, a: usize, b: usize, c: usize) -> Answer
-    ensures { λ r. ⌜ r ≡ threeBy form a b c ⌝ }
-{
-    Answer {
-        form,
-        numbers: [a, b, c, 0, 0, 0, 0, 0],
-    }
-}
-
-// The tokens with their lines.
-pub fn token_lines(lexed: Lexed) -> Answer
-    ensures { λ r. ⌜ r ≡ tokenLinesAs lexed ⌝ }
-{
-    match lexed {
-        Lexed::Tokens(count) => filled(Form::TokenLines, count, 0),
-        Lexed::Refused(why) => refused_whole(why),
-    }
-}
-
 pub fn tokens(lexed: Lexed) -> Answer
     ensures { λ r. ⌜ r ≡ tokensAs lexed ⌝ }
 {
     match lexed {
         Lexed::Tokens(count) => filled(Form::Tokens, count, 0),
+        Lexed::Refused(why) => refused_whole(why),
+    }
+}
+
+// The same with their lines.
+pub fn token_lines(lexed: Lexed) -> Answer
+    ensures { λ r. ⌜ r ≡ tokenLinesAs lexed ⌝ }
+{
+    match lexed {
+        Lexed::Tokens(count) => filled(Form::TokenLines, count, 0),
         Lexed::Refused(why) => refused_whole(why),
     }
 }
@@ -181,25 +182,6 @@ pub fn stepped_line(step: Step) -> Answer
     }
 }
 
-fn lines_and_next(token: Token, next: Cursor) -> Answer
-    ensures { λ r. ⌜ r ≡ nextLineAs token next ⌝ }
-{
-    let record = token.as_record();
-    Answer {
-        form: Form::SteppedLine,
-        numbers: [
-            record[0],
-            record[1],
-            record[2],
-            record[3],
-            next.place,
-            bit(next.ended),
-            next.line,
-            0,
-        ],
-    }
-}
-
 fn token_and_next(token: Token, next: Cursor) -> Answer
     ensures { λ r. ⌜ r ≡ nextAs token next ⌝ }
 {
@@ -214,6 +196,25 @@ fn token_and_next(token: Token, next: Cursor) -> Answer
             bit(next.ended),
             0,
             0,
+            0,
+        ],
+    }
+}
+
+fn lines_and_next(token: Token, next: Cursor) -> Answer
+    ensures { λ r. ⌜ r ≡ nextLineAs token next ⌝ }
+{
+    let record = token.as_record();
+    Answer {
+        form: Form::SteppedLine,
+        numbers: [
+            record[0],
+            record[1],
+            record[2],
+            record[3],
+            next.place,
+            bit(next.ended),
+            next.line,
             0,
         ],
     }

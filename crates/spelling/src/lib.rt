@@ -126,8 +126,8 @@ fn text_of(form: Form) -> Text {
     }
 }
 
-// Each function below takes the buffer and how much of it is used, and answers how much is used
-// afterwards.
+// Fills an empty buffer: how much of it is used. Each other `put_` below takes the buffer and how much
+// is used, and answers how much is used afterwards.
 fn put_text(
     out: &mut [u8],
     text: Text,

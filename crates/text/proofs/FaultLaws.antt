@@ -98,45 +98,33 @@ module _ (a : ℕ) where
   abbrev l : Lead
   l = leadOf a
 
-  begins-1 : 1 ≤ l .0 → Begins (a ∷ [])
-  begins-1 h =
-      complete (a ∷ []) (l .1 ∷ 0x80 ∷ 0x80 ∷ []) (l .0) h h (record {
-        len = refl;
-        fits = lead-fits a .0;
-        second = λ n. (omega arith, lead-fits a .1);
-        third = λ n. omega arith;
-        fourth = λ n. omega arith;
-      })
-
-  begins-2 : (b : ℕ) → 2 ≤ l .0 → Among (l .1) (l .2) b → Begins (a ∷ b ∷ [])
-  begins-2 b h hb =
-      complete (a ∷ b ∷ []) (0x80 ∷ 0x80 ∷ []) (l .0) h (omega arith) (record {
-        len = refl;
-        fits = lead-fits a .0;
-        second = λ n. hb;
-        third = λ n. omega arith;
-        fourth = λ n. omega arith;
-      })
-
-  begins-3 : (b c : ℕ) → 3 ≤ l .0 → Among (l .1) (l .2) b → Among 0x80 0xBF c → Begins (a ∷ b ∷ c ∷ [])
-  begins-3 b c h hb hc =
-      complete (a ∷ b ∷ c ∷ []) (0x80 ∷ []) (l .0) h (omega arith) (record {
-        len = refl;
-        fits = lead-fits a .0;
-        second = λ n. hb;
-        third = λ n. hc;
-        fourth = λ n. omega arith;
-      })
-
-  begins-4 : (b c d : ℕ) → 4 ≤ l .0 → Among (l .1) (l .2) b → Among 0x80 0xBF c → Among 0x80 0xBF d → Begins (a ∷ b ∷ c ∷ d ∷ [])
-  begins-4 b c d h hb hc hd =
-      complete (a ∷ b ∷ c ∷ d ∷ []) [] (l .0) h (omega arith) (record {
+  -- p begins a character where, with more behind it, its bytes are as the first one asks
+  begins-by : (p more : List ℕ) (b c d : ℕ) → p ++ more ≡ a ∷ b ∷ c ∷ d ∷ [] → length p ≤ l .0 → 1 ≤ l .0
+      → Among (l .1) (l .2) b → Among 0x80 0xBF c → Among 0x80 0xBF d → Begins p
+  begins-by p more b c d e h some hb hc hd =
+      complete p more (l .0) h some (rw e (record {
         len = refl;
         fits = lead-fits a .0;
         second = λ n. hb;
         third = λ n. hc;
         fourth = λ n. hd;
-      })
+      }))
+
+  begins-1 : 1 ≤ l .0 → Begins (a ∷ [])
+  begins-1 h =
+      let lowest : Among (l .1) (l .2) (l .1) = (omega arith, lead-fits a .1) in
+      begins-by (a ∷ []) (l .1 ∷ 0x80 ∷ 0x80 ∷ []) (l .1) 0x80 0x80 refl h h lowest (omega arith) (omega arith)
+
+  begins-2 : (b : ℕ) → 2 ≤ l .0 → Among (l .1) (l .2) b → Begins (a ∷ b ∷ [])
+  begins-2 b h hb =
+      begins-by (a ∷ b ∷ []) (0x80 ∷ 0x80 ∷ []) b 0x80 0x80 refl h (omega arith) hb (omega arith) (omega arith)
+
+  begins-3 : (b c : ℕ) → 3 ≤ l .0 → Among (l .1) (l .2) b → Among 0x80 0xBF c → Begins (a ∷ b ∷ c ∷ [])
+  begins-3 b c h hb hc =
+      begins-by (a ∷ b ∷ c ∷ []) (0x80 ∷ []) b c 0x80 refl h (omega arith) hb hc (omega arith)
+
+  begins-4 : (b c d : ℕ) → 4 ≤ l .0 → Among (l .1) (l .2) b → Among 0x80 0xBF c → Among 0x80 0xBF d → Begins (a ∷ b ∷ c ∷ d ∷ [])
+  begins-4 b c d h hb hc hd = begins-by (a ∷ b ∷ c ∷ d ∷ []) [] b c d refl h (omega arith) hb hc hd
 
 module _ (t : List ℕ) where
   take-1 : 1 ≤ length t → take 1 t ≡ getD t 0 0 ∷ []

@@ -18,7 +18,7 @@ fn main() {
     after_others();
 }
 
-// The first and the last scalar value of each length.
+// The first and the last scalar value of each length, those beside the surrogates, and U+FFFD.
 fn lengths() {
     encoding(0);
     encoding(0x7F);
@@ -75,7 +75,7 @@ fn too_large() {
     check(b"\xF5\x80\x80\x80");
 }
 
-// Bytes that begin no character: 80 to BF and F5 to FF.
+// Bytes that begin no character: 80 to BF and F5 to FF. (C0 and C1 are among the overlong.)
 fn no_leads() {
     lone(0x80, 0xC0);
     lone(0xF5, 0x100);

@@ -80,7 +80,7 @@ pub struct Positioned {
     pub column: usize,
 }
 
-// The answer's value is the bytes.
+// The answer's value is the count of bytes.
 #[repr(C)]
 pub struct DecodedText {
     pub answer: Answered,
@@ -350,6 +350,7 @@ fn part_from(start: usize, end: usize) -> Part
     }
 }
 
+// 1 for yes.
 fn bit(b: bool) -> usize
     ensures { λ r. ⌜ r ≡ bitOf b ⌝ }
 {

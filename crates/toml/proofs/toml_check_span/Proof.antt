@@ -26,13 +26,15 @@ refused-requires c κs = search needs
 
 returns : tie.Need-returns
 returns c =
-    let answer = rw (c .before .before .before .before .new .ensures) at (c .before .before .before .check-span .ensures .0) in
+    let span = c .before .before .before .before .new .ensures in
+    let answer = rw span at (c .before .before .before .check-span .ensures .0) in
     let check = sym (c .before .enum-told .given .1) ∙ answer in
     rw (c .answer-of .ensures) (ap spanNumbers check)
 
 returns-2 : tie.Need-returns-2
 returns-2 c =
-    let answer = rw (c .before .before .before .before .before .new .ensures) at (c .before .before .before .before .check-span .ensures .0) in
+    let span = c .before .before .before .before .before .new .ensures in
+    let answer = rw span at (c .before .before .before .before .check-span .ensures .0) in
     let check = sym (c .before .before .r .given .1) ∙ answer in
     rw (c .refused .ensures) (ap spanNumbers check)
 

@@ -29,12 +29,14 @@ cursor-numbers-requires-2 c κs = search needs
 
 returns : tie.Need-returns
 returns c =
-    let start = sym (c .before .before .before .cursor .given .1) ∙ c .before .before .before .before .before .start .ensures .0 in
+    let answer = c .before .before .before .before .before .start .ensures .0 in
+    let start = sym (c .before .before .before .cursor .given .1) ∙ answer in
     rw (c .before .answer-of .ensures, c .cursor-numbers .ensures) (ap startNumbers start)
 
 returns-2 : tie.Need-returns-2
 returns-2 c =
-    let start = sym (c .before .before .before .r .given .1) ∙ c .before .before .before .before .before .start .ensures .0 in
+    let answer = c .before .before .before .before .before .start .ensures .0 in
+    let start = sym (c .before .before .before .r .given .1) ∙ answer in
     rw (c .before .refused .ensures, c .cursor-numbers2 .ensures) (ap startNumbers start)
 
 pub toml-start-spec : {M : Type 1} → statement M

@@ -41,17 +41,20 @@ no-token-requires-2 c κs = search needs
 
 returns : tie.Need-returns
 returns c =
-    let step = sym (c .before .before .before .before .token .given .1) ∙ c .before .before .before .before .before .before .step .ensures .0 in
+    let answer = c .before .before .before .before .before .before .step .ensures .0 in
+    let step = sym (c .before .before .before .before .token .given .1) ∙ answer in
     rw (c .before .before .answer-of .ensures, c .before .number .ensures, c .cursor-numbers .ensures) (ap stepNumbers step)
 
 returns-2 : tie.Need-returns-2
 returns-2 c =
-    let step = sym (c .before .before .enum-told .given .1) ∙ c .before .before .before .before .step .ensures .0 in
+    let answer = c .before .before .before .before .step .ensures .0 in
+    let step = sym (c .before .before .enum-told .given .1) ∙ answer in
     rw (c .no-token .ensures, c .before .answer-of2 .ensures) (ap stepNumbers step)
 
 returns-3 : tie.Need-returns-3
 returns-3 c =
-    let step = sym (c .before .before .before .r .given .1) ∙ c .before .before .before .before .before .step .ensures .0 in
+    let answer = c .before .before .before .before .before .step .ensures .0 in
+    let step = sym (c .before .before .before .r .given .1) ∙ answer in
     rw (c .no-token2 .ensures, c .before .refused .ensures) (ap stepNumbers step)
 
 pub toml-step-spec : {M : Type 1} → statement M

@@ -26,7 +26,8 @@ enum-told-2 c = search needs
 returns : tie.Need-returns
 returns c =
     let a = c .before .before .before .before .before .before .args in
-    let answer = rw (c .before .before .before .before .new .ensures) at (c .before .before .before .check-span .ensures .0) in
+    let span = c .before .before .before .before .new .ensures in
+    let answer = rw span at (c .before .before .before .check-span .ensures .0) in
     let check = sym (c .before .enum-told .given .1) ∙ answer in
     let part = ap (λ (s : SpanCheck). partOf s (a .start) (a .end)) check in
     parted (a .doc .now) (a .start) (a .end) _ (rw (c .part-from .ensures) part)
@@ -34,7 +35,8 @@ returns c =
 returns-2 : tie.Need-returns-2
 returns-2 c =
     let a = c .before .before .before .before .before .args in
-    let answer = rw (c .before .before .before .new .ensures) at (c .before .before .check-span .ensures .0) in
+    let span = c .before .before .before .new .ensures in
+    let answer = rw span at (c .before .before .check-span .ensures .0) in
     let check = sym (c .enum-told2 .given .1) ∙ answer in
     parted (a .doc .now) (a .start) (a .end) _ (ap (λ (s : SpanCheck). partOf s (a .start) (a .end)) check)
 

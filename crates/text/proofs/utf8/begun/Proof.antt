@@ -10,7 +10,7 @@ use Rattle.text.proofs.BegunLaws.{begun-1, begun-2, begun-3, begun-4}
 use Rattle.text.proofs.utf8.begun.Statement.{statement}
 use Rattle.text.proofs.utf8.begun.Tie as tie
 
--- from behind the test of the fourth byte back to that of the third, from there to that of the second, and from there to
+-- from the test of the fourth byte back to where the third passed, from there to where the second did, and from there to
 -- what the function was given
 abbrev at-third : tie.After-is-among3 → tie.Else6
 at-third c = c .before .before .before .before
