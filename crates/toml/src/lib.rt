@@ -20,6 +20,7 @@ use lexer::Step;
 use place::Position;
 use place::SpanCheck;
 use strings::Decoded;
+use strings::Edition;
 use text::Refusal;
 use text::Utf8Check;
 use token::Answer;
@@ -223,11 +224,8 @@ pub extern "C" fn toml_decode(
     ensures records { λ _. ⌜ now (errors .exit)
         ≡ errorsAfter (now (text .entry)) 10 kind (now (output .entry)) (now (errors .entry)) ⌝ }
 {
-    toml_decode_in(text, TOML_10, kind, output, errors)
+    toml_decode_in(text, Edition::TOML_10, kind, output, errors)
 }
-
-// The number of TOML 1.0.
-const TOML_10: usize = 10;
 
 // The same in the edition of TOML that a number names: 10 for TOML 1.0, 11 for TOML 1.1.
 #[no_mangle]
