@@ -51,33 +51,36 @@ memories-agree doc old = by-check (checkOf doc)
     by-check Valid = rw (length-map old recordOf) (by-room (ltb (length old) (tokenCount doc)))
 
 -- what is written is the document's, whatever stood there
-front : {A : Type 0} (new old : List A) (n : ℕ) (t : Bool) → length new ≡ n
+new-in-front : {A : Type 0} (new old : List A) (n : ℕ) (t : Bool) → length new ≡ n
     → take (writesOf (cond t (Refused (FewTokens n)) (Tokens n))) (cond t old (new ++ drop n old))
     ≡ take (writesOf (cond t (Refused (FewTokens n)) (Tokens n))) new
-front new old n true e = refl
-front new old n false e = take-append-le n new (drop n old) (omega (arith, e))
+new-in-front new old n true e = refl
+new-in-front new old n false e = take-append-le n new (drop n old) (omega (arith, e))
 
 tokens-written : (doc : List ℕ) (old : List Token)
-    → take (writesOf (lexAnswer doc (length old))) (tokenMemory doc old) ≡ take (writesOf (lexAnswer doc (length old))) (tokensOf doc)
+    → take (writesOf (lexAnswer doc (length old))) (tokenMemory doc old)
+    ≡ take (writesOf (lexAnswer doc (length old))) (tokensOf doc)
 unfolding lexAnswer tokenMemory
 tokens-written doc old = by-check (checkOf doc)
   where
     by-check : (c : Utf8Check)
-        → take (writesOf (lexChecked c doc (length old))) (tokensChecked c doc old) ≡ take (writesOf (lexChecked c doc (length old)))
-        (tokensOf doc)
+        → take (writesOf (lexChecked c doc (length old))) (tokensChecked c doc old)
+        ≡ take (writesOf (lexChecked c doc (length old))) (tokensOf doc)
     by-check (Broken r) = refl
-    by-check Valid = front (tokensOf doc) old (tokenCount doc) (ltb (length old) (tokenCount doc)) refl
+    by-check Valid = new-in-front (tokensOf doc) old (tokenCount doc) (ltb (length old) (tokenCount doc)) refl
 
 records-written : (doc : List ℕ) (old : List (List ℕ))
-    → take (writesOf (lexAnswer doc (length old))) (lexMemory doc old) ≡ take (writesOf (lexAnswer doc (length old))) (recordsOf doc)
+    → take (writesOf (lexAnswer doc (length old))) (lexMemory doc old)
+    ≡ take (writesOf (lexAnswer doc (length old))) (recordsOf doc)
 unfolding lexAnswer lexMemory recordsOf
 records-written doc old = by-check (checkOf doc)
   where
     by-check : (c : Utf8Check)
-        → take (writesOf (lexChecked c doc (length old))) (memoryChecked c doc old) ≡ take (writesOf (lexChecked c doc (length old)))
-        (recordsOf doc)
+        → take (writesOf (lexChecked c doc (length old))) (memoryChecked c doc old)
+        ≡ take (writesOf (lexChecked c doc (length old))) (recordsOf doc)
     by-check (Broken r) = refl
-    by-check Valid = front (recordsOf doc) old (tokenCount doc) (ltb (length old) (tokenCount doc)) (length-map (tokensOf doc) recordOf)
+    by-check Valid =
+        let n = tokenCount doc in new-in-front (recordsOf doc) old n (ltb (length old) n) (length-map (tokensOf doc) recordOf)
 
 pub same-records : SameRecords
 same-records doc ts us xs ys r s e a b =
@@ -96,8 +99,14 @@ same-written doc ts us xs ys r s e a b =
     let n = writesOf (lexAnswer doc (length ts)) in
     let m = writesOf (lexAnswer doc (length xs)) in (
       same,
-      ap (λ (y : Lexed). map recordOf (take (writesOf y) us)) (a .0) ∙ ap (λ (l : List Token). map recordOf (take n l)) (a .1)
-          ∙ ap (map recordOf) (tokens-written doc ts) ∙ as-records doc n ∙ ap
-          (λ (k : ℕ). take (writesOf (lexAnswer doc k)) (recordsOf doc)) e
-          ∙ sym (records-written doc xs) ∙ ap (take m) (sym (b .1)) ∙ ap (λ (y : Lexed). take (writesOf y) ys) (sym (b .0)),
+      -- the tokens that are written are the first n of the document's, read into records its first n records, which are
+      -- those that are written
+      ap (λ (y : Lexed). map recordOf (take (writesOf y) us)) (a .0)
+          ∙ ap (λ (l : List Token). map recordOf (take n l)) (a .1)
+          ∙ ap (map recordOf) (tokens-written doc ts)
+          ∙ as-records doc n
+          ∙ ap (λ (k : ℕ). take (writesOf (lexAnswer doc k)) (recordsOf doc)) e
+          ∙ sym (records-written doc xs)
+          ∙ ap (take m) (sym (b .1))
+          ∙ ap (λ (y : Lexed). take (writesOf y) ys) (sym (b .0)),
     )

@@ -39,9 +39,13 @@ pub answer-broken : (doc : List ℕ) (room : ℕ) (r : Refusal) → checkOf doc 
 unfolding lexAnswer
 answer-broken doc room r e = rw e
 
+-- how many records are written, of those that stand in old
+abbrev pub written : List ℕ → List Token → ℕ
+written doc old = writesOf (lexAnswer doc (length old))
+
 pub data Writes (doc : List ℕ) (old : List Token) : Type 0 where
-  nothing : writesOf (lexAnswer doc (length old)) ≡ 0 → tokenMemory doc old ≡ old → Writes doc old
-  whole : writesOf (lexAnswer doc (length old)) ≡ tokenCount doc → tokenCount doc ≤ length old → length doc ≤ limit
+  nothing : written doc old ≡ 0 → tokenMemory doc old ≡ old → Writes doc old
+  whole : written doc old ≡ tokenCount doc → tokenCount doc ≤ length old → length doc ≤ limit
       → tokenMemory doc old ≡ tokensOf doc ++ drop (tokenCount doc) old → Writes doc old
 
 pub writes : (doc : List ℕ) (old : List Token) → Writes doc old
@@ -62,10 +66,10 @@ writes doc old = by-check (checkOf doc) refl
     by-check (Broken r) e = nothing (ap writesOf (answer-broken doc (length old) r e)) (rw e)
 
 -- what is written has room
-pub writes-fit : (doc : List ℕ) (old : List Token) → writesOf (lexAnswer doc (length old)) ≤ length old
+pub writes-fit : (doc : List ℕ) (old : List Token) → written doc old ≤ length old
 writes-fit doc old = go (writes doc old)
   where
-    go : Writes doc old → writesOf (lexAnswer doc (length old)) ≤ length old
+    go : Writes doc old → written doc old ≤ length old
     go (nothing e m) = omega (arith, e)
     go (whole e h l m) = omega (arith, e, h)
 
@@ -93,7 +97,9 @@ first-cursor doc = refl
 
 pub next-cursor : (doc : List ℕ) (k : ℕ) → nextOf doc (cursorAfter doc k) .cursor ≡ cursorAfter doc (k + 1)
 unfolding cursorAfter stepped
-next-cursor doc k = go k (startCursor (startAnswer doc)) ∙ ap (λ (n : ℕ). stepped n doc (startCursor (startAnswer doc))) (sym (add-one k))
+next-cursor doc k =
+    let c = startCursor (startAnswer doc) in
+    go k c ∙ ap (λ (n : ℕ). stepped n doc c) (sym (add-one k))
   where
     go : (k : ℕ) (c : Cursor) → nextOf doc (stepped k doc c) .cursor ≡ stepped (suc k) doc c
     go zero c = refl
@@ -142,7 +148,7 @@ module _ (doc : List ℕ) (old : List Token) where
   unfolding stored
   stored-none = refl
 
-  pub stored-next : (k : ℕ) → k < writesOf (lexAnswer doc (length old))
+  pub stored-next : (k : ℕ) → k < written doc old
       → set (stored doc old k) k (nextOf doc (cursorAfter doc k) .token) ≡ stored doc old (k + 1)
   unfolding stored
   stored-next k h = go (writes doc old)
@@ -153,7 +159,7 @@ module _ (doc : List ℕ) (old : List Token) where
           ap (set (take k (tokensOf doc) ++ drop k old) k) (next-token doc k l (omega (arith, e, h)))
           ∙ store-next (tokensOf doc) old k (eofAt 0 0) (omega (arith, e, h)) (omega (arith, e, h, r))
 
-  pub length-stored : (k : ℕ) → k ≤ writesOf (lexAnswer doc (length old)) → length (stored doc old k) ≡ length old
+  pub length-stored : (k : ℕ) → k ≤ written doc old → length (stored doc old k) ≡ length old
   unfolding stored
   length-stored k h = go (writes doc old)
     where
@@ -166,11 +172,11 @@ module _ (doc : List ℕ) (old : List Token) where
       go (nothing e m) = sum (omega (arith, e, h)) (omega (arith, e, h))
       go (whole e r l m) = sum (omega (arith, e, h)) (omega (arith, e, h, r))
 
-  pub stored-all : stored doc old (writesOf (lexAnswer doc (length old))) ≡ tokenMemory doc old
+  pub stored-all : stored doc old (written doc old) ≡ tokenMemory doc old
   unfolding stored
   stored-all = go (writes doc old)
     where
-      go : Writes doc old → stored doc old (writesOf (lexAnswer doc (length old))) ≡ tokenMemory doc old
+      go : Writes doc old → stored doc old (written doc old) ≡ tokenMemory doc old
       go (nothing e m) = ap (stored doc old) e ∙ sym m
       go (whole e r l m) =
           ap (stored doc old) e ∙ ap (λ (ts : List Token). ts ++ drop (tokenCount doc) old) (take-length (tokensOf doc)) ∙ sym m

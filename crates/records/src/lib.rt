@@ -33,7 +33,8 @@ pub struct LexedEight {
 // Whole lexing: every token into the lent records, from the front. A type that holds a reference to
 // structs is proved by hand, so all that is decided is decided in the functions below.
 pub fn lex_tokens(doc: &[u8], records: &mut [Token]) -> Lexed
-    ensures { λ r. ⌜ (r ≡ lexAnswer (now (doc .entry)) (length (now (records .entry)))) × (now (records .exit) ≡ tokenMemory (now (doc .entry)) (now (records .entry))) ⌝ }
+    ensures answer { λ r. ⌜ r ≡ lexAnswer (now (doc .entry)) (length (now (records .entry))) ⌝ }
+    ensures memory { λ r. ⌜ now (records .exit) ≡ tokenMemory (now (doc .entry)) (now (records .entry)) ⌝ }
 {
     let a = plan(doc, records.len());
     let n = writes(a);

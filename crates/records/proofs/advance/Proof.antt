@@ -28,10 +28,14 @@ returns : tie.Need-returns
 returns c = next-given _ _ _ _ (sym (c .before .before .before .step .ensures .0) ∙ c .before .token .given .1)
 
 returns-2 : tie.Need-returns-2
-returns-2 c = next-end _ _ _ (c .blank .ensures) (sym (c .before .before .before .step .ensures .0) ∙ c .before .enum-told .given .1)
+returns-2 c =
+    let step = c .before .before .before .step in
+    next-end _ _ _ (c .blank .ensures) (sym (step .ensures .0) ∙ c .before .enum-told .given .1)
 
 returns-3 : tie.Need-returns-3
-returns-3 c = next-refused _ _ _ (c .blank2 .ensures) _ (sym (c .before .before .before .step .ensures .0) ∙ c .before .enum-told2 .given .1)
+returns-3 c =
+    let step = c .before .before .before .step in
+    next-refused _ _ _ (c .blank2 .ensures) _ (sym (step .ensures .0) ∙ c .before .enum-told2 .given .1)
 
 pub advance-spec : {M : Type 1} → statement M
 advance-spec =

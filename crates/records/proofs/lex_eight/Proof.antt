@@ -318,15 +318,16 @@ module _ {M : Type 1} (𝓤 : URA M) (H : Heap 𝓤) (A : Atoms 𝓤) (W : Given
           -- what `lex_tokens` ensures, at some last list
           split ! $ move ! (1 ∷ []) $
           use1 W (some
-          (λ (zs : Unit {0} × (List Token × Unit {0})). ‵ (lasts lex-tokens.ended (κ, (ν ∷ [], tt)) (doc, (x l₂ δ, tt)) zs) ⊛ raw
-          (fact 𝓤 ((r ≡ ans) × (zs .1 .0 ≡ found))))) (id⊢ 𝓤 _) $ pick ! (λ zs.
-          split ! $ move ! (1 ∷ []) $ heard ! ((r ≡ ans) × (zs .1 .0 ≡ found)) (λ e. fsplit ! $ drop ! $ fsplit ! $ fsplit ! $
+          (λ (zs : Unit {0} × (List Token × Unit {0})). ‵ (lasts lex-tokens.ended (κ, (ν ∷ [], tt)) (doc, (x l₂ δ, tt)) zs)
+          ⊛ (raw (fact 𝓤 (r ≡ ans)) ⊛ raw (fact 𝓤 (zs .1 .0 ≡ found))))) (id⊢ 𝓤 _) $ pick ! (λ zs.
+          split ! $ move ! (1 ∷ []) $ split ! $ heard ! (r ≡ ans) (λ is-ans. heard ! (zs .1 .0 ≡ found) (λ is-found.
+          fsplit ! $ drop ! $ fsplit ! $ fsplit ! $
           -- [the last list; its length; true; the tokens and the result; what doc owns; the lender's part; _7; …]
           move ! (3 ∷ []) $ split ! $ move ! (1 ∷ []) $ peeks ! Le.the-row (Is Le.the-row) (shows 𝓤 H A Le.the-row) r (u ∷ []) (λ is.
           let is-u : u ∷ [] ≡ ans-val ans ∷ [] =
-          EL.tells Le.the-type Le′.the-laws r (u ∷ []) is ∙ ap (λ (y : Lexed). ans-val y ∷ []) (e .0) in
+          EL.tells Le.the-type Le′.the-laws r (u ∷ []) is ∙ ap (λ (y : Lexed). ans-val y ∷ []) is-ans in
           let g₃ : Is Le.the-row ans (ans-val ans ∷ []) =
-          subst (λ (us : List Val). Is Le.the-row ans us) is-u (subst (λ (y : Lexed). Is Le.the-row y (u ∷ [])) (e .0) is) in
+          subst (λ (us : List Val). Is Le.the-row ans us) is-u (subst (λ (y : Lexed). Is Le.the-row y (u ∷ [])) is-ans is) in
           land ! (from ! (stop !)) (init ! 15 refl (EL.lawful Le.the-type Le′.the-laws 𝓤 H A W tt .typed r _ is .0)) $
           rewrite ! 15 (λ (v : Val). ‵ (fat fullShare Le′.mir l₃ 0 v)) (ap only is-u) refl $ drop ! $
           split ! $ move ! (1 ∷ []) $ split ! $ lft-end ! tt $
@@ -334,7 +335,7 @@ module _ {M : Type 1} (𝓤 : URA M) (H : Heap 𝓤) (A : Atoms 𝓤) (W : Given
           move ! (0 ∷ 7 ∷ 3 ∷ []) $
           use3 W (later (‵ (Arr (memOf R) 8 .lies (zs .1 .0) l₂ 0))) (slice-back 𝓤 H A W R (ν ∷ []) δ (zs .1 .0) 8 l₂ 0) $ await ! tt $
           use1 W (‵ (partAt RA fullShare (zs .1 .0) l₂ 0)) (together 𝓤 H A W l₂ (zs .1 .0)) $
-          keep ! (0 ∷ 2 ∷ 5 ∷ 6 ∷ 7 ∷ 8 ∷ 9 ∷ 10 ∷ 11 ∷ 12 ∷ 13 ∷ 14 ∷ 15 ∷ 16 ∷ 17 ∷ 18 ∷ 19 ∷ 20 ∷ []) $ back (zs .1 .0) (e .1) g₃)))))))
+          keep ! (0 ∷ 2 ∷ 5 ∷ 6 ∷ 7 ∷ 8 ∷ 9 ∷ 10 ∷ 11 ∷ 12 ∷ 13 ∷ 14 ∷ 15 ∷ 16 ∷ 17 ∷ 18 ∷ 19 ∷ 20 ∷ []) $ back (zs .1 .0) is-found g₃))))))))
 
       -- eight blank tokens are made. [_7; …; the token; what doc owns]
       making : Sq W
