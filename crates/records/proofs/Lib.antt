@@ -1,5 +1,5 @@
 pub mod TurnLaws
 pub mod PlanLaws
-pub mod Returned
+pub mod WalkSteps
 pub mod Agreement
 pub mod OneAnswer

@@ -20,7 +20,7 @@ use contract.Monad.{Fun, fact}
 use contract.Running.{givenOf, tables, tablesOf}
 use types.Kit.{Given, Item, Sq, runs, atRet, ‵, raw, _⊛_, some, later, _$_, _∵_, !, qed, by, move, keep, drop, use0, use1, use2, use3, split, join, pick, rewrite, fsplit, fjoin, fpick, fpack, suffices, frame, await, done}
 use types.Tokens.{lft-new, lft-end}
-use types.Run.{look, init, forget, stop, from, load, lit, addr, of-opd, and-then, no-more, assigns, land, returns, enter, alloc1, alloc0, params1, pass1, pass0, free1, free0}
+use types.Run.{look, init, forget, stop, from, lit, addr, of-opd, and-then, no-more, assigns, land, returns, enter, alloc1, alloc0, params1, pass1, pass0, free1, free0}
 use types.Part.{agg, rep}
 use types.SemTy.{cells, Arr}
 use types.Share.{arr-parts}
@@ -66,7 +66,7 @@ use Rattle.lexer.proofs.Lexed as Le
 use Rattle.lexer.proofs.Lexed.Laws as Le′
 use Rattle.records.proofs.LexedEight as Ei
 use Rattle.records.proofs.LexedEight.Laws as Ei′
-use Rattle.records.proofs.Returned.{returned}
+use Rattle.records.proofs.WalkSteps.{local-at, returned}
 use Rattle.records.proofs.blank as blank
 use Rattle.records.proofs.blank.Symbol as blank-def
 use Rattle.records.proofs.blank.Symbol.{name as #records·blank}
@@ -165,11 +165,12 @@ all-is y zs g h =
     ((ans-val y ∷ [], (zs-val zs ∷ [], tt)), (refl, (g, ((h .0, ((h .1 .0 .0, as-long), each-tuple zs (h .0) (h .1 .1))), tt))))
 
 -- the contracts that the proof cites
-abbrev Blank : {M : Type 1} (𝓤 : URA M) (H : Heap 𝓤) (A : Atoms 𝓤) (mem : Memory → SProp 𝓤) (run : Routine → Fun 𝓤) → Contract 𝓤
-Blank 𝓤 H A mem run = tripleOf 𝓤 H A blank.signature (blank.spec 𝓤 H A mem run)
+module _ {M : Type 1} (𝓤 : URA M) (H : Heap 𝓤) (A : Atoms 𝓤) (mem : Memory → SProp 𝓤) (run : Routine → Fun 𝓤) where
+  abbrev Blank : Contract 𝓤
+  Blank = tripleOf 𝓤 H A blank.signature (blank.spec 𝓤 H A mem run)
 
-abbrev LexTokens : {M : Type 1} (𝓤 : URA M) (H : Heap 𝓤) (A : Atoms 𝓤) (mem : Memory → SProp 𝓤) (run : Routine → Fun 𝓤) → Contract 𝓤
-LexTokens 𝓤 H A mem run = tripleOf 𝓤 H A lex-tokens.signature (lex-tokens.spec 𝓤 H A mem run)
+  abbrev LexTokens : Contract 𝓤
+  LexTokens = tripleOf 𝓤 H A lex-tokens.signature (lex-tokens.spec 𝓤 H A mem run)
 
 -- ---- a whole local array is the elements, side by side, and back
 module _ {M : Type 1} (𝓤 : URA M) (H : Heap 𝓤) (A : Atoms 𝓤) (W : Given 𝓤 H A) where
@@ -178,10 +179,11 @@ module _ {M : Type 1} (𝓤 : URA M) (H : Heap 𝓤) (A : Atoms 𝓤) (W : Given
   apart l =
       qed W (‵ (fat fullShare arr l 0 ys-val) ∷ []) ∵ use1 W (‵ (cellAt fullShare (RA .mir) (ys-val ∷ []) l 0))
       (W .laws .at-raw fullShare arr l 0 ys-val) $
-      owned ! RA (Is RA) (array-makes 𝓤 H A W R (LL.makes T.the-type T′.the-plain 𝓤 H A) 8) ys _ ys-is $ move ! (1 ∷ 0 ∷ []) $ fjoin ! $
+      owned ! RA (Is RA) (array-makes 𝓤 H A W R (LL.makes T.the-type T′.the-plain 𝓤 H A) 8) ys _ ys-is $
+      move ! (1 ∷ 0 ∷ []) $ fjoin ! $
       fpack ! (List Val) (λ us. fsep (cellAt fullShare (RA .mir) us l 0) (RA .own ys us)) (ys-val ∷ []) $
-      use1 W (‵ (arr-parts (shares R) 8 .part fullShare ys l 0)) (array-apart 𝓤 H A W R fullShare tt 8 ys l 0) $ fsplit ! $ drop ! $
-      by ! (whole-in 𝓤 H A W R ys l 0)
+      use1 W (‵ (arr-parts (shares R) 8 .part fullShare ys l 0)) (array-apart 𝓤 H A W R fullShare tt 8 ys l 0) $
+      fsplit ! $ drop ! $ by ! (whole-in 𝓤 H A W R ys l 0)
 
   together : (l : ℕ) (zs : List Token) → ent 𝓤 (sem 𝓤 H A (Arr (memOf R) 8 .lies zs l 0)) (sem 𝓤 H A (partAt RA fullShare zs l 0))
   together l zs =
@@ -189,8 +191,8 @@ module _ {M : Type 1} (𝓤 : URA M) (H : Heap 𝓤) (A : Atoms 𝓤) (W : Given
       use1 W (‵ (row R fullShare zs l 0)) (whole-out 𝓤 H A W R zs l 0) $ move ! (1 ∷ 0 ∷ []) $ fjoin ! $
       by ! (array-whole 𝓤 H A W R fullShare 8 zs l 0)
 
-module _ {M : Type 1} (𝓤 : URA M) (H : Heap 𝓤) (A : Atoms 𝓤) (W : Given 𝓤 H A) (mem : Memory → SProp 𝓤) (run : Routine → Fun 𝓤) (κ : Lft)
-    (q : Share) (doc : RefT (List ℕ)) (room₁ : Room u8 (length (doc .now))) where
+module _ {M : Type 1} (𝓤 : URA M) (H : Heap 𝓤) (A : Atoms 𝓤) (W : Given 𝓤 H A) (mem : Memory → SProp 𝓤) (run : Routine → Fun 𝓤)
+    (κ : Lft) (q : Share) (doc : RefT (List ℕ)) (room₁ : Room u8 (length (doc .now))) where
   abbrev s₁ : Val
   s₁ = sliceVal (doc .ptr) (length (doc .now))
 
@@ -203,15 +205,23 @@ module _ {M : Type 1} (𝓤 : URA M) (H : Heap 𝓤) (A : Atoms 𝓤) (W : Given
   abbrev found : List Token
   found = tokenMemory (doc .now) ys
 
+  -- the triple in which the walk ends, what it binds, and its postcondition
+  abbrev Walk : Contract 𝓤
+  Walk = walkOf 𝓤 H A lex-eight.ended stayed (lex-eight.clauses 𝓤 H A mem run)
+
+  abbrev bound : Walk .Ghost
+  bound = (((κ, tt), (q, tt), tt, (doc, tt), (s₁ ∷ [], tt)), tt)
+
   abbrev Post : Val → SProp 𝓤
-  Post = walkOf 𝓤 H A lex-eight.ended stayed (lex-eight.clauses 𝓤 H A mem run) .post (((κ, tt), (q, tt), tt, (doc, tt), (s₁ ∷ [], tt)), tt)
+  Post = Walk .post bound
 
   -- ---- the call of `lex_tokens`: the array at l is lent for the lifetime ν, under the name δ
   abbrev x : ℕ → GName → RefT (List Token)
   x l δ = record { ptr = (l, 0); name = δ; now = ys }
 
   abbrev to-lex-tokens : ℕ → ℕ → GName → LexTokens 𝓤 H A mem run .Ghost
-  to-lex-tokens l ν δ = (((κ, (ν ∷ [], tt)), (q, (fullShare, tt)), tt, (doc, (x l δ, tt)), (s₁ ∷ [], (sliceVal (l, 0) 8 ∷ [], tt))), tt)
+  to-lex-tokens l ν δ =
+      (((κ, (ν ∷ [], tt)), (q, (fullShare, tt)), tt, (doc, (x l δ, tt)), (s₁ ∷ [], (sliceVal (l, 0) 8 ∷ [], tt))), tt)
 
   goes-lex-tokens : (l ν : ℕ) (δ : GName)
       → ent 𝓤 (sep 𝓤 (sep 𝓤 (A .lft κ q) (sem 𝓤 H A Own))
@@ -225,6 +235,10 @@ module _ {M : Type 1} (𝓤 : URA M) (H : Heap 𝓤) (A : Atoms 𝓤) (W : Given
       nothing ! $ move ! (2 ∷ 0 ∷ []) $ fjoin ! $ move ! (3 ∷ 0 ∷ []) $ fjoin ! $ nothing ! $ move ! (2 ∷ 0 ∷ []) $ join ! $
       move ! (2 ∷ 0 ∷ []) $ join ! $ join ! $ frame ! $ done !
 
+  abbrev LexTokensEnsures : ℕ → ℕ → GName → Lexed → SProp 𝓤
+  LexTokensEnsures l ν δ =
+      ensured 𝓤 H A lex-tokens.ended (lex-tokens.clauses 𝓤 H A mem run) (κ, (ν ∷ [], tt)) (doc, (x l δ, tt)) tt
+
   -- ---- the call of `blank`
   abbrev to-blank : Blank 𝓤 H A mem run .Ghost
   to-blank = ((tt, tt, tt, tt, tt), tt)
@@ -232,7 +246,10 @@ module _ {M : Type 1} (𝓤 : URA M) (H : Heap 𝓤) (A : Atoms 𝓤) (W : Given
   goes-blank : ent 𝓤 (emp 𝓤) (Blank 𝓤 H A mem run .pre to-blank)
   goes-blank = qed W [] ∵ nothing ! $ nothing ! $ join ! $ frame ! $ done !
 
-  blank-said : (r : Token) → ent 𝓤 (ensured 𝓤 H A blank.ended (blank.clauses 𝓤 H A mem run) tt tt tt r) (fact 𝓤 (r ≡ eofAt 0 0))
+  abbrev BlankEnsures : Token → SProp 𝓤
+  BlankEnsures = ensured 𝓤 H A blank.ended (blank.clauses 𝓤 H A mem run) tt tt tt
+
+  blank-said : (r : Token) → ent 𝓤 (BlankEnsures r) (fact 𝓤 (r ≡ eofAt 0 0))
   blank-said r = exE 𝓤 _ (λ ws. snd∗ 𝓤 (sem 𝓤 H A (lasts blank.ended tt tt ws)) (fact 𝓤 (r ≡ eofAt 0 0)))
 
   -- ---- the exit
@@ -244,8 +261,7 @@ module _ {M : Type 1} (𝓤 : URA M) (H : Heap 𝓤) (A : Atoms 𝓤) (W : Given
   exits zs v e g =
       qed W (‵ (flft κ q) ∷ ‵ Own ∷ []) ∵
       suffices ! _
-      (ends-at 𝓤 H A lex-eight.ended stayed (lex-eight.clauses 𝓤 H A mem run) W (((κ, tt), (q, tt), tt, (doc, tt), (s₁ ∷ [], tt)), tt) v
-      (all zs) (tt, tt) (tt, tt)) $ says ! e $
+      (ends-at 𝓤 H A lex-eight.ended stayed (lex-eight.clauses 𝓤 H A mem run) W bound v (all zs) (tt, tt) (tt, tt)) $ says ! e $
       nothing ! $ move ! (1 ∷ 0 ∷ []) $ join ! $ frame ! $ nothing ! $ move ! (1 ∷ 0 ∷ []) $ fjoin ! $ frame ! $
       owned ! Ei.the-row (Is Ei.the-row) (LL.makes Ei.the-type Ei′.the-plain 𝓤 H A) (all zs) _ g $ done !
 
@@ -266,7 +282,8 @@ module _ {M : Type 1} (𝓤 : URA M) (H : Heap 𝓤) (A : Atoms 𝓤) (W : Given
       Others c₃ = ‵ (froom arr l₇ 0) ∷ ‵ (fdies arr l₇) ∷ ‵ (fat fullShare sliceₑ l₆ 0 (sliceVal (l₂, 0) 8)) ∷ ‵ (fdies sliceₑ l₆)
           ∷ ‵ (fat fullShare arr-ref l₅ 0 (vptr l₂ 0)) ∷ ‵ (fdies arr-ref l₅)
           ∷ ‵ (fat fullShare T′.mir l₄ 0 (tok-val (eofAt 0 0))) ∷ ‵ (fdies T′.mir l₄) ∷ c₃ ∷ ‵ (fdies Le′.mir l₃)
-          ∷ ‵ (fdies arr l₂) ∷ ‵ (fat fullShare slice₁ l₁ 0 s₁) ∷ ‵ (fdies slice₁ l₁) ∷ ‵ (froom Ei′.mir l₀ 0) ∷ ‵ (fdies Ei′.mir l₀) ∷ []
+          ∷ ‵ (fdies arr l₂) ∷ ‵ (fat fullShare slice₁ l₁ 0 s₁) ∷ ‵ (fdies slice₁ l₁)
+          ∷ ‵ (froom Ei′.mir l₀ 0) ∷ ‵ (fdies Ei′.mir l₀) ∷ []
 
       -- the array is the caller's own again: it is copied into the result, beside the answer
       back : (zs : List Token) → zs ≡ found → Is Le.the-row ans (ans-val ans ∷ [])
@@ -281,18 +298,21 @@ module _ {M : Type 1} (𝓤 : URA M) (H : Heap 𝓤) (A : Atoms 𝓤) (W : Given
           use1 W (‵ (fat fullShare arr l₂ 0 (zs-val zs))) (W .laws .raw-at fullShare arr l₂ 0 (zs-val zs)) $
           let gs : Is Ei.the-row (all zs) (all-val ans zs ∷ []) = all-is ans zs g₃ g in
           -- [the array; what it owns; the token; what doc owns; _7; …]
-          assigns ! (of-opd ! (load ! (from ! (stop !)) (look ! 0 refl))) (from ! (stop !))
+          assigns ! (of-opd ! (local-at ! 0 refl)) (from ! (stop !))
           (init ! 4 refl (array-lawful 𝓤 H A W R (LL.lawful T.the-type T′.the-laws 𝓤 H A W) 8 .typed zs _ g .0)) $
           assigns !
-          (agg ! (and-then ! (load ! (from ! (stop !)) (look ! 12 refl))
-          (and-then ! (load ! (from ! (stop !)) (look ! 4 refl)) (no-more !)))) (from ! (stop !))
+          (agg ! (and-then ! (local-at ! 12 refl)
+          (and-then ! (local-at ! 4 refl) (no-more !)))) (from ! (stop !))
           (init ! 17 refl (LL.lawful Ei.the-type Ei′.the-laws 𝓤 H A W .typed (all zs) _ gs .0)) $
-          returns ! (look ! 17 refl) $ forget ! 0 refl $ forget ! 4 refl $ forget ! 6 refl $ forget ! 8 refl $ forget ! 10 refl $
-          forget ! 12 refl $ forget ! 15 refl $ forget ! 17 refl $
-          move ! (17 ∷ 18 ∷ []) $ free1 ! $ move ! (15 ∷ 16 ∷ []) $ free1 ! $ move ! (0 ∷ 14 ∷ []) $ free1 ! $ move ! (11 ∷ 12 ∷ []) $
-          free1 ! $ move ! (9 ∷ 10 ∷ []) $ free1 ! $
-          move ! (7 ∷ 8 ∷ []) $ free1 ! $ move ! (5 ∷ 6 ∷ []) $ free1 ! $ move ! (3 ∷ 4 ∷ []) $ free1 ! $ free0 ! $ keep ! (1 ∷ 2 ∷ []) $
-          by ! (exits zs (all-val ans zs) (ap all e) gs)))
+          returns ! (look ! 17 refl) $
+          -- what still stands in a local is forgotten, and the eight locals are freed, the first first
+          forget ! 0 refl $ forget ! 4 refl $ forget ! 6 refl $ forget ! 8 refl $
+          forget ! 10 refl $ forget ! 12 refl $ forget ! 15 refl $ forget ! 17 refl $
+          move ! (17 ∷ 18 ∷ []) $ free1 ! $ move ! (15 ∷ 16 ∷ []) $ free1 ! $
+          move ! (0 ∷ 14 ∷ []) $ free1 ! $ move ! (11 ∷ 12 ∷ []) $ free1 ! $
+          move ! (9 ∷ 10 ∷ []) $ free1 ! $ move ! (7 ∷ 8 ∷ []) $ free1 ! $
+          move ! (5 ∷ 6 ∷ []) $ free1 ! $ move ! (3 ∷ 4 ∷ []) $ free1 ! $ free0 ! $
+          keep ! (1 ∷ 2 ∷ []) $ by ! (exits zs (all-val ans zs) (ap all e) gs)))
 
       -- the array is lent for a lifetime that is made here, `lex_tokens` is called, and the lifetime is ended
       lending : Sq W (‵ (cells (memOf R) ys l₂ 0) ∷ ‵ (flft κ q) ∷ ‵ Own ∷ Others (‵ (froom Le′.mir l₃ 0)))
@@ -305,15 +325,15 @@ module _ {M : Type 1} (𝓤 : URA M) (H : Heap 𝓤) (A : Atoms 𝓤) (W : Given
           pick ! (λ δ. split ! $
           -- [the slice; the lender's part; ν's token; κ's; what doc owns; _7; …]
           move ! (2 ∷ 0 ∷ []) $ join ! $ move ! (3 ∷ []) $
-          use1 W (‵ Own ⊛ ‵ Own) (shr-slice-copy 𝓤 H A W (named 0) κ u8 .twice doc (s₁ ∷ [])) $ split ! $ move ! (4 ∷ 0 ∷ []) $ join ! $
-          move ! (0 ∷ 2 ∷ []) $
+          use1 W (‵ Own ⊛ ‵ Own) (shr-slice-copy 𝓤 H A W (named 0) κ u8 .twice doc (s₁ ∷ [])) $ split ! $
+          move ! (4 ∷ 0 ∷ []) $ join ! $ move ! (0 ∷ 2 ∷ []) $
           use2 W (raw (LexTokens 𝓤 H A mem run .pre (to-lex-tokens l₂ ν δ))) (goes-lex-tokens l₂ ν δ) $
           -- [what `lex_tokens` asks; what doc owns; the lender's part; _7; …]
           calls-at ! (fmOf 𝓤 H (W .laws) 𝓣) (LexTokens 𝓤 H A mem run) known (to-lex-tokens l₂ ν δ)
-          (and-then ! (load ! (from ! (stop !)) (look ! 14 refl)) (and-then ! (load ! (from ! (stop !)) (look ! 5 refl)) (no-more !))) (λ u.
+          (and-then ! (local-at ! 14 refl) (and-then ! (local-at ! 5 refl) (no-more !))) (λ u.
           use1 W (later
-          (some (λ (r : Lexed). ((‵ (flft κ q) ⊛ ‵ (flft (ν ∷ []) fullShare) ⊛ ‵ ftrue) ⊛ ‵ (Le.the-row .own r (u ∷ []))) ⊛ raw
-          (ensured 𝓤 H A lex-tokens.ended (lex-tokens.clauses 𝓤 H A mem run) (κ, (ν ∷ [], tt)) (doc, (x l₂ δ, tt)) tt r)))) (id⊢ 𝓤 _) $
+          (some (λ (r : Lexed). ((‵ (flft κ q) ⊛ ‵ (flft (ν ∷ []) fullShare) ⊛ ‵ ftrue) ⊛ ‵ (Le.the-row .own r (u ∷ [])))
+          ⊛ raw (LexTokensEnsures l₂ ν δ r)))) (id⊢ 𝓤 _) $
           await ! tt $ pick ! (λ r.
           -- what `lex_tokens` ensures, at some last list
           split ! $ move ! (1 ∷ []) $
@@ -323,7 +343,8 @@ module _ {M : Type 1} (𝓤 : URA M) (H : Heap 𝓤) (A : Atoms 𝓤) (W : Given
           split ! $ move ! (1 ∷ []) $ split ! $ heard ! (r ≡ ans) (λ is-ans. heard ! (zs .1 .0 ≡ found) (λ is-found.
           fsplit ! $ drop ! $ fsplit ! $ fsplit ! $
           -- [the last list; its length; true; the tokens and the result; what doc owns; the lender's part; _7; …]
-          move ! (3 ∷ []) $ split ! $ move ! (1 ∷ []) $ peeks ! Le.the-row (Is Le.the-row) (shows 𝓤 H A Le.the-row) r (u ∷ []) (λ is.
+          move ! (3 ∷ []) $ split ! $ move ! (1 ∷ []) $
+          peeks ! Le.the-row (Is Le.the-row) (shows 𝓤 H A Le.the-row) r (u ∷ []) (λ is.
           let is-u : u ∷ [] ≡ ans-val ans ∷ [] =
           EL.tells Le.the-type Le′.the-laws r (u ∷ []) is ∙ ap (λ (y : Lexed). ans-val y ∷ []) is-ans in
           let g₃ : Is Le.the-row ans (ans-val ans ∷ []) =
@@ -333,39 +354,43 @@ module _ {M : Type 1} (𝓤 : URA M) (H : Heap 𝓤) (A : Atoms 𝓤) (W : Given
           split ! $ move ! (1 ∷ []) $ split ! $ lft-end ! tt $
           -- [ν is dead; true; κ's token; the last list; its length; true; what doc owns; the lender's part; _7; …]
           move ! (0 ∷ 7 ∷ 3 ∷ []) $
-          use3 W (later (‵ (Arr (memOf R) 8 .lies (zs .1 .0) l₂ 0))) (slice-back 𝓤 H A W R (ν ∷ []) δ (zs .1 .0) 8 l₂ 0) $ await ! tt $
-          use1 W (‵ (partAt RA fullShare (zs .1 .0) l₂ 0)) (together 𝓤 H A W l₂ (zs .1 .0)) $
-          keep ! (0 ∷ 2 ∷ 5 ∷ 6 ∷ 7 ∷ 8 ∷ 9 ∷ 10 ∷ 11 ∷ 12 ∷ 13 ∷ 14 ∷ 15 ∷ 16 ∷ 17 ∷ 18 ∷ 19 ∷ 20 ∷ []) $ back (zs .1 .0) is-found g₃))))))))
+          use3 W (later (‵ (Arr (memOf R) 8 .lies (zs .1 .0) l₂ 0))) (slice-back 𝓤 H A W R (ν ∷ []) δ (zs .1 .0) 8 l₂ 0) $
+          await ! tt $ use1 W (‵ (partAt RA fullShare (zs .1 .0) l₂ 0)) (together 𝓤 H A W l₂ (zs .1 .0)) $
+          -- the array, κ's token, what doc owns, and the other locals
+          keep ! (0 ∷ 2 ∷ 5 ∷ 6 ∷ 7 ∷ 8 ∷ 9 ∷ 10 ∷ 11 ∷ 12 ∷ 13 ∷ 14 ∷ 15 ∷ 16 ∷ 17 ∷ 18 ∷ 19 ∷ 20 ∷ []) $
+          back (zs .1 .0) is-found g₃))))))))
 
       -- eight blank tokens are made. [_7; …; the token; what doc owns]
       making : Sq W
           (‵ (froom arr l₇ 0) ∷ ‵ (fdies arr l₇) ∷ ‵ (froom sliceₑ l₆ 0) ∷ ‵ (fdies sliceₑ l₆) ∷ ‵ (froom arr-ref l₅ 0)
           ∷ ‵ (fdies arr-ref l₅) ∷ ‵ (froom T′.mir l₄ 0) ∷ ‵ (fdies T′.mir l₄)
-          ∷ ‵ (froom Le′.mir l₃ 0) ∷ ‵ (fdies Le′.mir l₃) ∷ ‵ (froom arr l₂ 0) ∷ ‵ (fdies arr l₂) ∷ ‵ (fat fullShare slice₁ l₁ 0 s₁)
-          ∷ ‵ (fdies slice₁ l₁) ∷ ‵ (froom Ei′.mir l₀ 0) ∷ ‵ (fdies Ei′.mir l₀)
+          ∷ ‵ (froom Le′.mir l₃ 0) ∷ ‵ (fdies Le′.mir l₃) ∷ ‵ (froom arr l₂ 0) ∷ ‵ (fdies arr l₂)
+          ∷ ‵ (fat fullShare slice₁ l₁ 0 s₁) ∷ ‵ (fdies slice₁ l₁) ∷ ‵ (froom Ei′.mir l₀ 0) ∷ ‵ (fdies Ei′.mir l₀)
           ∷ ‵ (flft κ q) ∷ ‵ Own ∷ []) (runs C Λ En pieces.t-1 (atRet En Post))
       making =
           use0 W (raw (Blank 𝓤 H A mem run .pre to-blank)) goes-blank $
           calls-at ! (fmOf 𝓤 H (W .laws) 𝓣) (Blank 𝓤 H A mem run) known-blank to-blank (no-more !) (λ u.
-          returned ! tt (‵ ftrue) R u (ensured 𝓤 H A blank.ended (blank.clauses 𝓤 H A mem run) tt tt tt) (λ r. r ≡ eofAt 0 0) blank-said
-          (id⊢ 𝓤 _) (λ r is-blank gr. drop ! $ drop ! $
+          returned ! tt (‵ ftrue) R u BlankEnsures (λ r. r ≡ eofAt 0 0) blank-said (id⊢ 𝓤 _) (λ r is-blank gr. drop ! $ drop ! $
           let is-u : u ∷ [] ≡ tok-val (eofAt 0 0) ∷ [] =
           LL.tells T.the-type T′.the-laws r (u ∷ []) gr ∙ ap (λ (t : Token). tok-val t ∷ []) is-blank in
           land ! (from ! (stop !)) (init ! 6 refl (LL.lawful T.the-type T′.the-laws 𝓤 H A W .typed r _ gr .0)) $
           rewrite ! 6 (λ (v : Val). ‵ (fat fullShare T′.mir l₄ 0 v)) (ap only is-u) refl $
-          assigns ! (rep ! 8 (load ! (from ! (stop !)) (look ! 6 refl))) (from ! (stop !))
+          assigns ! (rep ! 8 (local-at ! 6 refl)) (from ! (stop !))
           (init ! 10 refl (array-lawful 𝓤 H A W R (LL.lawful T.the-type T′.the-laws 𝓤 H A W) 8 .typed ys _ ys-is .0)) $
           assigns ! (addr ! (from ! (stop !))) (from ! (stop !)) (init ! 4 refl (tt, tt)) $
-          assigns ! (agg ! (and-then ! (load ! (from ! (stop !)) (look ! 4 refl)) (and-then ! (lit ! tt) (no-more !)))) (from ! (stop !))
+          assigns ! (agg ! (and-then ! (local-at ! 4 refl) (and-then ! (lit ! tt) (no-more !)))) (from ! (stop !))
           (init ! 2 refl (tt, (tt, (record { fits = lit< tt }, tt)))) $
           move ! (10 ∷ []) $ use1 W (‵ (cells (memOf R) ys l₂ 0)) (apart 𝓤 H A W l₂) $ move ! (0 ∷ 16 ∷ 17 ∷ []) $ lending))
 
-    walk : ent 𝓤 (onEntry 𝓤 H A lex-eight.signature (κ, tt) (q, tt) (doc, tt) (s₁ ∷ [], tt)) (WpFn 𝓤 H C Λ code.function (s₁ ∷ []) Post)
+    walk : ent 𝓤 (onEntry 𝓤 H A lex-eight.signature (κ, tt) (q, tt) (doc, tt) (s₁ ∷ [], tt))
+        (WpFn 𝓤 H C Λ code.function (s₁ ∷ []) Post)
     walk =
         qed W ((‵ (flft κ q) ⊛ ‵ ftrue) ∷ ‵ (owns (ShrSlice (named 0) κ u8 ∷ []) (doc, tt) (s₁ ∷ [], tt)) ∷ []) ∵ split ! $
         move ! (2 ∷ []) $ fsplit ! $ keep ! (2 ∷ 0 ∷ []) $ enter ! C Λ code.function (s₁ ∷ []) _ $
         alloc1 ! (λ l₀. alloc1 !
-        (λ l₁. alloc1 ! (λ l₂. alloc1 ! (λ l₃. alloc1 ! (λ l₄. alloc1 ! (λ l₅. alloc1 ! (λ l₆. alloc1 ! (λ l₇. alloc0 ! $ params1 ! $
+        (λ l₁. alloc1 ! (λ l₂. alloc1 ! (λ l₃. alloc1 !
+        (λ l₄. alloc1 ! (λ l₅. alloc1 ! (λ l₆. alloc1 ! (λ l₇. alloc0 ! $
+        params1 ! $
         pass1 ! (init ! 12 refl (tt, (tt, (record { fits = room₁ .0 }, tt)))) $ pass0 ! $ making l₀ l₁ l₂ l₃ l₄ l₅ l₆ l₇))))))))
 
 module _ {M : Type 1} (𝓤 : URA M) (H : Heap 𝓤) (A : Atoms 𝓤) (W : Given 𝓤 H A) (mem : Memory → SProp 𝓤) (run : Routine → Fun 𝓤)
@@ -374,7 +399,8 @@ module _ {M : Type 1} (𝓤 : URA M) (H : Heap 𝓤) (A : Atoms 𝓤) (W : Given
   lex-eight-walks : Walks 𝓤 H A lex-eight.ended stayed (WpFn 𝓤 H (𝓣 .C) (𝓣 .Λ) code.function) (lex-eight.clauses 𝓤 H A mem run)
   lex-eight-walks = walked 𝓤 H A lex-eight.ended stayed (lex-eight.clauses 𝓤 H A mem run) (WpFn 𝓤 H (𝓣 .C) (𝓣 .Λ) code.function)
       (λ κs. (slice-vals, tt)) (λ κs. (shr-slice-tells (named 0) (κs .0) u8, tt))
-      (λ κs qs bounds a g are. via 𝓤 _ (fst∗ 𝓤 _ (emp 𝓤)) (walk 𝓤 H A W mem run (κs .0) (qs .0) (a .0) (are .0 .0 .1) 𝓣 known-blank known))
+      (λ κs qs bounds a g are. via 𝓤 _ (fst∗ 𝓤 _ (emp 𝓤))
+      (walk 𝓤 H A W mem run (κs .0) (qs .0) (a .0) (are .0 .0 .1) 𝓣 known-blank known))
 
   lex-eight-meets : Meets 𝓤 H A lex-eight.signature (WpFn 𝓤 H (𝓣 .C) (𝓣 .Λ) code.function) (lex-eight.spec 𝓤 H A mem run)
   lex-eight-meets = walk-meets 𝓤 H A lex-eight.ended stayed W (goes-none-slice 𝓤 H A W 1 (0 ∷ []) tt (plain (λ _. u8)) yes, tt)

@@ -69,7 +69,7 @@ use Rattle.records.proofs.Stepped as Sp
 use Rattle.records.proofs.Stepped.Laws as Sp′
 use Rattle.lexer.proofs.Lexed as Le
 use Rattle.lexer.proofs.Lexed.Laws as Le′
-use Rattle.records.proofs.Returned.{returned}
+use Rattle.records.proofs.WalkSteps.{local-at, returned}
 use Rattle.records.proofs.plan as plan
 use Rattle.records.proofs.plan.Symbol as plan-def
 use Rattle.records.proofs.plan.Symbol.{name as #records·plan}
@@ -177,8 +177,15 @@ module _ {M : Type 1} (𝓤 : URA M) (H : Heap 𝓤) (A : Atoms 𝓤) (W : Given
   abbrev zs : ℕ → List Token
   zs i = stored (doc .now) ys i
 
+  -- the triple in which the walk ends, what it binds, and its postcondition
+  abbrev Walk : Contract 𝓤
+  Walk = walkOf 𝓤 H A lex-tokens.ended stayed (lex-tokens.clauses 𝓤 H A mem run)
+
+  abbrev bound : Walk .Ghost
+  bound = (((κ, (κ′, tt)), (q, (q′, tt)), tt, a, vals), tt)
+
   abbrev Post : Val → SProp 𝓤
-  Post = walkOf 𝓤 H A lex-tokens.ended stayed (lex-tokens.clauses 𝓤 H A mem run) .post (((κ, (κ′, tt)), (q, (q′, tt)), tt, a, vals), tt)
+  Post = Walk .post bound
 
   abbrev Own : Fml
   Own = ShrSlice (named 0) κ u8 .own doc (s₁ ∷ [])
@@ -189,12 +196,15 @@ module _ {M : Type 1} (𝓤 : URA M) (H : Heap 𝓤) (A : Atoms 𝓤) (W : Given
 
   goes-plan : ent 𝓤 (sep 𝓤 (A .lft κ q) (sem 𝓤 H A Own)) (Plan 𝓤 H A mem run .pre to-plan)
   goes-plan =
-      qed W (‵ (flft κ q) ∷ ‵ Own ∷ []) ∵ nothing ! $ owned ! usize (Is usize) (uint-makes 𝓤 H A W w64) (length ys) _ (refl, room₂ .0) $
+      qed W (‵ (flft κ q) ∷ ‵ Own ∷ []) ∵ nothing ! $
+      owned ! usize (Is usize) (uint-makes 𝓤 H A W w64) (length ys) _ (refl, room₂ .0) $
       fjoin ! $ move ! (2 ∷ 0 ∷ []) $ fjoin ! $
       nothing ! $ move ! (2 ∷ 0 ∷ []) $ join ! $ join ! $ frame ! $ done !
 
-  plan-said : (r : Lexed)
-      → ent 𝓤 (ensured 𝓤 H A plan.ended (plan.clauses 𝓤 H A mem run) (κ, tt) (doc, (length ys, tt)) tt r) (fact 𝓤 (r ≡ ans))
+  abbrev PlanEnsures : Lexed → SProp 𝓤
+  PlanEnsures = ensured 𝓤 H A plan.ended (plan.clauses 𝓤 H A mem run) (κ, tt) (doc, (length ys, tt)) tt
+
+  plan-said : (r : Lexed) → ent 𝓤 (PlanEnsures r) (fact 𝓤 (r ≡ ans))
   plan-said r = exE 𝓤 _ (λ ws. snd∗ 𝓤 (sem 𝓤 H A (lasts plan.ended (κ, tt) (doc, (length ys, tt)) ws)) (fact 𝓤 (r ≡ ans)))
 
   -- ---- the call of `writes`, at the machine value u of the answer
@@ -205,7 +215,10 @@ module _ {M : Type 1} (𝓤 : URA M) (H : Heap 𝓤) (A : Atoms 𝓤) (W : Given
   goes-writes u g = qed W [] ∵ nothing ! $ owned ! Le.the-row (Is Le.the-row) (EL.makes Le.the-type Le′.the-plain 𝓤 H A) ans _ g $
       fjoin ! $ nothing ! $ join ! $ frame ! $ done !
 
-  writes-said : (r : ℕ) → ent 𝓤 (ensured 𝓤 H A writes.ended (writes.clauses 𝓤 H A mem run) tt (ans, tt) tt r) (fact 𝓤 (r ≡ n))
+  abbrev WritesEnsures : ℕ → SProp 𝓤
+  WritesEnsures = ensured 𝓤 H A writes.ended (writes.clauses 𝓤 H A mem run) tt (ans, tt) tt
+
+  writes-said : (r : ℕ) → ent 𝓤 (WritesEnsures r) (fact 𝓤 (r ≡ n))
   writes-said r = exE 𝓤 _ (λ ws. snd∗ 𝓤 (sem 𝓤 H A (lasts writes.ended tt (ans, tt) ws)) (fact 𝓤 (r ≡ n)))
 
   -- ---- the call of `first`
@@ -213,14 +226,18 @@ module _ {M : Type 1} (𝓤 : URA M) (H : Heap 𝓤) (A : Atoms 𝓤) (W : Given
   to-first = (((κ, tt), (q, tt), tt, (doc, tt), (s₁ ∷ [], tt)), tt)
 
   goes-first : ent 𝓤 (sep 𝓤 (A .lft κ q) (sem 𝓤 H A Own)) (First 𝓤 H A mem run .pre to-first)
-  goes-first = qed W (‵ (flft κ q) ∷ ‵ Own ∷ []) ∵ nothing ! $ move ! (2 ∷ 0 ∷ []) $ fjoin ! $ nothing ! $ move ! (2 ∷ 0 ∷ []) $ join ! $
-      join ! $ frame ! $ done !
+  goes-first =
+      qed W (‵ (flft κ q) ∷ ‵ Own ∷ []) ∵ nothing ! $ move ! (2 ∷ 0 ∷ []) $ fjoin ! $
+      nothing ! $ move ! (2 ∷ 0 ∷ []) $ join ! $ join ! $ frame ! $ done !
 
-  first-said : (r : Cursor)
-      → ent 𝓤 (ensured 𝓤 H A first.ended (first.clauses 𝓤 H A mem run) (κ, tt) (doc, tt) tt r)
-      (fact 𝓤 (r ≡ startCursor (startAnswer (doc .now))))
-  first-said r = exE 𝓤 _
-      (λ ws. snd∗ 𝓤 (sem 𝓤 H A (lasts first.ended (κ, tt) (doc, tt) ws)) (fact 𝓤 (r ≡ startCursor (startAnswer (doc .now)))))
+  abbrev FirstEnsures : Cursor → SProp 𝓤
+  FirstEnsures = ensured 𝓤 H A first.ended (first.clauses 𝓤 H A mem run) (κ, tt) (doc, tt) tt
+
+  abbrev IsFirst : Cursor → Type 0
+  IsFirst r = r ≡ startCursor (startAnswer (doc .now))
+
+  first-said : (r : Cursor) → ent 𝓤 (FirstEnsures r) (fact 𝓤 (IsFirst r))
+  first-said r = exE 𝓤 _ (λ ws. snd∗ 𝓤 (sem 𝓤 H A (lasts first.ended (κ, tt) (doc, tt) ws)) (fact 𝓤 (IsFirst r)))
 
   -- ---- the call of `advance`, at the cursor c
   abbrev to-advance : Cursor → Advance 𝓤 H A mem run .Ghost
@@ -229,13 +246,19 @@ module _ {M : Type 1} (𝓤 : URA M) (H : Heap 𝓤) (A : Atoms 𝓤) (W : Given
   goes-advance : (c : Cursor) → Is Cu.the-row c (cur-val c ∷ [])
       → ent 𝓤 (sep 𝓤 (A .lft κ q) (sem 𝓤 H A Own)) (Advance 𝓤 H A mem run .pre (to-advance c))
   goes-advance c g =
-      qed W (‵ (flft κ q) ∷ ‵ Own ∷ []) ∵ nothing ! $ owned ! Cu.the-row (Is Cu.the-row) (LL.makes Cu.the-type Cu′.the-plain 𝓤 H A) c _ g $
+      qed W (‵ (flft κ q) ∷ ‵ Own ∷ []) ∵ nothing ! $
+      owned ! Cu.the-row (Is Cu.the-row) (LL.makes Cu.the-type Cu′.the-plain 𝓤 H A) c _ g $
       fjoin ! $ move ! (2 ∷ 0 ∷ []) $ fjoin ! $
       nothing ! $ move ! (2 ∷ 0 ∷ []) $ join ! $ join ! $ frame ! $ done !
 
-  advance-said : (c : Cursor) (r : Stepped)
-      → ent 𝓤 (ensured 𝓤 H A advance.ended (advance.clauses 𝓤 H A mem run) (κ, tt) (doc, (c, tt)) tt r) (fact 𝓤 (r ≡ nextOf (doc .now) c))
-  advance-said c r = exE 𝓤 _ (λ ws. snd∗ 𝓤 (sem 𝓤 H A (lasts advance.ended (κ, tt) (doc, (c, tt)) ws)) (fact 𝓤 (r ≡ nextOf (doc .now) c)))
+  abbrev AdvanceEnsures : Cursor → Stepped → SProp 𝓤
+  AdvanceEnsures c = ensured 𝓤 H A advance.ended (advance.clauses 𝓤 H A mem run) (κ, tt) (doc, (c, tt)) tt
+
+  abbrev IsNext : Cursor → Stepped → Type 0
+  IsNext c r = r ≡ nextOf (doc .now) c
+
+  advance-said : (c : Cursor) (r : Stepped) → ent 𝓤 (AdvanceEnsures c r) (fact 𝓤 (IsNext c r))
+  advance-said c r = exE 𝓤 _ (λ ws. snd∗ 𝓤 (sem 𝓤 H A (lasts advance.ended (κ, tt) (doc, (c, tt)) ws)) (fact 𝓤 (IsNext c r)))
 
   -- ---- the exit
   same-length : (i : ℕ) → i ≤ n → length (zs i) ≡ length ys
@@ -251,8 +274,7 @@ module _ {M : Type 1} (𝓤 : URA M) (H : Heap 𝓤) (A : Atoms 𝓤) (W : Given
       qed W (‵ (fobs γ (codedHoleys R .code (heres R (zs n)))) ∷ ‵ (fbor κ′ (Held R (length (zs n)) b o γ)) ∷ ‵ (flft κ′ q′)
       ∷ ‵ (flft κ q) ∷ ‵ Own ∷ []) ∵
       suffices ! _
-      (ends-at 𝓤 H A lex-tokens.ended stayed (lex-tokens.clauses 𝓤 H A mem run) W (((κ, (κ′, tt)), (q, (q′, tt)), tt, a, vals), tt) u ans
-      (tt, (zs n, tt)) (tt, (e, tt))) $
+      (ends-at 𝓤 H A lex-tokens.ended stayed (lex-tokens.clauses 𝓤 H A mem run) W bound u ans (tt, (zs n, tt)) (tt, (e, tt))) $
       -- the two clauses, one after the other
       suffices ! _ (assoc∗ 𝓤 left (fact 𝓤 (ans ≡ ans)) (fact 𝓤 (zs n ≡ tokenMemory (doc .now) ys))) $
       says ! (stored-all (doc .now) ys) $ says ! refl $
@@ -288,7 +310,8 @@ module _ {M : Type 1} (𝓤 : URA M) (H : Heap 𝓤) (A : Atoms 𝓤) (W : Given
       En = (Le′.mir, l₀) ∷ (slice₁, l₁) ∷ (slice₂, l₂) ∷ (Le′.mir, l₃) ∷ (word, l₄) ∷ (Cu′.mir, l₅) ∷ (word, l₆) ∷ (Sp′.mir, l₇)
           ∷ (word, l₈) ∷ (tyBool, l₉) ∷ (word, l₁₀) ∷ (tyPtr, l₁₁) ∷ []
 
-      -- the locals, the last first: of `_8`, `_6`, `_5`, `_4` and `_3` what stands in them, and the others as they are before a turn
+      -- the locals, the last first: of `_8`, `_6`, `_5`, `_4` and `_3` what stands in them, and the others as they are before a
+      -- turn
       abbrev Cells : Item 𝓤 → Item 𝓤 → Item 𝓤 → Item 𝓤 → Item 𝓤 → List (Item 𝓤)
       Cells c₈ c₆ c₅ c₄ c₃ = ‵ (froom tyPtr l₁₁ 0) ∷ ‵ (fdies tyPtr l₁₁) ∷ ‵ (froom word l₁₀ 0) ∷ ‵ (fdies word l₁₀)
           ∷ ‵ (froom tyBool l₉ 0) ∷ ‵ (fdies tyBool l₉) ∷ c₈ ∷ ‵ (fdies word l₈) ∷ ‵ (froom Sp′.mir l₇ 0) ∷ ‵ (fdies Sp′.mir l₇)
@@ -296,16 +319,19 @@ module _ {M : Type 1} (𝓤 : URA M) (H : Heap 𝓤) (A : Atoms 𝓤) (W : Given
           ∷ ‵ (fat fullShare slice₂ l₂ 0 s₂) ∷ ‵ (fdies slice₂ l₂) ∷ ‵ (fat fullShare slice₁ l₁ 0 s₁) ∷ ‵ (fdies slice₁ l₁)
           ∷ ‵ (froom Le′.mir l₀ 0) ∷ ‵ (fdies Le′.mir l₀) ∷ []
 
-      -- before the loop: doc's token, what doc owns, records' token, what records owns
-      abbrev Held₀ : List (Item 𝓤) → List (Item 𝓤)
-      Held₀ Γ = ‵ (flft κ q) ∷ ‵ Own ∷ ‵ (flft κ′ q′) ∷ ‵ (MutSlice (named 1) κ′ R .own (x ys) (s₂ ∷ [])) ∷ Γ
+      -- before the loop: doc's token, what doc owns, records' token, what records owns, and the locals, of which `_8` has the
+      -- count of records and `_6` nothing yet
+      abbrev Before : Item 𝓤 → Item 𝓤 → Item 𝓤 → List (Item 𝓤)
+      Before c₅ c₄ c₃ = ‵ (flft κ q) ∷ ‵ Own ∷ ‵ (flft κ′ q′) ∷ ‵ (MutSlice (named 1) κ′ R .own (x ys) (s₂ ∷ []))
+          ∷ Cells (‵ (fat fullShare word l₈ 0 (vint w64 (length ys)))) (‵ (froom word l₆ 0)) c₅ c₄ c₃
 
       module _ (u₃ : Val) (g₃ : Is Le.the-row ans (u₃ ∷ [])) where
-        -- the invariant: i records are written, and the cursor is the one after i steps. The borrow of records is open; the token and what
-        -- doc owns are there for the next call
+        -- the invariant: i records are written, and the cursor is the one after i steps. The borrow of records is open; the
+        -- token and what doc owns are there for the next call
         abbrev At : Upto → List (Item 𝓤)
         At i = ‵ (row R fullShare (zs (i .0)) b o) ∷ ‵ (fobor κ′ q′ (Held R (length ys) b o γ))
-            ∷ ‵ (fobs γ (codedHoleys R .code (heres R ys))) ∷ ‵ (fauth γ (codedHoleys R .code (heres R ys))) ∷ ‵ (flft κ q) ∷ ‵ Own
+            ∷ ‵ (fobs γ (codedHoleys R .code (heres R ys))) ∷ ‵ (fauth γ (codedHoleys R .code (heres R ys)))
+            ∷ ‵ (flft κ q) ∷ ‵ Own
             ∷ Cells (‵ (froom word l₈ 0)) (‵ (fat fullShare word l₆ 0 (vint w64 (i .0))))
             (‵ (fat fullShare Cu′.mir l₅ 0 (cur-val (cur (i .0))))) (‵ (fat fullShare word l₄ 0 (vint w64 n)))
             (‵ (fat fullShare Le′.mir l₃ 0 u₃))
@@ -319,36 +345,36 @@ module _ {M : Type 1} (𝓤 : URA M) (H : Heap 𝓤) (A : Atoms 𝓤) (W : Given
         more : (i : Upto) → i .0 < n → ltb (i .0) n ≡ true → Sq W (At i) (runs C Λ En pieces.turn-1 (anyQ (Turned i)))
         unfolding afterTurn
         more i less e =
-            assigns ! (bin ! (load ! (from ! (stop !)) (look ! 16 refl)) (load ! (from ! (stop !)) (look ! 20 refl)) tt) (from ! (stop !))
+            assigns ! (bin ! (local-at ! 16 refl) (local-at ! 20 refl) tt) (from ! (stop !))
             (init ! 10 refl (tt, tt)) $
             rewrite ! 10 (λ (t : Bool). ‵ (fat fullShare tyBool l₉ 0 (vbool t))) e refl $
-            stays ! (load ! (from ! (stop !)) (look ! 10 refl)) $
+            stays ! (local-at ! 10 refl) $
             -- the call of `advance`: it is passed a copy of doc
             move ! (5 ∷ []) $ use1 W (‵ Own ⊛ ‵ Own) (shr-slice-copy 𝓤 H A W (named 0) κ u8 .twice doc (s₁ ∷ [])) $ split ! $
             move ! (6 ∷ 0 ∷ []) $
             use2 W (raw (Advance 𝓤 H A mem run .pre (to-advance (cur (i .0))))) (goes-advance (cur (i .0)) (i .1 .1)) $
             calls-at ! (fmOf 𝓤 H (W .laws) 𝓣) (Advance 𝓤 H A mem run) known-advance (to-advance (cur (i .0)))
-            (and-then ! (load ! (from ! (stop !)) (look ! 26 refl)) (and-then ! (load ! (from ! (stop !)) (look ! 18 refl)) (no-more !)))
+            (and-then ! (local-at ! 26 refl) (and-then ! (local-at ! 18 refl) (no-more !)))
             (λ u.
-            returned ! tt (‵ (flft κ q) ⊛ ‵ ftrue) Sp.the-row u
-            (ensured 𝓤 H A advance.ended (advance.clauses 𝓤 H A mem run) (κ, tt) (doc, (cur (i .0), tt)) tt) (λ r. r ≡ stepped)
+            returned ! tt (‵ (flft κ q) ⊛ ‵ ftrue) Sp.the-row u (AdvanceEnsures (cur (i .0))) (IsNext (cur (i .0)))
             (advance-said (cur (i .0))) (id⊢ 𝓤 _) (λ r is-s gu.
-            -- [what the step owns; the token; what doc owns; the row; the open borrow; obs; auth; _11; …; _10; …; _9; …; _8; …; _7; …]
+            -- [what the step owns; the token; what doc owns; the row; the open borrow; obs; auth; _11; …; _10; …; _9; …; _8; …;
+            -- _7; …]
             let is-u : u ∷ [] ≡ step-val stepped ∷ [] =
             LL.tells Sp.the-type Sp′.the-laws r (u ∷ []) gu ∙ ap (λ (s : Stepped). step-val s ∷ []) is-s in
-            let gs : Is Sp.the-row stepped (step-val stepped ∷ []) =
-            subst (λ (us : List Val). Is Sp.the-row stepped us) is-u (subst (λ (s : Stepped). Is Sp.the-row s (u ∷ [])) is-s gu) in
+            let gu₂ : Is Sp.the-row stepped (u ∷ []) = subst (λ (s : Stepped). Is Sp.the-row s (u ∷ [])) is-s gu in
+            let gs : Is Sp.the-row stepped (step-val stepped ∷ []) = subst (Is Sp.the-row stepped) is-u gu₂ in
             let gt : Is R (stepped .token) (tok-val (stepped .token) ∷ []) = of-token stepped gs in
             let gc : Is Cu.the-row (stepped .cursor) (cur-val (stepped .cursor) ∷ []) = of-cursor stepped gs in
             land ! (from ! (stop !)) (init ! 15 refl (LL.lawful Sp.the-type Sp′.the-laws 𝓤 H A W .typed r _ gu .0)) $
             rewrite ! 15 (λ (v : Val). ‵ (fat fullShare Sp′.mir l₇ 0 v)) (ap only is-u) refl $ drop ! $
             assigns !
-            (bin ! (load ! (from ! (stop !)) (look ! 16 refl)) (lit ! tt)
+            (bin ! (local-at ! 16 refl) (lit ! tt)
             (record { fits = offset-fits (i .0) (length ys) in-rec (room₂ .1) })) (from ! (stop !))
             (init ! 8 refl (tt, record { fits = offset-fits (i .0) (length ys) in-rec (room₂ .1) })) $
             assigns !
             (bin ! (load ! (from ! (fld ! refl (stop !))) (look-in ! 24 (sub ! 0 refl (whole !))))
-            (load ! (from ! (stop !)) (look ! 8 refl)) tt) (from ! (stop !)) (init ! 6 refl (tt, tt)) $
+            (local-at ! 8 refl) tt) (from ! (stop !)) (init ! 6 refl (tt, tt)) $
             rewrite ! 6 (λ (p : ℕ). ‵ (fat fullShare tyPtr l₁₁ 0 (vptr b p))) (sym (place-is 32 o (i .0))) refl $
             -- record i is taken out of the row, stored to, and put back
             move ! (2 ∷ []) $ elem-out ! R (Is R) (shows 𝓤 H A R) (LL.vals T.the-type T′.the-laws)
@@ -358,19 +384,20 @@ module _ {M : Type 1} (𝓤 : URA M) (H : Heap 𝓤) (A : Atoms 𝓤) (W : Given
             (from ! (hop ! (look ! 8 refl) (stop !)))
             (store-raw ! 0 refl (LL.lawful T.the-type T′.the-laws 𝓤 H A W .typed (stepped .token) _ gt .0)) $
             move ! (1 ∷ []) $ drop ! $ owned ! R (Is R) (LL.makes T.the-type T′.the-plain 𝓤 H A) (stepped .token) _ gt $
-            move ! (1 ∷ 0 ∷ []) $ elem-put ! R fullShare (zs (i .0)) (i .0) (stepped .token) (tok-val (stepped .token) ∷ []) b o in-zs $
+            move ! (1 ∷ 0 ∷ []) $
+            elem-put ! R fullShare (zs (i .0)) (i .0) (stepped .token) (tok-val (stepped .token) ∷ []) b o in-zs $
             rewrite ! 0 (λ (l : List Token). ‵ (row R fullShare l b o)) (stored-next (doc .now) ys (i .0) less) refl $
             -- [the row; the token; what doc owns; the open borrow; obs; auth; _11; …]
             assigns ! (of-opd ! (load ! (from ! (fld ! refl (stop !))) (look-in ! 14 (sub ! 1 refl (whole !))))) (from ! (stop !))
             (store ! 18 refl (LL.lawful Cu.the-type Cu′.the-laws 𝓤 H A W .typed (stepped .cursor) _ gc .0)) $
             rewrite ! 18 (λ (c : Cursor). ‵ (fat fullShare Cu′.mir l₅ 0 (cur-val c))) (next-cursor (doc .now) (i .0)) refl $
-            assigns-last ! (bin ! (load ! (from ! (stop !)) (look ! 16 refl)) (lit ! tt) (record { fits = next-fits })) (from ! (stop !))
+            assigns-last !
+            (bin ! (local-at ! 16 refl) (lit ! tt) (record { fits = next-fits })) (from ! (stop !))
             (store ! 16 refl (tt, record { fits = next-fits })) $
             forget ! 6 refl $ forget ! 8 refl $ forget ! 10 refl $ forget ! 14 refl $
             move ! (1 ∷ []) $ split ! $ move ! (1 ∷ []) $ drop ! $ move ! (1 ∷ 3 ∷ 4 ∷ 5 ∷ 0 ∷ 2 ∷ []) $
-            again ! Nearer At i
-            (i .0 + 1, (add-one-le less, subst (λ (c : Cursor). Is Cu.the-row c (cur-val c ∷ [])) (next-cursor (doc .now) (i .0)) gc))
-            (add-one-dec n (i .0) less))))
+            let gn = subst (λ (c : Cursor). Is Cu.the-row c (cur-val c ∷ [])) (next-cursor (doc .now) (i .0)) gc in
+            again ! Nearer At i (i .0 + 1, (add-one-le less, gn)) (add-one-dec n (i .0) less))))
           where
             stepped : Stepped
             stepped = nextOf (doc .now) (cur (i .0))
@@ -379,8 +406,10 @@ module _ {M : Type 1} (𝓤 : URA M) (H : Heap 𝓤) (A : Atoms 𝓤) (W : Given
             in-rec = let h : n ≤ length ys = writes-fit (doc .now) ys in omega arith
 
             in-zs : i .0 < length (zs (i .0))
-            in-zs = let h : length (zs (i .0)) ≡ length ys = same-length (i .0)
-                (i .1 .0) in let k : i .0 < length ys = in-rec in omega arith
+            in-zs =
+                let h : length (zs (i .0)) ≡ length ys = same-length (i .0) (i .1 .0) in
+                let k : i .0 < length ys = in-rec in
+                omega arith
 
             next-fits : i .0 + 1 < 2 ^ 64
             next-fits = let h : length ys < 2 ^ 64 = room₂ .0 in let k : i .0 < length ys = in-rec in omega arith
@@ -389,19 +418,23 @@ module _ {M : Type 1} (𝓤 : URA M) (H : Heap 𝓤) (A : Atoms 𝓤) (W : Given
         ends : (i : Upto) → i .0 ≡ n → ltb (i .0) n ≡ false → Sq W (At i) (runs C Λ En pieces.turn-1 (anyQ (Turned i)))
         unfolding afterTurn
         ends i all e =
-            assigns ! (bin ! (load ! (from ! (stop !)) (look ! 16 refl)) (load ! (from ! (stop !)) (look ! 20 refl)) tt) (from ! (stop !))
+            assigns ! (bin ! (local-at ! 16 refl) (local-at ! 20 refl) tt) (from ! (stop !))
             (init ! 10 refl (tt, tt)) $
             rewrite ! 10 (λ (t : Bool). ‵ (fat fullShare tyBool l₉ 0 (vbool t))) e refl $
-            leaves-loop ! (load ! (from ! (stop !)) (look ! 10 refl)) $ exec ! C Λ En pieces.t-7 (atRet En Post) $
+            leaves-loop ! (local-at ! 10 refl) $ exec ! C Λ En pieces.t-7 (atRet En Post) $
             rewrite ! 0 (λ (m : ℕ). ‵ (row R fullShare (zs m) b o)) all refl $
             closes-slice ! tt R ys (zs n) (same-length n (omega arith)) b o $
             -- [obs; the borrow; its token; doc's token; what doc owns; _11; …]
-            assigns ! (of-opd ! (load ! (from ! (stop !)) (look ! 21 refl))) (from ! (stop !))
+            assigns ! (of-opd ! (local-at ! 21 refl)) (from ! (stop !))
             (init ! 27 refl (EL.lawful Le.the-type Le′.the-laws 𝓤 H A W tt .typed ans _ g₃ .0)) $
-            returns ! (look ! 27 refl) $ forget ! 9 refl $ forget ! 15 refl $ forget ! 17 refl $ forget ! 19 refl $ forget ! 21 refl $
-            forget ! 23 refl $ forget ! 25 refl $ forget ! 27 refl $
-            move ! (27 ∷ 28 ∷ 25 ∷ 26 ∷ 23 ∷ 24 ∷ 21 ∷ 22 ∷ 19 ∷ 20 ∷ 17 ∷ 18 ∷ 15 ∷ 16 ∷ 13 ∷ 14 ∷ 11 ∷ 12 ∷ 9 ∷ 10 ∷ 7 ∷ 8 ∷ 5 ∷ 6 ∷ []) $
-            free1 ! $ free1 ! $ free1 ! $ free1 ! $ free1 ! $ free1 ! $ free1 ! $ free1 ! $ free1 ! $ free1 ! $ free1 ! $ free1 ! $
+            returns ! (look ! 27 refl) $
+            -- what still stands in a local is forgotten, and the twelve locals are freed, the first first
+            forget ! 9 refl $ forget ! 15 refl $ forget ! 17 refl $ forget ! 19 refl $
+            forget ! 21 refl $ forget ! 23 refl $ forget ! 25 refl $ forget ! 27 refl $
+            move ! (27 ∷ 28 ∷ 25 ∷ 26 ∷ 23 ∷ 24 ∷ 21 ∷ 22 ∷ 19 ∷ 20 ∷ 17 ∷ 18
+            ∷ 15 ∷ 16 ∷ 13 ∷ 14 ∷ 11 ∷ 12 ∷ 9 ∷ 10 ∷ 7 ∷ 8 ∷ 5 ∷ 6 ∷ []) $
+            free1 ! $ free1 ! $ free1 ! $ free1 ! $ free1 ! $ free1 ! $
+            free1 ! $ free1 ! $ free1 ! $ free1 ! $ free1 ! $ free1 ! $
             free0 ! $ by ! (exits u₃ g₃)
 
         turns-by : (i : Upto) (c : Bool) → ltb (i .0) n ≡ c → Sq W (At i) (runs C Λ En pieces.turn-1 (anyQ (Turned i)))
@@ -411,76 +444,79 @@ module _ {M : Type 1} (𝓤 : URA M) (H : Heap 𝓤) (A : Atoms 𝓤) (W : Given
         turns : (i : Upto) → Sq W (At i) (runs C Λ En pieces.turn-1 (anyQ (Turned i)))
         turns i = turns-by i (ltb (i .0) n) refl
 
-        -- ---- what stands before the loop, a lemma for each call. [doc's token; what doc owns; records' token; what records owns; _11; …]
+        -- ---- what stands before the loop, a lemma for each call, the last first: each is cited by the one before it
+
+        -- the counter is set, the borrow is opened, and the loop begins with no record written
         opened : Is Cu.the-row (cur 0) (cur-val (cur 0) ∷ [])
-            → Sq W (Held₀
-            (Cells (‵ (fat fullShare word l₈ 0 (vint w64 (length ys)))) (‵ (froom word l₆ 0))
-            (‵ (fat fullShare Cu′.mir l₅ 0 (cur-val (cur 0)))) (‵ (fat fullShare word l₄ 0 (vint w64 n)))
-            (‵ (fat fullShare Le′.mir l₃ 0 u₃))))
+            → Sq W (Before (‵ (fat fullShare Cu′.mir l₅ 0 (cur-val (cur 0)))) (‵ (fat fullShare word l₄ 0 (vint w64 n)))
+            (‵ (fat fullShare Le′.mir l₃ 0 u₃)))
             (runs C Λ En pieces.t-5 (atRet En Post))
         opened g₅ =
-            assigns ! (of-opd ! (lit ! tt)) (from ! (stop !)) (init ! 14 refl (tt, record { fits = lit< tt })) $ forget ! 10 refl $
+            assigns ! (of-opd ! (lit ! tt)) (from ! (stop !)) (init ! 14 refl (tt, record { fits = lit< tt })) $
+            forget ! 10 refl $
             move ! (3 ∷ []) $ fsplit ! $ drop ! $ fsplit ! $ move ! (0 ∷ 1 ∷ 4 ∷ []) $ opens-slice ! tt R ys b o $
             rewrite ! 0 (λ (l : List Token). ‵ (row R fullShare l b o)) (sym (stored-none (doc .now) ys)) refl $
             first ! $ blocks ! $ loops ! 𝓣 Nearer Nearer-wf At turns (0, (zero-le, g₅))
 
+        -- the call of `first`, which is passed a copy of doc: it gives the cursor after no step
         starts : Sq W
-            (Held₀ (Cells (‵ (fat fullShare word l₈ 0 (vint w64 (length ys)))) (‵ (froom word l₆ 0)) (‵ (froom Cu′.mir l₅ 0))
-            (‵ (fat fullShare word l₄ 0 (vint w64 n))) (‵ (fat fullShare Le′.mir l₃ 0 u₃)))) (runs C Λ En pieces.t-4 (atRet En Post))
+            (Before (‵ (froom Cu′.mir l₅ 0)) (‵ (fat fullShare word l₄ 0 (vint w64 n))) (‵ (fat fullShare Le′.mir l₃ 0 u₃)))
+            (runs C Λ En pieces.t-4 (atRet En Post))
         starts =
             move ! (1 ∷ []) $ use1 W (‵ Own ⊛ ‵ Own) (shr-slice-copy 𝓤 H A W (named 0) κ u8 .twice doc (s₁ ∷ [])) $ split ! $
             move ! (2 ∷ 0 ∷ []) $ use2 W (raw (First 𝓤 H A mem run .pre to-first)) goes-first $
             calls-at ! (fmOf 𝓤 H (W .laws) 𝓣) (First 𝓤 H A mem run) known-first to-first
-            (and-then ! (load ! (from ! (stop !)) (look ! 24 refl)) (no-more !)) (λ u.
-            returned ! tt (‵ (flft κ q) ⊛ ‵ ftrue) Cu.the-row u
-            (ensured 𝓤 H A first.ended (first.clauses 𝓤 H A mem run) (κ, tt) (doc, tt) tt)
-            (λ r. r ≡ startCursor (startAnswer (doc .now))) first-said (id⊢ 𝓤 _) (λ r is-first gr.
+            (and-then ! (local-at ! 24 refl) (no-more !)) (λ u.
+            returned ! tt (‵ (flft κ q) ⊛ ‵ ftrue) Cu.the-row u FirstEnsures IsFirst first-said (id⊢ 𝓤 _) (λ r is-first gr.
             let is-c : r ≡ cur 0 = is-first ∙ first-cursor (doc .now) in
             let is-u : u ∷ [] ≡ cur-val (cur 0) ∷ [] =
             LL.tells Cu.the-type Cu′.the-laws r (u ∷ []) gr ∙ ap (λ (c : Cursor). cur-val c ∷ []) is-c in
             land ! (from ! (stop !)) (init ! 17 refl (LL.lawful Cu.the-type Cu′.the-laws 𝓤 H A W .typed r _ gr .0)) $
             rewrite ! 17 (λ (v : Val). ‵ (fat fullShare Cu′.mir l₅ 0 v)) (ap only is-u) refl $ drop ! $
             split ! $ move ! (1 ∷ []) $ drop ! $
-            opened (subst (λ (us : List Val). Is Cu.the-row (cur 0) us) is-u (subst (λ (c : Cursor). Is Cu.the-row c (u ∷ [])) is-c gr))))
+            let gc : Is Cu.the-row (cur 0) (u ∷ []) = subst (λ (c : Cursor). Is Cu.the-row c (u ∷ [])) is-c gr in
+            opened (subst (λ (us : List Val). Is Cu.the-row (cur 0) us) is-u gc)))
 
-        writing : Sq W
-            (Held₀ (Cells (‵ (fat fullShare word l₈ 0 (vint w64 (length ys)))) (‵ (froom word l₆ 0)) (‵ (froom Cu′.mir l₅ 0))
-            (‵ (froom word l₄ 0)) (‵ (fat fullShare Le′.mir l₃ 0 u₃)))) (runs C Λ En pieces.t-3 (atRet En Post))
+        -- the call of `writes`: it gives n
+        writing : Sq W (Before (‵ (froom Cu′.mir l₅ 0)) (‵ (froom word l₄ 0)) (‵ (fat fullShare Le′.mir l₃ 0 u₃)))
+            (runs C Λ En pieces.t-3 (atRet En Post))
         writing =
             use0 W (raw (WritesC 𝓤 H A mem run .pre (to-writes u₃))) (goes-writes u₃ g₃) $
             calls-at ! (fmOf 𝓤 H (W .laws) 𝓣) (WritesC 𝓤 H A mem run) known-writes (to-writes u₃)
-            (and-then ! (load ! (from ! (stop !)) (look ! 21 refl)) (no-more !)) (λ u.
-            returned ! tt (‵ ftrue) usize u (ensured 𝓤 H A writes.ended (writes.clauses 𝓤 H A mem run) tt (ans, tt) tt)
-            (λ r. r ≡ n) writes-said (id⊢ 𝓤 _) (λ r is-n gr. drop ! $ drop ! $
+            (and-then ! (local-at ! 21 refl) (no-more !)) (λ u.
+            returned ! tt (‵ ftrue) usize u WritesEnsures (λ r. r ≡ n) writes-said (id⊢ 𝓤 _) (λ r is-n gr. drop ! $ drop ! $
+            let is-u : u ≡ vint w64 n = ap only (uint-tells w64 r _ gr) ∙ ap (vint w64) is-n in
             land ! (from ! (stop !)) (init ! 18 refl (uint-lawful 𝓤 H A W w64 .typed r _ gr .0)) $
-            rewrite ! 18 (λ (v : Val). ‵ (fat fullShare word l₄ 0 v)) (ap only (uint-tells w64 r _ gr) ∙ ap (vint w64) is-n) refl $ starts))
+            rewrite ! 18 (λ (v : Val). ‵ (fat fullShare word l₄ 0 v)) is-u refl $ starts))
 
-      planning : Sq W
-          (Held₀ (Cells (‵ (fat fullShare word l₈ 0 (vint w64 (length ys)))) (‵ (froom word l₆ 0)) (‵ (froom Cu′.mir l₅ 0))
-          (‵ (froom word l₄ 0)) (‵ (froom Le′.mir l₃ 0)))) (runs C Λ En pieces.t-2 (atRet En Post))
+      -- the call of `plan`, which is passed a copy of doc: it gives the answer
+      planning : Sq W (Before (‵ (froom Cu′.mir l₅ 0)) (‵ (froom word l₄ 0)) (‵ (froom Le′.mir l₃ 0)))
+          (runs C Λ En pieces.t-2 (atRet En Post))
       planning =
           move ! (1 ∷ []) $ use1 W (‵ Own ⊛ ‵ Own) (shr-slice-copy 𝓤 H A W (named 0) κ u8 .twice doc (s₁ ∷ [])) $ split ! $
           move ! (2 ∷ 0 ∷ []) $ use2 W (raw (Plan 𝓤 H A mem run .pre to-plan)) goes-plan $
           calls-at ! (fmOf 𝓤 H (W .laws) 𝓣) (Plan 𝓤 H A mem run) known-plan to-plan
-          (and-then ! (load ! (from ! (stop !)) (look ! 24 refl)) (and-then ! (load ! (from ! (stop !)) (look ! 10 refl)) (no-more !)))
+          (and-then ! (local-at ! 24 refl) (and-then ! (local-at ! 10 refl) (no-more !)))
           (λ u.
-          returned ! tt (‵ (flft κ q) ⊛ ‵ ftrue) Le.the-row u
-          (ensured 𝓤 H A plan.ended (plan.clauses 𝓤 H A mem run) (κ, tt) (doc, (length ys, tt)) tt) (λ r. r ≡ ans) plan-said (id⊢ 𝓤 _)
-          (λ r is-ans gr.
+          returned ! tt (‵ (flft κ q) ⊛ ‵ ftrue) Le.the-row u PlanEnsures (λ r. r ≡ ans) plan-said (id⊢ 𝓤 _) (λ r is-ans gr.
           land ! (from ! (stop !)) (init ! 21 refl (EL.lawful Le.the-type Le′.the-laws 𝓤 H A W tt .typed r _ gr .0)) $ drop ! $
           split ! $ move ! (1 ∷ []) $ drop ! $ writing u (subst (λ (y : Lexed). Is Le.the-row y (u ∷ [])) is-ans gr)))
 
     -- ---- the walk, up to the first call
-    walk : ent 𝓤 (onEntry 𝓤 H A lex-tokens.signature (κ, (κ′, tt)) (q, (q′, tt)) a vals) (WpFn 𝓤 H C Λ code.function (s₁ ∷ s₂ ∷ []) Post)
+    walk : ent 𝓤 (onEntry 𝓤 H A lex-tokens.signature (κ, (κ′, tt)) (q, (q′, tt)) a vals)
+        (WpFn 𝓤 H C Λ code.function (s₁ ∷ s₂ ∷ []) Post)
     walk =
-        qed W ((‵ (flft κ q) ⊛ ‵ (flft κ′ q′) ⊛ ‵ ftrue) ∷ ‵ (owns (ShrSlice (named 0) κ u8 ∷ MutSlice (named 1) κ′ R ∷ []) a vals) ∷ []) ∵
-        split ! $ move ! (1 ∷ []) $ split ! $ move ! (3 ∷ []) $ fsplit ! $ move ! (1 ∷ []) $ fsplit ! $ keep ! (5 ∷ 2 ∷ 3 ∷ 0 ∷ []) $
+        qed W ((‵ (flft κ q) ⊛ ‵ (flft κ′ q′) ⊛ ‵ ftrue)
+        ∷ ‵ (owns (ShrSlice (named 0) κ u8 ∷ MutSlice (named 1) κ′ R ∷ []) a vals) ∷ []) ∵
+        split ! $ move ! (1 ∷ []) $ split ! $ move ! (3 ∷ []) $ fsplit ! $ move ! (1 ∷ []) $ fsplit ! $
+        keep ! (5 ∷ 2 ∷ 3 ∷ 0 ∷ []) $
         enter ! C Λ code.function (s₁ ∷ s₂ ∷ []) _ $
         alloc1 ! (λ l₀. alloc1 !
         (λ l₁. alloc1 !
         (λ l₂. alloc1 !
         (λ l₃. alloc1 !
-        (λ l₄. alloc1 ! (λ l₅. alloc1 ! (λ l₆. alloc1 ! (λ l₇. alloc1 ! (λ l₈. alloc1 ! (λ l₉. alloc1 ! (λ l₁₀. alloc1 ! (λ l₁₁. alloc0 ! $
+        (λ l₄. alloc1 ! (λ l₅. alloc1 ! (λ l₆. alloc1 ! (λ l₇. alloc1 !
+        (λ l₈. alloc1 ! (λ l₉. alloc1 ! (λ l₁₀. alloc1 ! (λ l₁₁. alloc0 ! $
         params1 ! $
         pass1 ! (init ! 20 refl (tt, (tt, (record { fits = room₁ .0 }, tt)))) $
         pass1 ! (init ! 18 refl (tt, (tt, (record { fits = room₂ .0 }, tt)))) $ pass0 ! $
@@ -494,8 +530,10 @@ module _ {M : Type 1} (𝓤 : URA M) (H : Heap 𝓤) (A : Atoms 𝓤) (W : Given
     (known-first : Triple 𝓤 (𝓣 .C #records·first) (First 𝓤 H A mem run))
     (known-advance : Triple 𝓤 (𝓣 .C #records·advance) (Advance 𝓤 H A mem run)) where
   lex-tokens-walks : Walks 𝓤 H A lex-tokens.ended stayed (WpFn 𝓤 H (𝓣 .C) (𝓣 .Λ) code.function) (lex-tokens.clauses 𝓤 H A mem run)
-  lex-tokens-walks = walked 𝓤 H A lex-tokens.ended stayed (lex-tokens.clauses 𝓤 H A mem run) (WpFn 𝓤 H (𝓣 .C) (𝓣 .Λ) code.function)
-      (λ κs. (slice-vals, (slice-vals, tt))) (λ κs. (shr-slice-tells (named 0) (κs .0) u8, (mut-slice-tells (named 1) (κs .1 .0) R, tt)))
+  lex-tokens-walks =
+      walked 𝓤 H A lex-tokens.ended stayed (lex-tokens.clauses 𝓤 H A mem run) (WpFn 𝓤 H (𝓣 .C) (𝓣 .Λ) code.function)
+      (λ κs. (slice-vals, (slice-vals, tt)))
+      (λ κs. (shr-slice-tells (named 0) (κs .0) u8, (mut-slice-tells (named 1) (κs .1 .0) R, tt)))
       (λ κs qs bounds a g are. via 𝓤 _ (fst∗ 𝓤 _ (emp 𝓤))
       (walk 𝓤 H A W mem run (κs .0) (κs .1 .0) (qs .0) (qs .1 .0) (a .0) (a .1 .0 .ptr .0) (a .1 .0 .ptr .1) (a .1 .0 .name)
       (a .1 .0 .now) (are .0 .0 .1) (are .1 .0 .0 .1) 𝓣 known-plan known-writes known-first known-advance))
