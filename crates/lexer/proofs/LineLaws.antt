@@ -2,6 +2,7 @@
 -- Assumes nothing.
 use Prim.Native.Nat.{ℕ, zero, suc, _+_, _-_, _≤_, _<_}
 use mathlib.Core.Path.{_≡_, refl, sym, ap, _∙_}
+use mathlib.Core.Logic.{_⊎_, inl, inr}
 use mathlib.Core.Bool.{Bool, true, false, cond, not, _&&_}
 use mathlib.Core.List.{List, [], _∷_}
 use native.Mathlib.Omega.{arith}
@@ -63,12 +64,18 @@ lines-split (suc n) (b ∷ s) = omega (arith, lines-split n s, behind-front 0 b 
 pub lines-taken : (n : ℕ) (s : List ℕ) → lineFeeds (take n s) ≤ n
 lines-taken n s = omega (arith, lines-le (take n s), length-take n s)
 
--- from one place to another
-pub lines-between : (doc : List ℕ) (i j : ℕ) → i ≤ j → lineFeeds (take (j - i) (drop i doc)) + lineFeeds (drop j doc) ≡ lineFeeds (drop i doc)
-lines-between doc i j h =
-    let same : i + (j - i) ≡ j = omega arith in
-    let rest : drop (j - i) (drop i doc) ≡ drop j doc = drop-drop (j - i) i doc ∙ ap (λ (k : ℕ). drop k doc) same in
-    omega (arith, lines-split (j - i) (drop i doc), ap lineFeeds rest)
+-- from one place by two names
+pub lines-from : (doc : List ℕ) (i j : ℕ) → i ≡ j → lineFeeds (drop i doc) ≡ lineFeeds (drop j doc)
+lines-from doc i j e = ap (λ (k : ℕ). lineFeeds (drop k doc)) e
+
+-- from a place on: n bytes and the rest, or up to another place and the rest
+pub lines-on : (doc : List ℕ) (i n : ℕ)
+    → lineFeeds (take n (drop i doc)) + lineFeeds (drop (i + n) doc) ≡ lineFeeds (drop i doc)
+lines-on doc i n = omega (arith, lines-split n (drop i doc), ap lineFeeds (drop-drop n i doc))
+
+pub lines-between : (doc : List ℕ) (i j : ℕ) → i ≤ j
+    → lineFeeds (take (j - i) (drop i doc)) + lineFeeds (drop j doc) ≡ lineFeeds (drop i doc)
+lines-between doc i j h = omega (arith, lines-on doc i (j - i), lines-from doc (i + (j - i)) j (omega arith))
 
 -- ---- at a place
 
@@ -81,6 +88,13 @@ module _ (s : List ℕ) (i : ℕ) (h : i < length s) where
 
   pub line-at-other : (getD s i 0 ≡ 10 → ⊥) → lineFeeds (drop i s) ≡ lineFeeds (drop (i + 1) s)
   line-at-other e = rw split (other-front (getD s i 0) (drop (i + 1) s) e)
+
+  -- where `if byte == LF { n += 1; }` makes m of n, the LFs counted and those still to come stay the same
+  pub line-counted : (n m : ℕ) {A B : Type 0} → (A → getD s i 0 ≡ 10) → (B → getD s i 0 ≡ 10 → ⊥)
+      → (A × (m ≡ n + 1)) ⊎ (B × (m ≡ n))
+      → (m ≤ n + 1) × (m + lineFeeds (drop (i + 1) s) ≡ n + lineFeeds (drop i s))
+  line-counted n m f g (inl w) = let e = w .1 in (omega arith, omega (arith, line-at-lf (f (w .0))))
+  line-counted n m f g (inr w) = let e = w .1 in (omega arith, omega (arith, line-at-other (g (w .0))))
 
 pub lines-end : (s : List ℕ) (i : ℕ) → length s ≤ i → lineFeeds (drop i s) ≡ 0
 lines-end s i h = rw (drop-of-length-le s h) lines-none
