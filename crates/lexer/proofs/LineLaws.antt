@@ -200,10 +200,14 @@ newline-line (b ∷ s) h =
     crlf [] e f = absurd (omega arith)
     crlf (x ∷ s) e f = rw (ne-eqb b 10 (λ z. omega arith), eq-eqb x 10 f)
 
+-- n is 1 where the byte is an LF, else 0
+abbrev pub OneIfLf : ℕ → ℕ → Type 0
+OneIfLf b n = (b ≡ 10 → n ≡ 1) × ((b ≡ 10 → ⊥) → n ≡ 0)
+
 -- so by the byte before its end
-pub newline-token : (doc : List ℕ) (at end : ℕ) → at < length doc → kindOf (drop at doc) ≡ Newline → end ≡ at + tokenLen (drop at doc)
-    → (getD doc (end - 1) 0 ≡ 10 → lineFeeds (take (tokenLen (drop at doc)) (drop at doc)) ≡ 1)
-    × ((getD doc (end - 1) 0 ≡ 10 → ⊥) → lineFeeds (take (tokenLen (drop at doc)) (drop at doc)) ≡ 0)
+pub newline-token : (doc : List ℕ) (at end : ℕ) → at < length doc
+    → kindOf (drop at doc) ≡ Newline → end ≡ at + tokenLen (drop at doc)
+    → OneIfLf (getD doc (end - 1) 0) (lineFeeds (take (tokenLen (drop at doc)) (drop at doc)))
 unfolding tokenLen extent
 newline-token doc at end h k e =
     let s = drop at doc in
@@ -211,6 +215,8 @@ newline-token doc at end h k e =
     let size : tokenLen s ≡ suc n = ap (λ (j : TokenKind). extent j s) k in
     let same : at + n ≡ end - 1 = omega (arith, size) in
     let byte : getD s n 0 ≡ getD doc (end - 1) 0 = getD-drop at doc n 0 ∙ ap (λ (i : ℕ). getD doc i 0) same in
+    let last : lineFeeds (take (suc n) s) ≡ cond (eqb (getD doc (end - 1) 0) 10) 1 0 =
+    newline-line s (omega (arith, length-drop at doc)) ∙ ap (λ (b : ℕ). cond (eqb b 10) 1 0) byte in
     let is : lineFeeds (take (tokenLen s) s) ≡ cond (eqb (getD doc (end - 1) 0) 10) 1 0 =
-    ap (λ (i : ℕ). lineFeeds (take i s)) size ∙ newline-line s (omega (arith, length-drop at doc)) ∙ ap (λ (b : ℕ). cond (eqb b 10) 1 0) byte in
+    ap (λ (i : ℕ). lineFeeds (take i s)) size ∙ last in
     (λ f. is ∙ rw (eq-eqb (getD doc (end - 1) 0) 10 f), λ f. is ∙ rw (ne-eqb (getD doc (end - 1) 0) 10 f))

@@ -1,13 +1,20 @@
--- What the scanning functions look for: the promises of helpers, not rules.
+-- What the helpers promise: what a scan looks for and where it ends, which tokens a loop passed and what it stored. None of
+-- it is a rule: no promise of a public function cites it.
 -- Assumes nothing.
-use Prim.Native.Nat.{ℕ, _+_, _-_}
+use Prim.Native.Nat.{ℕ, _+_, _-_, _≤_, _<_}
+use mathlib.Core.Path.{_≡_}
 use mathlib.Core.Bool.{Bool, not, cond, _||_}
-use mathlib.Core.List.{List, [], _∷_}
-use lib.ListN.{take, drop}
+use mathlib.Core.List.{List, [], _∷_, _++_, map}
+use lib.ListN.{length, take, drop}
+use lib.Seq.{sets}
 use lib.Dec.{ltb, eqb}
 use Rattle.token.specs.declared.Token.{Token}
+use Rattle.token.specs.Records.{recordOf}
 use Rattle.lexer.specs.Lines.{lineFeeds}
-use Rattle.lexer.specs.Tokens.{tokensFrom}
+use Rattle.lexer.specs.Tokens.{tokenAt, tokensFrom}
+use Rattle.lexer.specs.Whole.{recordsOf, tokenCount}
+
+-- ---- scans
 
 -- x is one of three bytes, or none of them
 abbrev pub oneOf : ℕ → ℕ → ℕ → ℕ → Bool
@@ -16,9 +23,22 @@ oneOf a b c x = eqb x a || (eqb x b || eqb x c)
 abbrev pub noneOf : ℕ → ℕ → ℕ → ℕ → Bool
 noneOf a b c x = not (oneOf a b c x)
 
--- the byte that hides another in a string with the mark q: a backslash in the basic kinds, else none but the mark itself
+-- the byte that hides another in a string with the mark q: a backslash in the basic kinds; else none does, and the mark
+-- stands in for it
 abbrev pub escapeOf : ℕ → ℕ
 escapeOf q = cond (eqb q 34) 92 q
+
+-- from i a scan goes on as from `start`: it ends at the same place; `reach` is how far it reaches from the front of a list
+abbrev pub SameEnd : (List ℕ → ℕ) → List ℕ → ℕ → ℕ → Type 0
+SameEnd reach s start i = (i ≤ length s) × (i + reach (drop i s) ≡ start + reach (drop start s))
+
+-- ---- tokens
+
+-- a token is the one at its place of the document, on a line that does not pass that place plus 1
+pub record Stands (doc : List ℕ) (t : Token) : Type 0 where
+  pub within : t .span .start < length doc
+  pub here : t ≡ tokenAt (t .span .start) (t .line) (drop (t .span .start) doc)
+  pub low : t .line ≤ t .span .start + 1
 
 -- the tokens at the front that begin before a place
 unfoldable pub before : ℕ → List Token → List Token
@@ -29,7 +49,25 @@ before stop (t ∷ ts) = cond (ltb (t .span .start) stop) (t ∷ before stop ts)
 abbrev pub tokensUntil : ℕ → ℕ → ℕ → List ℕ → List Token
 tokensUntil stop at line doc = before stop (tokensFrom at line (drop at doc))
 
+-- the line behind a token: its own, and the LFs in it
+abbrev pub lineOver : List ℕ → Token → ℕ
+lineOver doc t = t .line + lineFeeds (take (t .span .end - t .span .start) (drop (t .span .start) doc))
+
 -- the line behind some tokens, or the one given where there are none
 unfoldable pub linePast : List ℕ → ℕ → List Token → ℕ
 linePast doc line [] = line
-linePast doc line (t ∷ ts) = linePast doc (t .line + lineFeeds (take (t .span .end - t .span .start) (drop (t .span .start) doc))) ts
+linePast doc line (t ∷ ts) = linePast doc (lineOver doc t) ts
+
+-- the line behind the tokens of `tokensUntil`
+abbrev pub lineUntil : ℕ → ℕ → ℕ → List ℕ → ℕ
+lineUntil stop at line doc = linePast doc line (tokensUntil stop at line doc)
+
+-- ---- records
+
+-- their records stored over old ones, from the n-th on
+abbrev pub storesUntil : ℕ → ℕ → ℕ → List ℕ → ℕ → List (List ℕ) → List (List ℕ)
+storesUntil stop at line doc n old = sets old n (map recordOf (tokensUntil stop at line doc))
+
+-- all records of a document over old ones, from the front
+abbrev pub recordsOver : List ℕ → List (List ℕ) → List (List ℕ)
+recordsOver doc old = recordsOf doc ++ drop (tokenCount doc) old

@@ -4,18 +4,16 @@ mod lines;
 mod scan;
 
 ghost use mathlib.Core.Path.{_≡_};
-ghost use mathlib.Core.List.{_++_, map};
 ghost use Prim.Native.Nat.{_+_, _≤_, _<_};
 ghost use lib.ListN.{length, drop, getD};
-ghost use lib.Seq.{sets};
 ghost use Rattle.text.specs.Answers.{checkFault};
-ghost use Rattle.token.specs.Records.{tokenOf, recordOf};
+ghost use Rattle.token.specs.Records.{tokenOf};
 ghost use Rattle.lexer.specs.Tokens.{hasBom, startOf, tokenBy, tokenAt, lineAfter};
 ghost use Rattle.lexer.specs.Steps.{cursorOf, startAnswer, startNumber, startValue, startRefusal, startReturned};
 ghost use Rattle.lexer.specs.Steps.{stepOf, stepNumber, stepValue, stepRefusal, stepReturned};
-ghost use Rattle.lexer.specs.Whole.{recordsOf, tokenCount, lexAnswer, lexMemory};
+ghost use Rattle.lexer.specs.Whole.{tokenCount, lexAnswer, lexMemory};
 ghost use Rattle.lexer.specs.Whole.{lexedNumber, lexedValue, lexedLength, lexRefusal, lexReturned};
-ghost use Rattle.lexer.specs.Scans.{tokensUntil, linePast};
+ghost use Rattle.lexer.specs.Scans.{tokensUntil, lineUntil, storesUntil, recordsOver};
 use text::LIMIT;
 use text::Refusal;
 use text::Utf8Check;
@@ -139,7 +137,7 @@ fn count(doc: &[u8]) -> usize
 fn fill(doc: &[u8], records: &mut [[usize; 4]]) -> usize
     requires { ⌜ tokenCount (now doc) ≤ length (now records) ⌝ }
     ensures count { λ r. ⌜ r ≡ tokenCount (now (doc .entry)) ⌝ }
-    ensures memory { λ _. ⌜ now (records .exit) ≡ recordsOf (now (doc .entry)) ++ drop (tokenCount (now (doc .entry))) (now (records .entry)) ⌝ }
+    ensures memory { λ _. ⌜ now (records .exit) ≡ recordsOver (now (doc .entry)) (now (records .entry)) ⌝ }
 {
     let all = lex_until(doc, start_of(doc), 1, doc.len(), records);
     let n = all.count;
@@ -189,8 +187,8 @@ fn lex_until(
 ) -> Passed
     requires { ⌜ (start ≤ length (now doc)) × (stop ≤ length (now doc)) × (first ≤ start + 1) ⌝ }
     ensures count { λ r. ⌜ r .count ≡ length (tokensUntil stop start first (now (doc .entry))) ⌝ }
-    ensures line { λ r. ⌜ r .line ≡ linePast (now (doc .entry)) first (tokensUntil stop start first (now (doc .entry))) ⌝ }
-    ensures memory { λ _. ⌜ now (records .exit) ≡ sets (now (records .entry)) 0 (map recordOf (tokensUntil stop start first (now (doc .entry)))) ⌝ }
+    ensures line { λ r. ⌜ r .line ≡ lineUntil stop start first (now (doc .entry)) ⌝ }
+    ensures memory { λ _. ⌜ now (records .exit) ≡ storesUntil stop start first (now (doc .entry)) 0 (now (records .entry)) ⌝ }
 {
     let mut at = start;
     let mut line = first;

@@ -1,15 +1,16 @@
 // Lines: the one on which the next token begins. Rule: specs/Lines.antt.
 ghost use mathlib.Core.Path.{_≡_};
-ghost use Prim.Native.Nat.{_+_, _-_, _≤_, _<_};
+ghost use Prim.Native.Nat.{_+_, _-_, _≤_};
 ghost use lib.ListN.{length, take, drop};
 ghost use Rattle.lexer.specs.Lines.{lineFeeds};
-ghost use Rattle.lexer.specs.Tokens.{tokenAt, lineAfter};
+ghost use Rattle.lexer.specs.Tokens.{lineAfter};
+ghost use Rattle.lexer.specs.Scans.{Stands};
 use token::Token;
 use token::TokenKind;
 
 // The line behind a token. Only a newline and the ml kinds hold an LF, so no other is looked at.
 pub(crate) fn line_after(doc: &[u8], token: Token) -> usize
-    requires { ⌜ (token .span .start < length (now doc)) × (token ≡ tokenAt (token .span .start) (token .line) (drop (token .span .start) (now doc))) × (token .line ≤ token .span .start + 1) ⌝ }
+    requires { ⌜ Stands (now doc) token ⌝ }
     ensures { λ r. ⌜ r ≡ lineAfter (token .line) (drop (token .span .start) (now (doc .entry))) ⌝ }
 {
     let start = token.span.start;

@@ -7,9 +7,10 @@ ghost use lib.Dec.{eqb};
 ghost use lib.ListN.{length, drop, getD};
 ghost use Rattle.classes.specs.Classes.{wschar};
 ghost use Rattle.classes.specs.Runs.{run};
+ghost use Rattle.classes.proofs.RunLaws.{Block};
 ghost use Rattle.lexer.specs.Bytes.{hides, inAtom};
 ghost use Rattle.lexer.specs.Extents.{lineTail, triple, upToTwo, mlTail};
-ghost use Rattle.lexer.specs.Scans.{oneOf, noneOf, escapeOf};
+ghost use Rattle.lexer.specs.Scans.{oneOf, noneOf, escapeOf, SameEnd};
 
 // Over the spaces and tabs.
 pub(crate) fn wschar_run(doc: &[u8], start: usize) -> usize
@@ -56,10 +57,10 @@ pub(crate) fn find_slice(doc: &[u8], start: usize, a: u8, b: u8, c: u8) -> usize
     i
 }
 
-// Over blocks of sixteen bytes with none of the three.
+// Over blocks of sixteen bytes with none of the three: a place from which the search goes on.
 fn find_block(doc: &[u8], start: usize, a: u8, b: u8, c: u8) -> usize
     requires { ⌜ start ≤ length (now doc) ⌝ }
-    ensures { λ r. ⌜ (r ≤ length (now (doc .entry))) × (r + run (noneOf a b c) (drop r (now (doc .entry))) ≡ start + run (noneOf a b c) (drop start (now (doc .entry)))) ⌝ }
+    ensures { λ r. ⌜ SameEnd (run (noneOf a b c)) (now (doc .entry)) start r ⌝ }
 {
     let mut i = start;
     while 16 <= doc.len() - i {
@@ -75,7 +76,7 @@ fn find_block(doc: &[u8], start: usize, a: u8, b: u8, c: u8) -> usize
 // for, and no branch among them, so that the compiler tests the sixteen at once.
 fn is_clear(doc: &[u8], i: usize, a: u8, b: u8, c: u8) -> bool
     requires { ⌜ i + 16 ≤ length (now doc) ⌝ }
-    ensures { λ r. ⌜ (r ≡ true → run (noneOf a b c) (drop i (now (doc .entry))) ≡ 16 + run (noneOf a b c) (drop (i + 16) (now (doc .entry)))) ⌝ }
+    ensures { λ r. ⌜ (r ≡ true → Block (noneOf a b c) (now (doc .entry)) i 16) ⌝ }
 {
     let mut has_a = false;
     let mut has_b = false;

@@ -12,7 +12,7 @@ use Rattle.token.specs.declared.Token.{Token}
 use Rattle.token.specs.Records.{recordOf}
 use Rattle.lexer.specs.Table.{tokenLen}
 use Rattle.lexer.specs.Tokens.{tokenAt, lineAfter}
-use Rattle.lexer.specs.Scans.{tokensUntil, linePast}
+use Rattle.lexer.specs.Scans.{tokensUntil, linePast, lineUntil, storesUntil}
 use Rattle.lexer.proofs.TokenLaws.{token-fits-at, token-long-at, line-fits-at}
 use Rattle.lexer.proofs.UntilLaws.{until-step, until-stop, past-step, past-none}
 use borrow.Author.Needs.{needs}
@@ -24,8 +24,8 @@ abbrev Inv-loop : tie.InvT-loop
 Inv-loop doc start first stop records₀ at₀ line₀ n₀ records at line n =
     (at ≤ length doc) × (n ≤ at) × (line ≤ at + 1) × (length records ≡ length records₀)
     × (n + length (tokensUntil stop at line doc) ≡ length (tokensUntil stop start first doc))
-    × (linePast doc line (tokensUntil stop at line doc) ≡ linePast doc first (tokensUntil stop start first doc))
-    × (sets records n (map recordOf (tokensUntil stop at line doc)) ≡ sets records₀ 0 (map recordOf (tokensUntil stop start first doc)))
+    × (lineUntil stop at line doc ≡ lineUntil stop start first doc)
+    × (storesUntil stop at line doc n records ≡ storesUntil stop start first doc 0 records₀)
 
 abbrev μ-loop : tie.MeasureT-loop
 μ-loop doc start first stop records₀ at₀ line₀ n₀ records at line n = length doc - at
@@ -49,7 +49,9 @@ add-n : tie.Need-add-n Inv-loop μ-loop
 add-n c = omega arith
 
 line-after-requires : tie.Need-line-after-requires Inv-loop μ-loop
-line-after-requires c κs = rw (c .before .process-token .ensures) (omega arith, refl, omega arith)
+line-after-requires c κs =
+    rw (c .before .process-token .ensures)
+    (record { within = omega arith; here = refl; low = omega arith })
 
 loop-less : tie.Need-loop-less Inv-loop μ-loop
 loop-less c = let doc = c .before .before .before .before .before .before .args .doc .now in

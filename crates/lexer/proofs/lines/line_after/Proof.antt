@@ -1,7 +1,7 @@
 -- `line_after` is right because a newline holds an LF where its last byte is one, the ml kinds are counted, and no other
 -- kind holds any.
 -- Assumes nothing.
-use Prim.Native.Nat.{ℕ, suc, _+_, _-_, _≤_, _<_}
+use Prim.Native.Nat.{ℕ, _+_, _-_, _≤_, _<_}
 use mathlib.Core.Path.{_≡_, refl, sym, ap, _∙_}
 use mathlib.Core.Bool.{Bool, true, false, not, _||_}
 use mathlib.Core.List.{List, [], _∷_}
@@ -16,103 +16,109 @@ use Rattle.token.specs.declared.Token.{Token}
 use Rattle.token.proofs.TokenKind as kind
 use Rattle.lexer.specs.Lines.{lineFeeds}
 use Rattle.lexer.specs.Table.{kindOf, tokenLen}
-use Rattle.lexer.specs.Tokens.{tokenAt, lineAfter}
+use Rattle.lexer.specs.Tokens.{lineAfter}
 use Rattle.lexer.proofs.TokenLaws.{token-fits-at, token-long-at}
-use Rattle.lexer.proofs.LineLaws.{newline-token, token-no-lf, lines-taken}
+use Rattle.lexer.proofs.LineLaws.{OneIfLf, newline-token, token-no-lf, lines-taken}
 use borrow.Author.Needs.{needs}
 use native.Mathlib.Omega.{arith}
 use Rattle.lexer.proofs.lines.line_after.Statement.{statement}
 use Rattle.lexer.proofs.lines.line_after.Tie as tie
 
--- what is known of the token
-record Facts (doc : List ℕ) (t : Token) : Type 0 where
-  kind : t .kind ≡ kindOf (drop (t .span .start) doc)
-  end : t .span .end ≡ t .span .start + tokenLen (drop (t .span .start) doc)
-  fits : t .span .end ≤ length doc
-  long : t .span .start < t .span .end
+-- the bytes from the token's start on
+abbrev bytes : tie.Start → List ℕ
+bytes c = drop (c .args .token .span .start) (c .args .doc .now)
 
-facts : (doc : List ℕ) (t : Token) → t .span .start < length doc → t ≡ tokenAt (t .span .start) (t .line) (drop (t .span .start) doc) → Facts doc t
-facts doc t h e =
-    let end = ap (λ (u : Token). u .span .end) e in
+-- what is known of the token
+record Known (c : tie.Start) : Type 0 where
+  kind : c .args .token .kind ≡ kindOf (bytes c)
+  end : c .args .token .span .end ≡ c .args .token .span .start + tokenLen (bytes c)
+  fits : c .args .token .span .end ≤ length (c .args .doc .now)
+  long : c .args .token .span .start < c .args .token .span .end
+
+known : (c : tie.Start) → Known c
+known c =
+    let doc = c .args .doc .now in
+    let start = c .args .token .span .start in
+    let end = ap (λ (u : Token). u .span .end) (c .pre .here) in
     record {
-      kind = ap (λ (u : Token). u .kind) e;
+      kind = ap (λ (u : Token). u .kind) (c .pre .here);
       end = end;
-      fits = omega (arith, token-fits-at doc (t .span .start) (omega arith));
-      long = omega (arith, token-long-at doc (t .span .start) h);
+      fits = omega (arith, token-fits-at doc start (omega arith));
+      long = omega (arith, token-long-at doc start (c .pre .within));
     }
 
--- the LFs counted are those of the token
-ml : (doc : List ℕ) (t : Token) → Facts doc t → (n r : ℕ) → n ≡ lineFeeds (take (t .span .end - t .span .start) (drop (t .span .start) doc))
-    → r ≡ t .line + n → r ≡ lineAfter (t .line) (drop (t .span .start) doc)
-ml doc t f n r e g =
-    let size : t .span .end - t .span .start ≡ tokenLen (drop (t .span .start) doc) = omega (arith, f .end) in
-    g ∙ ap (λ (k : ℕ). t .line + k) (e ∙ ap (λ (k : ℕ). lineFeeds (take k (drop (t .span .start) doc))) size)
+-- a newline, by its last byte
+newline : (c : tie.Start) → c .args .token .kind ≡ Newline
+    → OneIfLf (getD (c .args .doc .now) (c .args .token .span .end - 1) 0) (lineFeeds (take (tokenLen (bytes c)) (bytes c)))
+newline c k =
+    let at = c .args .token .span in
+    let f = known c in
+    newline-token (c .args .doc .now) (at .start) (at .end) (c .pre .within) (sym (f .kind) ∙ k) (f .end)
+
+-- an ml kind, by the LFs counted in it
+counted : (c : tie.Start) (n : ℕ)
+    → n ≡ lineFeeds (take (c .args .token .span .end - c .args .token .span .start) (bytes c))
+    → (n + c .args .token .span .start ≤ c .args .token .span .end)
+    × (c .args .token .line + n ≡ lineAfter (c .args .token .line) (bytes c))
+counted c n e =
+    let at = c .args .token .span in
+    let f = known c in
+    let size : at .end - at .start ≡ tokenLen (bytes c) = omega (arith, f .end) in (
+      omega (arith, f .long, lines-taken (at .end - at .start) (bytes c)),
+      ap (λ (k : ℕ). c .args .token .line + k) (e ∙ ap (λ (k : ℕ). lineFeeds (take k (bytes c))) size),
+    )
 
 enum-told : tie.Need-enum-told
 enum-told c = search needs
 
 sub-if1 : tie.Need-sub-if1
-sub-if1 c =
-    let f = facts (c .before .before .before .args .doc .now) (c .before .before .before .args .token) (c .before .before .before .pre .0) (c .before .before .before .pre .1) in
-    omega (arith, f .long)
+sub-if1 c = omega (arith, known (c .before .before .before) .long)
 
 shared-slice-read-if1 : tie.Need-shared-slice-read-if1
-shared-slice-read-if1 c =
-    let f = facts (c .before .before .before .before .args .doc .now) (c .before .before .before .before .args .token) (c .before .before .before .before .pre .0) (c .before .before .before .before .pre .1) in
-    omega (arith, f .long, f .fits)
+shared-slice-read-if1 c = let f = known (c .before .before .before .before) in omega arith
 
 add-result : tie.Need-add-result
-add-result c =
-    let f = facts (c .before .before .before .before .before .args .doc .now) (c .before .before .before .before .before .args .token) (c .before .before .before .before .before .pre .0) (c .before .before .before .before .before .pre .1) in
-    omega arith
+add-result c = omega arith
 
 enum-told-2 : tie.Need-enum-told-2
 enum-told-2 c = search needs
 
 line-feeds-requires : tie.Need-line-feeds-requires
-line-feeds-requires c κs =
-    let f = facts (c .before .before .before .args .doc .now) (c .before .before .before .args .token) (c .before .before .before .pre .0) (c .before .before .before .pre .1) in
-    omega (arith, f .long, f .fits)
+line-feeds-requires c κs = let f = known (c .before .before .before) in omega arith
 
 add-result-2 : tie.Need-add-result-2
 add-result-2 c =
-    let f = facts (c .before .before .before .before .args .doc .now) (c .before .before .before .before .args .token) (c .before .before .before .before .pre .0) (c .before .before .before .before .pre .1) in
-    omega (arith, f .long, f .fits, c .line-feeds .ensures, lines-taken (c .before .before .before .before .args .token .span .end - c .before .before .before .before .args .token .span .start) (drop (c .before .before .before .before .args .token .span .start) (c .before .before .before .before .args .doc .now)))
+    let start = c .before .before .before .before in
+    let few = counted start (c .line-feeds .result) (c .line-feeds .ensures) .0 in
+    omega (arith, known start .fits)
 
 enum-told-3 : tie.Need-enum-told-3
 enum-told-3 c = search needs
 
 line-feeds-requires-2 : tie.Need-line-feeds-requires-2
-line-feeds-requires-2 c κs =
-    let f = facts (c .before .before .before .args .doc .now) (c .before .before .before .args .token) (c .before .before .before .pre .0) (c .before .before .before .pre .1) in
-    omega (arith, f .long, f .fits)
+line-feeds-requires-2 c κs = let f = known (c .before .before .before) in omega arith
 
 add-result-3 : tie.Need-add-result-3
 add-result-3 c =
-    let f = facts (c .before .before .before .before .args .doc .now) (c .before .before .before .before .args .token) (c .before .before .before .before .pre .0) (c .before .before .before .before .pre .1) in
-    omega (arith, f .long, f .fits, c .line-feeds2 .ensures, lines-taken (c .before .before .before .before .args .token .span .end - c .before .before .before .before .args .token .span .start) (drop (c .before .before .before .before .args .token .span .start) (c .before .before .before .before .args .doc .now)))
+    let start = c .before .before .before .before in
+    let few = counted start (c .line-feeds2 .result) (c .line-feeds2 .ensures) .0 in
+    omega (arith, known start .fits)
 
 returns : tie.Need-returns
 returns c =
-    let f = facts (c .before .before .before .before .before .args .doc .now) (c .before .before .before .before .before .args .token) (c .before .before .before .before .before .pre .0) (c .before .before .before .before .before .pre .1) in
-    let one = newline-token (c .before .before .before .before .before .args .doc .now) (c .before .before .before .before .before .args .token .span .start) (c .before .before .before .before .before .args .token .span .end) (c .before .before .before .before .before .pre .0) (sym (f .kind) ∙ c .before .before .enum-told .given .1) (f .end) .0 (c .if1 .taken) in
+    let one = newline (c .before .before .before .before .before) (c .before .before .enum-told .given .1) .0 (c .if1 .taken) in
     omega arith
 
 returns-2 : tie.Need-returns-2
 returns-2 c =
-    let f = facts (c .before .before .before .before .before .args .doc .now) (c .before .before .before .before .before .args .token) (c .before .before .before .before .before .pre .0) (c .before .before .before .before .before .pre .1) in
-    let none = newline-token (c .before .before .before .before .before .args .doc .now) (c .before .before .before .before .before .args .token .span .start) (c .before .before .before .before .before .args .token .span .end) (c .before .before .before .before .before .pre .0) (sym (f .kind) ∙ c .before .before .enum-told .given .1) (f .end) .1 (c .if1 .left) in
+    let none = newline (c .before .before .before .before .before) (c .before .before .enum-told .given .1) .1 (c .if1 .left) in
     omega arith
 
 returns-3 : tie.Need-returns-3
-returns-3 c =
-    let f = facts (c .before .before .before .before .args .doc .now) (c .before .before .before .before .args .token) (c .before .before .before .before .pre .0) (c .before .before .before .before .pre .1) in
-    ml (c .before .before .before .before .args .doc .now) (c .before .before .before .before .args .token) f _ _ (c .line-feeds .ensures) refl
+returns-3 c = counted (c .before .before .before .before) (c .line-feeds .result) (c .line-feeds .ensures) .1
 
 returns-4 : tie.Need-returns-4
-returns-4 c =
-    let f = facts (c .before .before .before .before .args .doc .now) (c .before .before .before .before .args .token) (c .before .before .before .before .pre .0) (c .before .before .before .before .pre .1) in
-    ml (c .before .before .before .before .args .doc .now) (c .before .before .before .before .args .token) f _ _ (c .line-feeds2 .ensures) refl
+returns-4 c = counted (c .before .before .before .before) (c .line-feeds2 .result) (c .line-feeds2 .ensures) .1
 
 -- by their tags, the kinds that hold no LF
 abbrev plain : ℕ → Bool
@@ -120,12 +126,15 @@ plain t = not (eqb t 9 || (eqb t 12 || eqb t 13))
 
 returns-5 : tie.Need-returns-5
 returns-5 c =
-    let f = facts (c .before .before .args .doc .now) (c .before .before .args .token) (c .before .before .pre .0) (c .before .before .pre .1) in
-    let t = c .before .before .args .token in
+    let s = bytes (c .before .before) in
     let is = keys-are true plain (0 ∷ 1 ∷ 2 ∷ 3 ∷ 4 ∷ 5 ∷ 6 ∷ 7 ∷ 8 ∷ 10 ∷ 11 ∷ 14 ∷ 15 ∷ []) tt (c .match .keys4) in
-    let other : (k : TokenKind) → plain (tagOf kind.the-type k) ≡ false → kindOf (drop (t .span .start) (c .before .before .args .doc .now)) ≡ k → ⊥ =
-    λ k x e. not-both (sym is) (ap (λ (j : TokenKind). plain (tagOf kind.the-type j)) (f .kind ∙ e) ∙ x) in
-    omega (arith, token-no-lf (drop (t .span .start) (c .before .before .args .doc .now)) (other Newline refl) (other MlLiteralString refl) (other MlBasicString refl))
+    let tag : (k : TokenKind) → kindOf s ≡ k → plain (tagOf kind.the-type k) ≡ true =
+    λ k e. ap (λ (j : TokenKind). plain (tagOf kind.the-type j)) (sym (known (c .before .before) .kind ∙ e)) ∙ sym is in
+    omega (
+      arith,
+      token-no-lf s (λ e. not-both (tag Newline e) refl)
+          (λ e. not-both (tag MlLiteralString e) refl) (λ e. not-both (tag MlBasicString e) refl),
+    )
 
 pub line-after-spec : {M : Type 1} → statement M
 line-after-spec =

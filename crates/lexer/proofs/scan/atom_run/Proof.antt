@@ -7,13 +7,14 @@ use lib.ListN.{length, drop}
 use Rattle.classes.specs.Runs.{run}
 use Rattle.classes.proofs.RunLaws.{run-step, run-stop, run-end}
 use Rattle.lexer.specs.Bytes.{inAtom}
+use Rattle.lexer.specs.Scans.{SameEnd}
 use borrow.Author.Needs.{needs}
 use native.Mathlib.Omega.{arith}
 use Rattle.lexer.proofs.scan.atom_run.Statement.{statement}
 use Rattle.lexer.proofs.scan.atom_run.Tie as tie
 
 abbrev Inv-loop : tie.InvT-loop
-Inv-loop doc start i₀ i = (i ≤ length doc) × (i + run inAtom (drop i doc) ≡ start + run inAtom (drop start doc))
+Inv-loop doc start i₀ i = SameEnd (run inAtom) doc start i
 
 abbrev μ-loop : tie.MeasureT-loop
 μ-loop doc start i₀ i = length doc - i

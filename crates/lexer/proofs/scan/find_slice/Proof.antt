@@ -6,14 +6,14 @@ use mathlib.Core.Bool.{not}
 use lib.ListN.{length, drop}
 use Rattle.classes.specs.Runs.{run}
 use Rattle.classes.proofs.RunLaws.{run-step, run-stop, run-end}
-use Rattle.lexer.specs.Scans.{noneOf}
+use Rattle.lexer.specs.Scans.{noneOf, SameEnd}
 use borrow.Author.Needs.{needs}
 use native.Mathlib.Omega.{arith}
 use Rattle.lexer.proofs.scan.find_slice.Statement.{statement}
 use Rattle.lexer.proofs.scan.find_slice.Tie as tie
 
 abbrev Inv-loop : tie.InvT-loop
-Inv-loop doc start a b c i₀ i = (i ≤ length doc) × (i + run (noneOf a b c) (drop i doc) ≡ start + run (noneOf a b c) (drop start doc))
+Inv-loop doc start a b c i₀ i = SameEnd (run (noneOf a b c)) doc start i
 
 abbrev μ-loop : tie.MeasureT-loop
 μ-loop doc start a b c i₀ i = length doc - i

@@ -16,7 +16,8 @@ none-of : (a b c x : ℕ) → (x ≡ a → ⊥) → (x ≡ b → ⊥) → (x ≡
 none-of a b c x p q r = simp (ne-eqb _ _ p, ne-eqb _ _ q, ne-eqb _ _ r)
 
 abbrev Inv-loop : tie.InvT-loop
-Inv-loop doc i a b c has-a₀ has-b₀ has-c₀ j₀ has-a has-b has-c j = (j ≤ 16) × (has-a ≡ false → has-b ≡ false → has-c ≡ false → Block (noneOf a b c) doc i j)
+Inv-loop doc i a b c has-a₀ has-b₀ has-c₀ j₀ has-a has-b has-c j =
+    (j ≤ 16) × (has-a ≡ false → has-b ≡ false → has-c ≡ false → Block (noneOf a b c) doc i j)
 
 abbrev μ-loop : tie.MeasureT-loop
 μ-loop doc i a b c has-a₀ has-b₀ has-c₀ j₀ has-a has-b has-c j = 16 - j

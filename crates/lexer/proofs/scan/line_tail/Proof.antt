@@ -7,6 +7,7 @@ use mathlib.Core.Bool.{true, false}
 use borrow.Author.Tests.{eq-eqb, ne-eqb}
 use lib.ListN.{length, drop}
 use Rattle.lexer.specs.Extents.{lineTail}
+use Rattle.lexer.specs.Scans.{SameEnd}
 use Rattle.lexer.proofs.TailLaws.{line-found, line-end, line-close, line-lf, line-escape, line-hidden}
 use borrow.Author.Needs.{needs}
 use native.Mathlib.Omega.{arith}
@@ -14,7 +15,7 @@ use Rattle.lexer.proofs.scan.line_tail.Statement.{statement}
 use Rattle.lexer.proofs.scan.line_tail.Tie as tie
 
 abbrev Inv-loop : tie.InvT-loop
-Inv-loop doc start q escape i₀ i = (i ≤ length doc) × (i + lineTail q false (drop i doc) ≡ start + lineTail q false (drop start doc))
+Inv-loop doc start q escape i₀ i = SameEnd (lineTail q false) doc start i
 
 abbrev μ-loop : tie.MeasureT-loop
 μ-loop doc start q escape i₀ i = length doc - i

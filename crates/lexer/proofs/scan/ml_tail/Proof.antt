@@ -6,6 +6,7 @@ use mathlib.Core.Path.{_≡_, sym, _∙_}
 use mathlib.Core.Bool.{true, false}
 use lib.ListN.{length, drop}
 use Rattle.lexer.specs.Extents.{mlTail}
+use Rattle.lexer.specs.Scans.{SameEnd}
 use Rattle.lexer.proofs.MarkLaws.{triple-fits-at}
 use Rattle.lexer.proofs.TailLaws.{ml-found, ml-end, ml-close, ml-mark, ml-escape, ml-hidden}
 use borrow.Author.Needs.{needs}
@@ -14,7 +15,7 @@ use Rattle.lexer.proofs.scan.ml_tail.Statement.{statement}
 use Rattle.lexer.proofs.scan.ml_tail.Tie as tie
 
 abbrev Inv-loop : tie.InvT-loop
-Inv-loop doc start q escape i₀ i = (i ≤ length doc) × (i + mlTail q false (drop i doc) ≡ start + mlTail q false (drop start doc))
+Inv-loop doc start q escape i₀ i = SameEnd (mlTail q false) doc start i
 
 abbrev μ-loop : tie.MeasureT-loop
 μ-loop doc start q escape i₀ i = length doc - i

@@ -6,6 +6,7 @@ use borrow.Author.Tests.{not-true, not-false}
 use lib.ListN.{length, drop}
 use Rattle.classes.specs.Classes.{wschar}
 use Rattle.classes.specs.Runs.{run}
+use Rattle.lexer.specs.Scans.{SameEnd}
 use Rattle.classes.proofs.RunLaws.{run-step, run-stop, run-end}
 use borrow.Author.Needs.{needs}
 use native.Mathlib.Omega.{arith}
@@ -13,7 +14,7 @@ use Rattle.lexer.proofs.scan.wschar_run.Statement.{statement}
 use Rattle.lexer.proofs.scan.wschar_run.Tie as tie
 
 abbrev Inv-loop : tie.InvT-loop
-Inv-loop doc start i₀ i = (i ≤ length doc) × (i + run wschar (drop i doc) ≡ start + run wschar (drop start doc))
+Inv-loop doc start i₀ i = SameEnd (run wschar) doc start i
 
 abbrev μ-loop : tie.MeasureT-loop
 μ-loop doc start i₀ i = length doc - i
