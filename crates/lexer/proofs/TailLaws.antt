@@ -103,9 +103,12 @@ mark-hides q b e = rw e (go (eqb q 34) refl)
 
 -- ---- by a run of plain bytes
 
--- a tail that goes on over each byte of a class goes on over a run of them
-over-run : (F : List ℕ → ℕ) (p : ℕ → Bool) → ((b : ℕ) (s : List ℕ) → p b ≡ true → F (b ∷ s) ≡ suc (F s))
-    → (s : List ℕ) → F s ≡ run p s + F (drop (run p s) s)
+-- a tail goes on over each byte of a class
+abbrev Over : (List ℕ → ℕ) → (ℕ → Bool) → Type 0
+Over F p = (b : ℕ) (s : List ℕ) → p b ≡ true → F (b ∷ s) ≡ suc (F s)
+
+-- then it goes on over a run of them
+over-run : (F : List ℕ → ℕ) (p : ℕ → Bool) → Over F p → (s : List ℕ) → F s ≡ run p s + F (drop (run p s) s)
 unfolding run
 over-run F p f [] = omega arith
 over-run F p f (b ∷ s) =
@@ -114,11 +117,12 @@ over-run F p f (b ∷ s) =
     (λ t. omega arith)
 
 -- so the end of the tail is where it was
-over-run-at : (F : List ℕ → ℕ) (p : ℕ → Bool) → ((b : ℕ) (s : List ℕ) → p b ≡ true → F (b ∷ s) ≡ suc (F s))
+over-run-at : (F : List ℕ → ℕ) (p : ℕ → Bool) → Over F p
     → (s : List ℕ) (i r : ℕ) → r ≡ i + run p (drop i s) → i + F (drop i s) ≡ r + F (drop r s)
 over-run-at F p f s i r e =
-    let same : drop (run p (drop i s)) (drop i s) ≡ drop r s = drop-drop (run p (drop i s)) i s ∙ ap (λ (n : ℕ). drop n s) (sym e) in
-    omega (arith, over-run F p f (drop i s), ap F same)
+    let n = run p (drop i s) in
+    let rest : drop n (drop i s) ≡ drop r s = drop-drop n i s ∙ ap (λ (k : ℕ). drop k s) (sym e) in
+    omega (arith, over-run F p f (drop i s), ap F rest)
 
 line-over : (q b : ℕ) (s : List ℕ) → noneOf q (escapeOf q) 10 b ≡ true → lineTail q false (b ∷ s) ≡ suc (lineTail q false s)
 unfolding lineTail
@@ -135,15 +139,6 @@ unfolding mlTail
 ml-over q b s t =
     let n = none-each (eqb b q) (eqb b (escapeOf q)) (eqb b (escapeOf q)) t in
     rw (other-mark q b s (n .0), no-escape q b (n .1))
-
-module _ (q : ℕ) (s : List ℕ) (i r : ℕ) where
-  pub line-plain : r ≡ i + run (noneOf q (escapeOf q) 10) (drop i s)
-      → i + lineTail q false (drop i s) ≡ r + lineTail q false (drop r s)
-  line-plain e = over-run-at (lineTail q false) (noneOf q (escapeOf q) 10) (line-over q) s i r e
-
-  pub ml-plain : r ≡ i + run (noneOf q (escapeOf q) (escapeOf q)) (drop i s)
-      → i + mlTail q false (drop i s) ≡ r + mlTail q false (drop r s)
-  ml-plain e = over-run-at (mlTail q false) (noneOf q (escapeOf q) (escapeOf q)) (ml-over q) s i r e
 
 -- ---- a run ends within the list, and at a byte that fails the test
 
@@ -193,32 +188,33 @@ module _ (q : ℕ) (s : List ℕ) (i : ℕ) (l : i < length s) where
   pub ml-hidden : mlTail q true (drop i s) ≡ suc (mlTail q false (drop (i + 1) s))
   ml-hidden = ml-step q true s i l refl
 
--- ---- behind a search for the bytes that matter, from place i to place r
+-- ---- behind a search for the bytes that matter
 
-pub record LineFound (q : ℕ) (s : List ℕ) (i r : ℕ) : Type 0 where
+-- from place i to place r, over bytes of the class p, none of which moves the end
+pub record Found (reach : List ℕ → ℕ) (p : ℕ → Bool) (s : List ℕ) (i r : ℕ) : Type 0 where
   pub within : r ≤ length s
   pub forward : i ≤ r
-  pub same : i + lineTail q false (drop i s) ≡ r + lineTail q false (drop r s)
-  pub stopped : r < length s → noneOf q (escapeOf q) 10 (getD s r 0) ≡ false
+  pub same : i + reach (drop i s) ≡ r + reach (drop r s)
+  pub stopped : r < length s → p (getD s r 0) ≡ false
 
-pub record MlFound (q : ℕ) (s : List ℕ) (i r : ℕ) : Type 0 where
-  pub within : r ≤ length s
-  pub forward : i ≤ r
-  pub same : i + mlTail q false (drop i s) ≡ r + mlTail q false (drop r s)
-  pub stopped : r < length s → noneOf q (escapeOf q) (escapeOf q) (getD s r 0) ≡ false
+found : (F : List ℕ → ℕ) (p : ℕ → Bool) → Over F p
+    → (s : List ℕ) (i r : ℕ) → i ≤ length s → r ≡ i + run p (drop i s) → Found F p s i r
+found F p f s i r l e =
+    let same = over-run-at F p f s i r e in
+    record { within = run-within p s i r e l; forward = omega arith; same = same; stopped = run-fails p s i r e }
+
+abbrev pub LineFound : ℕ → List ℕ → ℕ → ℕ → Type 0
+LineFound q = Found (lineTail q false) (noneOf q (escapeOf q) 10)
+
+abbrev pub MlFound : ℕ → List ℕ → ℕ → ℕ → Type 0
+MlFound q = Found (mlTail q false) (noneOf q (escapeOf q) (escapeOf q))
 
 module _ (q : ℕ) (s : List ℕ) (i r escape : ℕ) (by : escape ≡ escapeOf q) (l : i ≤ length s) where
   pub line-found : r ≡ i + run (noneOf q escape 10) (drop i s) → LineFound q s i r
-  line-found e =
-      let f : r ≡ i + run (noneOf q (escapeOf q) 10) (drop i s) = rw by at e in
-      let p = noneOf q (escapeOf q) 10 in
-      record { within = run-within p s i r f l; forward = omega arith; same = line-plain q s i r f; stopped = run-fails p s i r f }
+  line-found e = found (lineTail q false) (noneOf q (escapeOf q) 10) (line-over q) s i r l (rw by at e)
 
   pub ml-found : r ≡ i + run (noneOf q escape escape) (drop i s) → MlFound q s i r
-  ml-found e =
-      let f : r ≡ i + run (noneOf q (escapeOf q) (escapeOf q)) (drop i s) = rw by at e in
-      let p = noneOf q (escapeOf q) (escapeOf q) in
-      record { within = run-within p s i r f l; forward = omega arith; same = ml-plain q s i r f; stopped = run-fails p s i r f }
+  ml-found e = found (mlTail q false) (noneOf q (escapeOf q) (escapeOf q)) (ml-over q) s i r l (rw by at e)
 
 -- ---- a comment's bytes
 
