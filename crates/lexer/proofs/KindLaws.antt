@@ -23,10 +23,17 @@ pub kind-at : (s : List ℕ) (i : ℕ) → i < length s → kindOf (drop i s) �
 unfolding kindOf
 kind-at s i h = rw (drop-cons s i 0)
 
--- a token of the kind that stands there is the token there
-pub token-made : (k : TokenKind) (at line : ℕ) (s : List ℕ) → kindOf s ≡ k → tokenBy k at line s ≡ tokenAt at line s
+-- the kind by the byte at a place
+abbrev pub KindThere : List ℕ → ℕ → TokenKind → Type 0
+KindThere doc at k = kindBy (getD doc at 0) (triple (getD doc at 0) (drop at doc)) ≡ k
+
+-- a token of that kind is the token there
+abbrev pub Made : TokenKind → List ℕ → ℕ → ℕ → Type 0
+Made k doc at line = tokenBy k at line (drop at doc) ≡ tokenAt at line (drop at doc)
+
+pub token-there : (k : TokenKind) (doc : List ℕ) (at line : ℕ) → at < length doc → KindThere doc at k → Made k doc at line
 unfolding tokenLen
-token-made k at line s e = rw e
+token-there k doc at line h e = rw (kind-at doc at h, e)
 
 -- the same token by an equal end
 pub end-is : (k : TokenKind) (at line : ℕ) {e f : ℕ} → e ≡ f → tokenOf k at e line ≡ tokenOf k at f line
@@ -34,10 +41,13 @@ end-is k at line e = ap (λ (n : ℕ). tokenOf k at n line) e
 
 -- the kinds in turn: what holds of each kind under its test holds of the kind by a first byte
 pub by-kind : (P : TokenKind → Type 0) (b : ℕ) (three : Bool)
-    → (b ≡ 46 → P Dot) → (b ≡ 61 → P Equals) → (b ≡ 44 → P Comma) → (b ≡ 91 → P LeftSquareBracket) → (b ≡ 93 → P RightSquareBracket)
-    → (b ≡ 123 → P LeftCurlyBracket) → (b ≡ 125 → P RightCurlyBracket) → (wschar b ≡ true → P Whitespace) → (b ≡ 35 → P Comment)
-    → (eol b ≡ true → P Newline) → (b ≡ 39 → P LiteralString) → (b ≡ 34 → P BasicString) → (b ≡ 39 → three ≡ true → P MlLiteralString)
-    → (b ≡ 34 → three ≡ true → P MlBasicString) → P Atom → P (kindBy b three)
+    → (b ≡ 46 → P Dot) → (b ≡ 61 → P Equals) → (b ≡ 44 → P Comma)
+    → (b ≡ 91 → P LeftSquareBracket) → (b ≡ 93 → P RightSquareBracket)
+    → (b ≡ 123 → P LeftCurlyBracket) → (b ≡ 125 → P RightCurlyBracket)
+    → (wschar b ≡ true → P Whitespace) → (b ≡ 35 → P Comment) → (eol b ≡ true → P Newline)
+    → (b ≡ 39 → P LiteralString) → (b ≡ 34 → P BasicString)
+    → (b ≡ 39 → three ≡ true → P MlLiteralString) → (b ≡ 34 → three ≡ true → P MlBasicString)
+    → P Atom → P (kindBy b three)
 unfolding kindBy
 by-kind P b three dot equals comma ls rs lc rc ws comment newline literal basic mll mlb atom =
     cond-case P (eqb b 46) (λ t. dot (eqb-true b 46 t)) λ _.

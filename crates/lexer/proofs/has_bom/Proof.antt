@@ -15,10 +15,15 @@ is-at-requires-3 : tie.Need-is-at-requires-3
 is-at-requires-3 c κs = search needs
 
 returns : tie.Need-returns
-returns c = simp (sym (c .before .before .before .before .is-at .ensures) ∙ c .before .before .before .if1 .taken, sym (c .before .before .is-at2 .ensures) ∙ c .before .if2 .taken) (c .is-at3 .ensures)
+returns c =
+    let first = sym (c .before .before .before .before .is-at .ensures) ∙ c .before .before .before .if1 .taken in
+    let second = sym (c .before .before .is-at2 .ensures) ∙ c .before .if2 .taken in
+    simp (first, second) (c .is-at3 .ensures)
 
 returns-2 : tie.Need-returns-2
-returns-2 c = simp (sym (c .before .before .before .is-at .ensures) ∙ c .before .before .if1 .taken, sym (c .before .is-at2 .ensures) ∙ c .if2 .left) (c .if2 .left)
+returns-2 c =
+    let first = sym (c .before .before .before .is-at .ensures) ∙ c .before .before .if1 .taken in
+    simp (first, sym (c .before .is-at2 .ensures) ∙ c .if2 .left) (c .if2 .left)
 
 returns-3 : tie.Need-returns-3
 returns-3 c = simp (sym (c .before .is-at .ensures) ∙ c .if1 .left) (c .if1 .left)

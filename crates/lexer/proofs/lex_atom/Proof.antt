@@ -21,7 +21,9 @@ token-of-requires c κs = search needs
 
 returns : tie.Need-returns
 unfolding extent
-returns c = c .token-of .ensures ∙ end-is Atom (c .before .before .before .args .at) (c .before .before .before .args .line) (c .before .atom-run .ensures ∙ simp drop-drop (omega arith))
+returns c =
+    let is = c .before .before .before .args in
+    c .token-of .ensures ∙ end-is Atom (is .at) (is .line) (c .before .atom-run .ensures ∙ simp drop-drop (omega arith))
 
 pub lex-atom-spec : {M : Type 1} → statement M
 lex-atom-spec = tie.close (tie.spec add-atom-run atom-run-requires token-of-requires returns)

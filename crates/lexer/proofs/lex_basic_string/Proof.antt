@@ -21,7 +21,9 @@ token-of-requires c κs = search needs
 
 returns : tie.Need-returns
 unfolding extent
-returns c = c .token-of .ensures ∙ end-is BasicString (c .before .before .before .args .at) (c .before .before .before .args .line) (c .before .line-tail .ensures ∙ simp drop-drop (omega arith))
+returns c =
+    let is = c .before .before .before .args in
+    c .token-of .ensures ∙ end-is BasicString (is .at) (is .line) (c .before .line-tail .ensures ∙ simp drop-drop (omega arith))
 
 pub lex-basic-string-spec : {M : Type 1} → statement M
 lex-basic-string-spec =

@@ -22,7 +22,9 @@ token-of-requires c κs = search needs
 
 returns : tie.Need-returns
 unfolding extent
-returns c = c .token-of .ensures ∙ end-is Comment (c .before .before .before .args .at) (c .before .before .before .args .line) (c .before .find-slice .ensures ∙ simp (drop-drop, comment-run) (omega arith))
+returns c =
+    let is = c .before .before .before .args in
+    c .token-of .ensures ∙ end-is Comment (is .at) (is .line) (c .before .find-slice .ensures ∙ simp (drop-drop, comment-run) (omega arith))
 
 pub lex-comment-spec : {M : Type 1} → statement M
 lex-comment-spec =

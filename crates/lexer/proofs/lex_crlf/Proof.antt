@@ -25,7 +25,9 @@ token-of-requires c κs = search needs
 
 returns : tie.Need-returns
 unfolding extent
-returns c = c .token-of .ensures ∙ simp (newlineTail-at, c .before .before .before .before .pre .1, sym (c .before .before .is-at .ensures) ∙ c .before .if1 .taken)
+returns c =
+    let second = sym (c .before .before .is-at .ensures) ∙ c .before .if1 .taken in
+    c .token-of .ensures ∙ simp (newlineTail-at, c .before .before .before .before .pre .1, second)
 
 add-token-of-2 : tie.Need-add-token-of-2
 add-token-of-2 c = search needs
@@ -35,7 +37,9 @@ token-of-requires-2 c κs = search needs
 
 returns-2 : tie.Need-returns-2
 unfolding extent
-returns-2 c = c .token-of2 .ensures ∙ simp (newlineTail-at, c .before .before .before .before .pre .1, sym (c .before .before .is-at .ensures) ∙ c .before .if1 .left)
+returns-2 c =
+    let second = sym (c .before .before .is-at .ensures) ∙ c .before .if1 .left in
+    c .token-of2 .ensures ∙ simp (newlineTail-at, c .before .before .before .before .pre .1, second)
 
 pub lex-crlf-spec : {M : Type 1} → statement M
 lex-crlf-spec =

@@ -21,7 +21,9 @@ token-of-requires c κs = search needs
 
 returns : tie.Need-returns
 unfolding extent
-returns c = c .token-of .ensures ∙ end-is MlBasicString (c .before .before .before .args .at) (c .before .before .before .args .line) (c .before .ml-tail .ensures ∙ simp drop-drop (omega arith))
+returns c =
+    let is = c .before .before .before .args in
+    c .token-of .ensures ∙ end-is MlBasicString (is .at) (is .line) (c .before .ml-tail .ensures ∙ simp drop-drop (omega arith))
 
 pub lex-ml-basic-string-spec : {M : Type 1} → statement M
 lex-ml-basic-string-spec =

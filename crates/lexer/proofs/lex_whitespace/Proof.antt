@@ -21,7 +21,9 @@ token-of-requires c κs = search needs
 
 returns : tie.Need-returns
 unfolding extent
-returns c = c .token-of .ensures ∙ end-is Whitespace (c .before .before .before .args .at) (c .before .before .before .args .line) (c .before .wschar-run .ensures ∙ simp drop-drop (omega arith))
+returns c =
+    let is = c .before .before .before .args in
+    c .token-of .ensures ∙ end-is Whitespace (is .at) (is .line) (c .before .wschar-run .ensures ∙ simp drop-drop (omega arith))
 
 pub lex-whitespace-spec : {M : Type 1} → statement M
 lex-whitespace-spec =

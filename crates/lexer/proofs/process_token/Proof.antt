@@ -2,16 +2,21 @@
 -- Assumes nothing.
 use mathlib.Core.Path.{sym, _∙_}
 use borrow.Author.Tests.{ne-eqb}
-use lib.ListN.{drop}
 use Rattle.classes.specs.Classes.{wschar}
+use Rattle.token.specs.declared.TokenKind.{TokenKind}
 use Rattle.token.specs.declared.TokenKind.the-variants.{Dot, Equals, Comma, LeftSquareBracket, RightSquareBracket, LeftCurlyBracket, RightCurlyBracket, Whitespace, Comment, Newline, LiteralString, BasicString, MlLiteralString, MlBasicString, Atom}
 use Rattle.lexer.specs.Table.{kindBy, extent}
 use Rattle.lexer.proofs.MarkLaws.{triple-fits-at, newlineTail-at}
-use Rattle.lexer.proofs.KindLaws.{kind-at, token-made, end-is}
+use Rattle.lexer.proofs.KindLaws.{KindThere, Made, token-there, end-is}
 use borrow.Author.Needs.{needs}
 use native.Mathlib.Omega.{arith}
 use Rattle.lexer.proofs.process_token.Statement.{statement}
 use Rattle.lexer.proofs.process_token.Tie as tie
+
+-- a token of the kind by the byte there is the token there
+made : (c : tie.Start) (k : TokenKind) → KindThere (c .args .doc .now) (c .args .at) k
+    → Made k (c .args .doc .now) (c .args .at) (c .args .line)
+made c k e = token-there k (c .args .doc .now) (c .args .at) (c .args .line) (c .pre) e
 
 shared-slice-read-b : tie.Need-shared-slice-read-b
 shared-slice-read-b c = search needs
@@ -56,7 +61,9 @@ is-triple-requires : tie.Need-is-triple-requires
 is-triple-requires c κs = search needs
 
 lex-ml-literal-string-requires : tie.Need-lex-ml-literal-string-requires
-lex-ml-literal-string-requires c κs = triple-fits-at 39 (c .before .before .before .before .before .args .doc .now) (c .before .before .before .before .before .args .at) (omega arith) (sym (c .before .is-triple .ensures) ∙ c .if1 .taken)
+lex-ml-literal-string-requires c κs =
+    let is = c .before .before .before .before .before .args in
+    triple-fits-at 39 (is .doc .now) (is .at) (omega arith) (sym (c .before .is-triple .ensures) ∙ c .if1 .taken)
 
 lex-literal-string-requires : tie.Need-lex-literal-string-requires
 lex-literal-string-requires c κs = search needs
@@ -65,7 +72,9 @@ is-triple-requires-2 : tie.Need-is-triple-requires-2
 is-triple-requires-2 c κs = search needs
 
 lex-ml-basic-string-requires : tie.Need-lex-ml-basic-string-requires
-lex-ml-basic-string-requires c κs = triple-fits-at 34 (c .before .before .before .before .before .args .doc .now) (c .before .before .before .before .before .args .at) (omega arith) (sym (c .before .is-triple2 .ensures) ∙ c .if2 .taken)
+lex-ml-basic-string-requires c κs =
+    let is = c .before .before .before .before .before .args in
+    triple-fits-at 34 (is .doc .now) (is .at) (omega arith) (sym (c .before .is-triple2 .ensures) ∙ c .if2 .taken)
 
 lex-basic-string-requires : tie.Need-lex-basic-string-requires
 lex-basic-string-requires c κs = search needs
@@ -75,131 +84,88 @@ lex-atom-requires c κs = search needs
 
 returns : tie.Need-returns
 unfolding kindBy extent
-returns c = let doc = c .before .before .before .before .args .doc .now in
-    let at = c .before .before .before .before .args .at in
-    let line = c .before .before .before .before .args .line in
-    c .lex-ascii-char .ensures ∙ token-made Dot at line (drop at doc) (rw (kind-at doc at (omega arith), c .before .match .keys1))
+returns c = c .lex-ascii-char .ensures ∙ made (c .before .before .before .before) Dot (rw (c .before .match .keys1))
 
 returns-2 : tie.Need-returns-2
 unfolding kindBy extent
-returns-2 c = let doc = c .before .before .before .before .args .doc .now in
-    let at = c .before .before .before .before .args .at in
-    let line = c .before .before .before .before .args .line in
-    c .lex-ascii-char2 .ensures ∙ token-made Equals at line (drop at doc) (rw (kind-at doc at (omega arith), c .before .match .keys2))
+returns-2 c = c .lex-ascii-char2 .ensures ∙ made (c .before .before .before .before) Equals (rw (c .before .match .keys2))
 
 returns-3 : tie.Need-returns-3
 unfolding kindBy extent
-returns-3 c = let doc = c .before .before .before .before .args .doc .now in
-    let at = c .before .before .before .before .args .at in
-    let line = c .before .before .before .before .args .line in
-    c .lex-ascii-char3 .ensures ∙ token-made Comma at line (drop at doc) (rw (kind-at doc at (omega arith), c .before .match .keys3))
+returns-3 c = c .lex-ascii-char3 .ensures ∙ made (c .before .before .before .before) Comma (rw (c .before .match .keys3))
 
 returns-4 : tie.Need-returns-4
 unfolding kindBy extent
-returns-4 c = let doc = c .before .before .before .before .args .doc .now in
-    let at = c .before .before .before .before .args .at in
-    let line = c .before .before .before .before .args .line in
-    c .lex-ascii-char4 .ensures ∙ token-made LeftSquareBracket at line (drop at doc) (rw (kind-at doc at (omega arith), c .before .match .keys4))
+returns-4 c = c .lex-ascii-char4 .ensures ∙ made (c .before .before .before .before) LeftSquareBracket (rw (c .before .match .keys4))
 
 returns-5 : tie.Need-returns-5
 unfolding kindBy extent
-returns-5 c = let doc = c .before .before .before .before .args .doc .now in
-    let at = c .before .before .before .before .args .at in
-    let line = c .before .before .before .before .args .line in
-    c .lex-ascii-char5 .ensures ∙ token-made RightSquareBracket at line (drop at doc) (rw (kind-at doc at (omega arith), c .before .match .keys5))
+returns-5 c = c .lex-ascii-char5 .ensures ∙ made (c .before .before .before .before) RightSquareBracket (rw (c .before .match .keys5))
 
 returns-6 : tie.Need-returns-6
 unfolding kindBy extent
-returns-6 c = let doc = c .before .before .before .before .args .doc .now in
-    let at = c .before .before .before .before .args .at in
-    let line = c .before .before .before .before .args .line in
-    c .lex-ascii-char6 .ensures ∙ token-made LeftCurlyBracket at line (drop at doc) (rw (kind-at doc at (omega arith), c .before .match .keys6))
+returns-6 c = c .lex-ascii-char6 .ensures ∙ made (c .before .before .before .before) LeftCurlyBracket (rw (c .before .match .keys6))
 
 returns-7 : tie.Need-returns-7
 unfolding kindBy extent
-returns-7 c = let doc = c .before .before .before .before .args .doc .now in
-    let at = c .before .before .before .before .args .at in
-    let line = c .before .before .before .before .args .line in
-    c .lex-ascii-char7 .ensures ∙ token-made RightCurlyBracket at line (drop at doc) (rw (kind-at doc at (omega arith), c .before .match .keys7))
+returns-7 c = c .lex-ascii-char7 .ensures ∙ made (c .before .before .before .before) RightCurlyBracket (rw (c .before .match .keys7))
 
 returns-8 : tie.Need-returns-8
 unfolding kindBy wschar
-returns-8 c = let doc = c .before .before .before .before .args .doc .now in
-    let at = c .before .before .before .before .args .at in
-    let line = c .before .before .before .before .args .line in
-    c .lex-whitespace .ensures ∙ token-made Whitespace at line (drop at doc) (rw (kind-at doc at (omega arith), c .before .match .keys8))
+returns-8 c = c .lex-whitespace .ensures ∙ made (c .before .before .before .before) Whitespace (rw (c .before .match .keys8))
 
 returns-9 : tie.Need-returns-9
 unfolding kindBy wschar
-returns-9 c = let doc = c .before .before .before .before .args .doc .now in
-    let at = c .before .before .before .before .args .at in
-    let line = c .before .before .before .before .args .line in
-    c .lex-whitespace2 .ensures ∙ token-made Whitespace at line (drop at doc) (rw (kind-at doc at (omega arith), c .before .match .keys9))
+returns-9 c = c .lex-whitespace2 .ensures ∙ made (c .before .before .before .before) Whitespace (rw (c .before .match .keys9))
 
 returns-10 : tie.Need-returns-10
 unfolding kindBy wschar
-returns-10 c = let doc = c .before .before .before .before .args .doc .now in
-    let at = c .before .before .before .before .args .at in
-    let line = c .before .before .before .before .args .line in
-    c .lex-comment .ensures ∙ token-made Comment at line (drop at doc) (rw (kind-at doc at (omega arith), c .before .match .keys10))
+returns-10 c = c .lex-comment .ensures ∙ made (c .before .before .before .before) Comment (rw (c .before .match .keys10))
 
 returns-11 : tie.Need-returns-11
 unfolding kindBy wschar
-returns-11 c = let doc = c .before .before .before .before .args .doc .now in
-    let at = c .before .before .before .before .args .at in
-    let line = c .before .before .before .before .args .line in
-    c .lex-crlf .ensures ∙ token-made Newline at line (drop at doc) (rw (kind-at doc at (omega arith), c .before .match .keys11))
+returns-11 c = c .lex-crlf .ensures ∙ made (c .before .before .before .before) Newline (rw (c .before .match .keys11))
 
 returns-12 : tie.Need-returns-12
 unfolding kindBy wschar extent
-returns-12 c = let doc = c .before .before .before .before .args .doc .now in
-    let at = c .before .before .before .before .args .at in
-    let line = c .before .before .before .before .args .line in
-    c .lex-ascii-char8 .ensures
-    ∙ end-is Newline at line (simp (newlineTail-at, c .before .match .keys12))
-    ∙ token-made Newline at line (drop at doc) (rw (kind-at doc at (omega arith), c .before .match .keys12))
+returns-12 c =
+    let is = c .before .before .before .before in
+    c .lex-ascii-char8 .ensures ∙ end-is Newline (is .args .at) (is .args .line) (simp (newlineTail-at, c .before .match .keys12))
+    ∙ made is Newline (rw (c .before .match .keys12))
 
 returns-13 : tie.Need-returns-13
 unfolding kindBy wschar
-returns-13 c = let doc = c .before .before .before .before .before .before .args .doc .now in
-    let at = c .before .before .before .before .before .before .args .at in
-    let line = c .before .before .before .before .before .before .args .line in
+returns-13 c =
+    let three = sym (c .before .before .is-triple .ensures) ∙ c .before .if1 .taken in
     c .lex-ml-literal-string .ensures
-    ∙ token-made MlLiteralString at line (drop at doc) (rw (kind-at doc at (omega arith), c .before .before .before .match .keys13, sym (c .before .before .is-triple .ensures) ∙ c .before .if1 .taken))
+    ∙ made (c .before .before .before .before .before .before) MlLiteralString (rw (c .before .before .before .match .keys13, three))
 
 returns-14 : tie.Need-returns-14
 unfolding kindBy wschar
-returns-14 c = let doc = c .before .before .before .before .before .before .args .doc .now in
-    let at = c .before .before .before .before .before .before .args .at in
-    let line = c .before .before .before .before .before .before .args .line in
+returns-14 c =
+    let three = sym (c .before .before .is-triple .ensures) ∙ c .before .if1 .left in
     c .lex-literal-string .ensures
-    ∙ token-made LiteralString at line (drop at doc) (rw (kind-at doc at (omega arith), c .before .before .before .match .keys13, sym (c .before .before .is-triple .ensures) ∙ c .before .if1 .left))
+    ∙ made (c .before .before .before .before .before .before) LiteralString (rw (c .before .before .before .match .keys13, three))
 
 returns-15 : tie.Need-returns-15
 unfolding kindBy wschar
-returns-15 c = let doc = c .before .before .before .before .before .before .args .doc .now in
-    let at = c .before .before .before .before .before .before .args .at in
-    let line = c .before .before .before .before .before .before .args .line in
+returns-15 c =
+    let three = sym (c .before .before .is-triple2 .ensures) ∙ c .before .if2 .taken in
     c .lex-ml-basic-string .ensures
-    ∙ token-made MlBasicString at line (drop at doc) (rw (kind-at doc at (omega arith), c .before .before .before .match .keys14, sym (c .before .before .is-triple2 .ensures) ∙ c .before .if2 .taken))
+    ∙ made (c .before .before .before .before .before .before) MlBasicString (rw (c .before .before .before .match .keys14, three))
 
 returns-16 : tie.Need-returns-16
 unfolding kindBy wschar
-returns-16 c = let doc = c .before .before .before .before .before .before .args .doc .now in
-    let at = c .before .before .before .before .before .before .args .at in
-    let line = c .before .before .before .before .before .before .args .line in
+returns-16 c =
+    let three = sym (c .before .before .is-triple2 .ensures) ∙ c .before .if2 .left in
     c .lex-basic-string .ensures
-    ∙ token-made BasicString at line (drop at doc) (rw (kind-at doc at (omega arith), c .before .before .before .match .keys14, sym (c .before .before .is-triple2 .ensures) ∙ c .before .if2 .left))
+    ∙ made (c .before .before .before .before .before .before) BasicString (rw (c .before .before .before .match .keys14, three))
 
 returns-17 : tie.Need-returns-17
 unfolding kindBy wschar
-returns-17 c = let doc = c .before .before .before .before .args .doc .now in
-    let at = c .before .before .before .before .args .at in
-    let line = c .before .before .before .before .args .line in
+returns-17 c =
     let r = c .before .match .rest in
-    c .lex-atom .ensures
-    ∙ token-made Atom at line (drop at doc) (simp (
-      kind-at doc at (omega arith),
+    c .lex-atom .ensures ∙ made (c .before .before .before .before) Atom (simp (
       ne-eqb _ _ (r .1),
       ne-eqb _ _ (r .0 .1),
       ne-eqb _ _ (r .0 .0 .1),

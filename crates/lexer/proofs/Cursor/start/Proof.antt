@@ -16,7 +16,9 @@ start-of-requires c κs = search needs
 
 returns-2 : tie.Need-returns-2
 unfolding startAnswer
-returns-2 c = started (c .before .before .before .args .doc .now) _ (simp (le-ltb _ _ (c .before .if1 .left), c .start-of .ensures))
+returns-2 c =
+    let short = le-ltb _ _ (c .before .if1 .left) in
+    started (c .before .before .before .args .doc .now) _ (simp (short, c .start-of .ensures))
 
 pub start-spec : {M : Type 1} → statement M
 start-spec = tie.close (tie.spec returns start-of-requires returns-2)

@@ -29,7 +29,10 @@ is-token-start-requires : tie.Need-is-token-start-requires Inv-loop μ-loop
 is-token-start-requires c κs = search needs
 
 returns : tie.Need-returns Inv-loop μ-loop
-returns c = omega (arith, run-stop inAtom (c .before .before .before .before .before .before .args .doc .now) (c .before .before .before .before .loop .i) (omega arith) (ap not (sym (c .before .is-token-start .ensures) ∙ c .if1 .taken)))
+returns c =
+    let doc = c .before .before .before .before .before .before .args .doc .now in
+    let stop = ap not (sym (c .before .is-token-start .ensures) ∙ c .if1 .taken) in
+    omega (arith, run-stop inAtom doc (c .before .before .before .before .loop .i) (omega arith) stop)
 
 add-i : tie.Need-add-i Inv-loop μ-loop
 add-i c = omega arith
@@ -38,7 +41,10 @@ loop-less : tie.Need-loop-less Inv-loop μ-loop
 loop-less c = omega arith
 
 loop-again : tie.Need-loop-again Inv-loop μ-loop
-loop-again c = omega (arith, run-step inAtom (c .before .before .before .before .before .before .args .doc .now) (c .before .before .before .before .loop .i) (omega arith) (ap not (sym (c .before .is-token-start .ensures) ∙ c .if1 .left)))
+loop-again c =
+    let doc = c .before .before .before .before .before .before .args .doc .now in
+    let passed = ap not (sym (c .before .is-token-start .ensures) ∙ c .if1 .left) in
+    omega (arith, run-step inAtom doc (c .before .before .before .before .loop .i) (omega arith) passed)
 
 returns-2 : tie.Need-returns-2 Inv-loop μ-loop
 returns-2 c = omega (arith, run-end inAtom (c .before .before .before .args .doc .now) (c .before .loop .i) (omega arith))

@@ -31,9 +31,11 @@ is-one-of-requires : tie.Need-is-one-of-requires Inv-loop μ-loop
 is-one-of-requires c κs = search needs
 
 returns : tie.Need-returns Inv-loop μ-loop
-returns c = let is = c .before .before .before .before .before .before .before .args in
+returns c =
+    let is = c .before .before .before .before .before .before .before .args in
+    let i = c .before .before .before .before .loop .i in
     let found = ap not (sym (c .before .is-one-of .ensures) ∙ c .if1 .taken) in
-    omega (arith, run-stop (noneOf (is .a) (is .b) (is .c)) (is .doc .now) (c .before .before .before .before .loop .i) (omega arith) found)
+    omega (arith, run-stop (noneOf (is .a) (is .b) (is .c)) (is .doc .now) i (omega arith) found)
 
 add-i : tie.Need-add-i Inv-loop μ-loop
 add-i c = omega arith
@@ -42,9 +44,11 @@ loop-less : tie.Need-loop-less Inv-loop μ-loop
 loop-less c = omega arith
 
 loop-again : tie.Need-loop-again Inv-loop μ-loop
-loop-again c = let is = c .before .before .before .before .before .before .before .args in
+loop-again c =
+    let is = c .before .before .before .before .before .before .before .args in
+    let i = c .before .before .before .before .loop .i in
     let passed = ap not (sym (c .before .is-one-of .ensures) ∙ c .if1 .left) in
-    omega (arith, run-step (noneOf (is .a) (is .b) (is .c)) (is .doc .now) (c .before .before .before .before .loop .i) (omega arith) passed)
+    omega (arith, run-step (noneOf (is .a) (is .b) (is .c)) (is .doc .now) i (omega arith) passed)
 
 returns-2 : tie.Need-returns-2 Inv-loop μ-loop
 returns-2 c = let is = c .before .before .before .before .args in

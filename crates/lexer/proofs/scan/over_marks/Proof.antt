@@ -20,13 +20,17 @@ add-result : tie.Need-add-result
 add-result c = search needs
 
 returns : tie.Need-returns
-returns c = simp (upToTwo-at, sym (c .before .before .before .is-at .ensures) ∙ c .before .before .if1 .taken, sym (c .before .is-at2 .ensures) ∙ c .if2 .taken)
+returns c =
+    let first = sym (c .before .before .before .is-at .ensures) ∙ c .before .before .if1 .taken in
+    simp (upToTwo-at, first, sym (c .before .is-at2 .ensures) ∙ c .if2 .taken)
 
 add-result-2 : tie.Need-add-result-2
 add-result-2 c = search needs
 
 returns-2 : tie.Need-returns-2
-returns-2 c = simp (upToTwo-at, sym (c .before .before .before .is-at .ensures) ∙ c .before .before .if1 .taken, sym (c .before .is-at2 .ensures) ∙ c .if2 .left)
+returns-2 c =
+    let first = sym (c .before .before .before .is-at .ensures) ∙ c .before .before .if1 .taken in
+    simp (upToTwo-at, first, sym (c .before .is-at2 .ensures) ∙ c .if2 .left)
 
 returns-3 : tie.Need-returns-3
 returns-3 c = simp (upToTwo-at, sym (c .before .is-at .ensures) ∙ c .if1 .left) (omega arith)

@@ -29,7 +29,10 @@ is-wschar-requires : tie.Need-is-wschar-requires Inv-loop μ-loop
 is-wschar-requires c κs = search needs
 
 returns : tie.Need-returns Inv-loop μ-loop
-returns c = omega (arith, run-stop wschar (c .before .before .before .before .before .before .args .doc .now) (c .before .before .before .before .loop .i) (omega arith) (sym (c .before .is-wschar .ensures) ∙ not-true _ (c .if1 .taken)))
+returns c =
+    let doc = c .before .before .before .before .before .before .args .doc .now in
+    let stop = sym (c .before .is-wschar .ensures) ∙ not-true _ (c .if1 .taken) in
+    omega (arith, run-stop wschar doc (c .before .before .before .before .loop .i) (omega arith) stop)
 
 add-i : tie.Need-add-i Inv-loop μ-loop
 add-i c = omega arith
@@ -38,7 +41,10 @@ loop-less : tie.Need-loop-less Inv-loop μ-loop
 loop-less c = omega arith
 
 loop-again : tie.Need-loop-again Inv-loop μ-loop
-loop-again c = omega (arith, run-step wschar (c .before .before .before .before .before .before .args .doc .now) (c .before .before .before .before .loop .i) (omega arith) (sym (c .before .is-wschar .ensures) ∙ not-false _ (c .if1 .left)))
+loop-again c =
+    let doc = c .before .before .before .before .before .before .args .doc .now in
+    let passed = sym (c .before .is-wschar .ensures) ∙ not-false _ (c .if1 .left) in
+    omega (arith, run-step wschar doc (c .before .before .before .before .loop .i) (omega arith) passed)
 
 returns-2 : tie.Need-returns-2 Inv-loop μ-loop
 returns-2 c = omega (arith, run-end wschar (c .before .before .before .args .doc .now) (c .before .loop .i) (omega arith))
