@@ -35,9 +35,12 @@ pub token-there : (k : TokenKind) (doc : List ℕ) (at line : ℕ) → at < leng
 unfolding tokenLen
 token-there k doc at line h e = rw (kind-at doc at h, e)
 
--- the same token by an equal end
-pub end-is : (k : TokenKind) (at line : ℕ) {e f : ℕ} → e ≡ f → tokenOf k at e line ≡ tokenOf k at f line
-end-is k at line e = ap (λ (n : ℕ). tokenOf k at n line) e
+-- the same token by an equal end, or by an equal kind
+pub end-is : {k : TokenKind} {at line e f : ℕ} → e ≡ f → tokenOf k at e line ≡ tokenOf k at f line
+end-is {k} {at} {line} e = ap (λ (n : ℕ). tokenOf k at n line) e
+
+pub kind-is : {j k : TokenKind} {at end line : ℕ} → j ≡ k → tokenOf j at end line ≡ tokenOf k at end line
+kind-is {j} {k} {at} {end} {line} e = ap (λ (i : TokenKind). tokenOf i at end line) e
 
 -- the kinds in turn: what holds of each kind under its test holds of the kind by a first byte
 pub by-kind : (P : TokenKind → Type 0) (b : ℕ) (three : Bool)

@@ -156,8 +156,10 @@ line-no-lf q h [] k = lines-none
 line-no-lf q h (b ∷ s) k =
     let P : ℕ → Type 0 = λ n. lineFeeds (take n (b ∷ s)) ≡ 0 in
     let r = line-no-lf q (hides q h b) s k in
-    cond-case P (closes q h b) (λ t. other-front b [] (λ e. k (sym (eqb-true b q (both-right (not h) (eqb b q) t)) ∙ e)) ∙ lines-none)
-    λ _. cond-case P (eqb b 10) (λ t. lines-none) (λ t. other-front b (take (lineTail q (hides q h b) s) s) (eqb-false b 10 t) ∙ r)
+    let rest = take (lineTail q (hides q h b) s) s in
+    let mark : closes q h b ≡ true → b ≡ q = λ t. eqb-true b q (both-right (not h) (eqb b q) t) in
+    cond-case P (closes q h b) (λ t. other-front b [] (λ e. k (sym (mark t) ∙ e)) ∙ lines-none)
+    λ _. cond-case P (eqb b 10) (λ t. lines-none) (λ t. other-front b rest (eqb-false b 10 t) ∙ r)
 
 -- a kind that is no newline and not on several lines
 abbrev OneLine : TokenKind → Type 0 → Type 0
@@ -180,11 +182,15 @@ token-no-lf (b ∷ s) = λ n l m. go (eqb b 10) refl n l m
     go false t =
         let rest : (k : ℕ) → NoLf s k → NoLf (b ∷ s) (suc k) = λ k e. other-front b (take k s) (eqb-false b 10 t) ∙ e in
         let one : NoLf (b ∷ s) 1 = rest 0 lines-none in
+        let runs : (p : ℕ → Bool) → p 10 ≡ false → NoLf (b ∷ s) (suc (run p s)) =
+        λ p e. rest (run p s) (run-no-lf p s e) in
+        let string : (q : ℕ) → (q ≡ 10 → ⊥) → NoLf (b ∷ s) (suc (lineTail q false s)) =
+        λ q k. rest (lineTail q false s) (line-no-lf q false s k) in
         by-kind (λ (k : TokenKind). OneLine k (NoLf (b ∷ s) (extent k (b ∷ s)))) b (triple b (b ∷ s))
         (λ _ _ _ _. one) (λ _ _ _ _. one) (λ _ _ _ _. one) (λ _ _ _ _. one) (λ _ _ _ _. one) (λ _ _ _ _. one) (λ _ _ _ _. one)
-        (λ _ _ _ _. rest (run wschar s) (run-no-lf wschar s refl)) (λ _ _ _ _. rest (run inComment s) (run-no-lf inComment s refl)) (λ _ n _ _. absurd (n refl))
-        (λ _ _ _ _. rest (lineTail 39 false s) (line-no-lf 39 false s (λ e. omega arith))) (λ _ _ _ _. rest (lineTail 34 false s) (line-no-lf 34 false s (λ e. omega arith)))
-        (λ _ _ _ l _. absurd (l refl)) (λ _ _ _ _ m. absurd (m refl)) (λ _ _ _. rest (run inAtom s) (run-no-lf inAtom s refl))
+        (λ _ _ _ _. runs wschar refl) (λ _ _ _ _. runs inComment refl) (λ _ n _ _. absurd (n refl))
+        (λ _ _ _ _. string 39 (λ e. omega arith)) (λ _ _ _ _. string 34 (λ e. omega arith))
+        (λ _ _ _ l _. absurd (l refl)) (λ _ _ _ _ m. absurd (m refl)) (λ _ _ _. runs inAtom refl)
 
 -- a newline holds an LF where its last byte is one
 pub newline-line : (s : List ℕ) → 0 < length s
@@ -192,8 +198,10 @@ pub newline-line : (s : List ℕ) → 0 < length s
 unfolding newlineTail lineFeeds
 newline-line [] h = absurd (omega arith)
 newline-line (b ∷ s) h =
-    cond-case (λ (n : ℕ). lineFeeds (b ∷ take n s) ≡ cond (eqb (getD (b ∷ s) n 0) 10) 1 0) (eqb b 13 && eqb (getD s 0 0) 10)
-    (λ t. crlf s (eqb-true b 13 (both-left (eqb b 13) (eqb (getD s 0 0) 10) t)) (eqb-true (getD s 0 0) 10 (both-right (eqb b 13) (eqb (getD s 0 0) 10) t)))
+    let cr = eqb b 13 in
+    let lf = eqb (getD s 0 0) 10 in
+    cond-case (λ (n : ℕ). lineFeeds (b ∷ take n s) ≡ cond (eqb (getD (b ∷ s) n 0) 10) 1 0) (cr && lf)
+    (λ t. crlf s (eqb-true b 13 (both-left cr lf t)) (eqb-true (getD s 0 0) 10 (both-right cr lf t)))
     (λ t. refl)
   where
     crlf : (s : List ℕ) → b ≡ 13 → getD s 0 0 ≡ 10 → lineFeeds (b ∷ take 1 s) ≡ cond (eqb (getD s 0 0) 10) 1 0

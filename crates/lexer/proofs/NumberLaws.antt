@@ -31,7 +31,9 @@ started doc r e =
 within-numbers : (doc : List ℕ) (c : Cursor) → (stepNumber (stepWithin doc c) ≡ 0) × (stepValue (stepWithin doc c) ≡ 0)
 within-numbers doc c =
     let P : Step → Type 0 = λ s. (stepNumber s ≡ 0) × (stepValue s ≡ 0) in
-    cond-case P (eqb (c .place) (length doc)) (λ _. cond-case P (c .ended) (λ _. (refl, refl)) (λ _. (refl, refl))) (λ _. (refl, refl))
+    cond-case P (eqb (c .place) (length doc))
+    (λ _. cond-case P (c .ended) (λ _. (refl, refl)) (λ _. (refl, refl)))
+    (λ _. (refl, refl))
 
 pub stepped : (doc : List ℕ) (c : Cursor) (r : Step) → r ≡ stepOf doc c
     → (r ≡ stepOf doc c) × ((stepNumber r ≡ stepRefusal doc c) × (stepValue r ≡ stepReturned doc c))
@@ -69,7 +71,8 @@ lexed-numbers doc room r e =
     )
 
 -- the five promises of whole lexing, from the answer and the memory
-pub lexed : (doc : List ℕ) (old : List (List ℕ)) (r : Lexed) (new : List (List ℕ)) → (r ≡ lexAnswer doc (length old)) → (new ≡ lexMemory doc old)
+pub lexed : (doc : List ℕ) (old : List (List ℕ)) (r : Lexed) (new : List (List ℕ))
+    → r ≡ lexAnswer doc (length old) → new ≡ lexMemory doc old
     → (r ≡ lexAnswer doc (length old)) × ((lexedNumber r ≡ lexRefusal doc (length old)) × ((lexedValue r ≡ lexReturned doc)
     × ((lexedLength r ≡ checkFault doc) × (new ≡ lexMemory doc old))))
 lexed doc old r new e m = let n = lexed-numbers doc (length old) r e in (e, (n .0, (n .1 .0, (n .1 .1, m))))

@@ -21,7 +21,7 @@ use Rattle.lexer.specs.Table.{kindOf, extent, tokenLen}
 use Rattle.lexer.specs.Tokens.{tokenAt, eofAt, lineAfter, walk, tokensFrom, hasBom, startOf, tokensOf}
 use Rattle.lexer.proofs.MarkLaws.{triple-fits}
 use Rattle.lexer.proofs.KindLaws.{by-kind}
-use Rattle.lexer.proofs.LineLaws.{lines-none, behind-front, lines-taken}
+use Rattle.lexer.proofs.LineLaws.{lines-none, behind-front, lines-taken, mark-bytes}
 
 -- ---- each extent stays within the bytes
 
@@ -52,7 +52,8 @@ ml-fits q h (b ∷ s) l =
     (λ t. omega (arith, triple-fits q (b ∷ s) l (both-right (not h) _ t), two-fits q (drop 3 (b ∷ s)) l, length-drop 3 (b ∷ s)))
     (λ t. suc-le-suc (ml-fits q (hides q h b) s l))
 
-ml-whole-fits : (q b : ℕ) (s : List ℕ) → 0 < q → b ≡ q → triple b s ≡ true → suc (suc (suc (mlTail q false (drop 3 s)))) ≤ length s
+ml-whole-fits : (q b : ℕ) (s : List ℕ) → 0 < q → b ≡ q → triple b s ≡ true
+    → suc (suc (suc (mlTail q false (drop 3 s)))) ≤ length s
 ml-whole-fits q b s l e t = omega (arith, triple-fits b s (omega arith) t, ml-fits q false (drop 3 s) l, length-drop 3 s)
 
 newline-fits : (b : ℕ) (s : List ℕ) → suc (newlineTail (b ∷ s)) ≤ length (b ∷ s)
@@ -79,8 +80,9 @@ pub token-long : (s : List ℕ) → 0 < length s → 0 < tokenLen s
 unfolding tokenLen kindOf extent
 token-long [] h = omega arith
 token-long (b ∷ s) h =
+    let one : 0 < 1 = omega arith in
     by-kind (λ (k : TokenKind). 0 < extent k (b ∷ s)) b (triple b (b ∷ s))
-    (λ _. omega arith) (λ _. omega arith) (λ _. omega arith) (λ _. omega arith) (λ _. omega arith) (λ _. omega arith) (λ _. omega arith)
+    (λ _. one) (λ _. one) (λ _. one) (λ _. one) (λ _. one) (λ _. one) (λ _. one)
     (λ _. omega arith) (λ _. omega arith) (λ _. omega arith) (λ _. omega arith) (λ _. omega arith)
     (λ _ _. omega arith) (λ _ _. omega arith) (omega arith)
 
@@ -89,7 +91,8 @@ token-long (b ∷ s) h =
 same-walk : {a b l m : ℕ} (s : List ℕ) → a ≡ b → l ≡ m → walk a l 0 s ≡ walk b m 0 s
 same-walk {a} {b} {l} {m} s p q = ap (λ (n : ℕ). walk n l 0 s) p ∙ ap (λ (n : ℕ). walk b n 0 s) q
 
-walk-skip : (k at line : ℕ) (s : List ℕ) → k ≤ length s → walk at line k s ≡ walk (at + k) (line + lineFeeds (take k s)) 0 (drop k s)
+walk-skip : (k at line : ℕ) (s : List ℕ) → k ≤ length s
+    → walk at line k s ≡ walk (at + k) (line + lineFeeds (take k s)) 0 (drop k s)
 unfolding walk
 walk-skip zero at line s h = same-walk s (omega arith) (omega (arith, lines-none))
 walk-skip (suc k) at line [] h = absurd (omega arith)
@@ -110,11 +113,21 @@ tokens-cons at line (b ∷ s) h =
     ap (λ (r : List Token). tokenAt at line (b ∷ s) ∷ r)
     (walk-pass (tokenLen (b ∷ s)) at line b s (token-long (b ∷ s) h) (token-fits (b ∷ s)))
 
+-- where the token at a place ends
+abbrev pub endAt : List ℕ → ℕ → ℕ
+endAt doc at = at + tokenLen (drop at doc)
+
+-- the tokens from a place on, there on a line
+abbrev pub tokensOn : List ℕ → ℕ → ℕ → List Token
+tokensOn doc at line = tokensFrom at line (drop at doc)
+
 module _ (doc : List ℕ) (at : ℕ) where
   -- the next token begins where this one ends, on the line there
   pub tokens-step : (line : ℕ) → at < length doc
-      → tokensFrom at line (drop at doc) ≡ tokenAt at line (drop at doc) ∷ tokensFrom (at + tokenLen (drop at doc)) (lineAfter line (drop at doc)) (drop (at + tokenLen (drop at doc)) doc)
-  tokens-step line h = tokens-cons at line (drop at doc) (omega (arith, length-drop at doc)) ∙ rw (drop-drop (tokenLen (drop at doc)) at doc)
+      → tokensOn doc at line ≡ tokenAt at line (drop at doc) ∷ tokensOn doc (endAt doc at) (lineAfter line (drop at doc))
+  tokens-step line h =
+      let s = drop at doc in
+      tokens-cons at line s (omega (arith, length-drop at doc)) ∙ rw (drop-drop (tokenLen s) at doc)
 
   pub tokens-end : (line : ℕ) → length doc ≤ at → tokensFrom at line (drop at doc) ≡ eofAt at line ∷ []
   unfolding tokensFrom walk
@@ -134,9 +147,7 @@ pub start-fits : (doc : List ℕ) → startOf doc ≤ length doc
 unfolding startOf
 start-fits doc =
     cond-case (Fits doc) (hasBom doc)
-    (λ t.
-    let e : getD doc 2 0 ≡ 0xBF = eqb-true _ _ (both-right (eqb (getD doc 1 0) 0xBB) _ (both-right (eqb (getD doc 0 0) 0xEF) _ t)) in
-    there doc 2 (omega arith))
+    (λ t. there doc 2 (omega (arith, mark-bytes doc t .2)))
     (λ t. omega arith)
 
 walk-count : (at line k : ℕ) (s : List ℕ) → length (walk at line k s) ≤ suc (length s)

@@ -13,13 +13,14 @@ use Rattle.token.specs.declared.Token.{Token}
 use Rattle.lexer.specs.Lines.{lineFeeds, lineBehind}
 use Rattle.lexer.specs.Table.{tokenLen}
 use Rattle.lexer.specs.Tokens.{tokenAt, eofAt, lineAfter, walk, tokensFrom, startOf, tokensOf}
-use Rattle.lexer.specs.Scans.{before, tokensUntil, linePast}
-use Rattle.lexer.proofs.TokenLaws.{tokens-step, tokens-end, token-fits-at, token-long-at, start-fits}
+use Rattle.lexer.specs.Scans.{before, tokensUntil, linePast, lineUntil}
+use Rattle.lexer.proofs.TokenLaws.{endAt, tokens-step, tokens-end, token-fits-at, token-long-at, start-fits}
 use Rattle.lexer.proofs.LineLaws.{lines-none, lines-end, lines-split, behind-front}
 
 module _ (doc : List ℕ) (stop at line : ℕ) where
   pub until-step : at < stop → stop ≤ length doc
-      → tokensUntil stop at line doc ≡ tokenAt at line (drop at doc) ∷ tokensUntil stop (at + tokenLen (drop at doc)) (lineAfter line (drop at doc)) doc
+      → tokensUntil stop at line doc
+      ≡ tokenAt at line (drop at doc) ∷ tokensUntil stop (endAt doc at) (lineAfter line (drop at doc)) doc
   unfolding before
   until-step h l =
       let within : at < length doc = omega arith in
@@ -34,12 +35,13 @@ module _ (doc : List ℕ) (stop at line : ℕ) where
       ]
 
 -- the one that begins at a place
-pub until-one : (doc : List ℕ) (at line : ℕ) → at < length doc → tokensUntil (at + 1) at line doc ≡ tokenAt at line (drop at doc) ∷ []
+pub until-one : (doc : List ℕ) (at line : ℕ) → at < length doc
+    → tokensUntil (at + 1) at line doc ≡ tokenAt at line (drop at doc) ∷ []
 until-one doc at line h =
-    let n = tokenLen (drop at doc) in
+    let long = token-long-at doc at h in
     until-step doc (at + 1) at line (omega arith) (omega arith)
     ∙ ap (λ (r : List Token). tokenAt at line (drop at doc) ∷ r)
-    (until-stop doc (at + 1) (at + n) (lineAfter line (drop at doc)) (omega (arith, token-long-at doc at h)))
+    (until-stop doc (at + 1) (endAt doc at) (lineAfter line (drop at doc)) (omega arith))
 
 -- all of them, and Eof
 abbrev All : ℕ → ℕ → List Token → Type 0
@@ -65,16 +67,23 @@ walk-until at line (suc k) (b ∷ s) =
     let on = lineBehind line b in
     all-by (walk (at + 1) on k s) (omega arith) (behind-front line b s) (walk-until (at + 1) on k s)
 
-pub until-all : (doc : List ℕ) → tokensOf doc ≡ tokensUntil (length doc) (startOf doc) 1 doc ++ (eofAt (length doc) (1 + lineFeeds (drop (startOf doc) doc)) ∷ [])
+-- Eof, on the line behind all LFs
+abbrev pub eofOf : List ℕ → Token
+eofOf doc = eofAt (length doc) (1 + lineFeeds (drop (startOf doc) doc))
+
+-- the tokens before it
+abbrev pub tokensBefore : List ℕ → List Token
+tokensBefore doc = tokensUntil (length doc) (startOf doc) 1 doc
+
+pub until-all : (doc : List ℕ) → tokensOf doc ≡ tokensBefore doc ++ (eofOf doc ∷ [])
 unfolding tokensOf tokensFrom
 until-all doc =
-    let same : startOf doc + length (drop (startOf doc) doc) ≡ length doc = omega (arith, length-drop (startOf doc) doc, start-fits doc) in
-    rw same at (walk-until (startOf doc) 1 0 (drop (startOf doc) doc))
+    let at = startOf doc in
+    let same : at + length (drop at doc) ≡ length doc = omega (arith, length-drop at doc, start-fits doc) in
+    rw same at (walk-until at 1 0 (drop at doc))
 
-pub until-count : (doc : List ℕ) → length (tokensUntil (length doc) (startOf doc) 1 doc) + 1 ≡ length (tokensOf doc)
-until-count doc =
-    let ts = tokensUntil (length doc) (startOf doc) 1 doc in
-    sym (ap length (until-all doc) ∙ length-append ts (eofAt (length doc) (1 + lineFeeds (drop (startOf doc) doc)) ∷ []))
+pub until-count : (doc : List ℕ) → length (tokensBefore doc) + 1 ≡ length (tokensOf doc)
+until-count doc = sym (ap length (until-all doc) ∙ length-append (tokensBefore doc) (eofOf doc ∷ []))
 
 -- ---- the line behind them
 
@@ -90,10 +99,16 @@ pub past-none : (doc : List ℕ) (line : ℕ) → linePast doc line [] ≡ line
 unfolding linePast
 past-none doc line = refl
 
-past-from : (n : ℕ) (doc : List ℕ) (at line : ℕ) → at ≤ length doc → length doc ≤ at + n
-    → linePast doc line (tokensUntil (length doc) at line doc) ≡ line + lineFeeds (drop at doc)
-past-from zero doc at line h l =
-    rw (until-stop doc (length doc) at line (omega arith)) (past-none doc line ∙ omega (arith, lines-end doc at (omega arith)))
+-- the line behind the tokens from a place to the end counts the LFs from there on
+abbrev PastAll : List ℕ → ℕ → ℕ → Type 0
+PastAll doc at line = lineUntil (length doc) at line doc ≡ line + lineFeeds (drop at doc)
+
+past-end : (doc : List ℕ) (at line : ℕ) → length doc ≤ at → PastAll doc at line
+past-end doc at line l =
+    rw (until-stop doc (length doc) at line l) (past-none doc line ∙ omega (arith, lines-end doc at l))
+
+past-from : (n : ℕ) (doc : List ℕ) (at line : ℕ) → at ≤ length doc → length doc ≤ at + n → PastAll doc at line
+past-from zero doc at line h l = past-end doc at line (omega arith)
 past-from (suc n) doc at line h l =
     elim (decLt at (length doc)) [
       | yes w ↦
@@ -103,11 +118,10 @@ past-from (suc n) doc at line h l =
           (past-step doc at line (tokensUntil (length doc) (at + k) (lineAfter line (drop at doc)) doc)
           ∙ past-from n doc (at + k) (lineAfter line (drop at doc)) (token-fits-at doc at h) (omega arith)
           ∙ omega (arith, lines-split k (drop at doc), ap lineFeeds (drop-drop k at doc)))
-      | no w ↦ rw (until-stop doc (length doc) at line (omega arith)) (past-none doc line ∙ omega (arith, lines-end doc at (omega arith)))
+      | no w ↦ past-end doc at line (omega arith)
     ]
 
-pub past-all : (doc : List ℕ) (at line : ℕ) → at ≤ length doc
-    → linePast doc line (tokensUntil (length doc) at line doc) ≡ line + lineFeeds (drop at doc)
+pub past-all : (doc : List ℕ) (at line : ℕ) → at ≤ length doc → PastAll doc at line
 past-all doc at line h = past-from (length doc) doc at line h (omega arith)
 
 -- ---- stores

@@ -19,55 +19,59 @@ use Rattle.token.specs.declared.KindRead.the-variants.{Kind, Refused as Unread}
 use Rattle.token.specs.KindNumbers.{kindNumber, kindOfNumber}
 use Rattle.token.specs.Records.{recordOf}
 use Rattle.token.proofs.KindLaws.{kind-back}
-use Rattle.lexer.specs.Tokens.{tokenAt, eofAt, lineAfter, startOf, tokensOf}
-use Rattle.lexer.specs.Lines.{lineFeeds}
+use Rattle.lexer.specs.Tokens.{tokenAt, eofAt, lineAfter, startOf}
 use Rattle.lexer.specs.Whole.{recordsOf, tokenCount, lexAnswer, lexMemory}
-use Rattle.lexer.specs.Scans.{tokensUntil, linePast}
+use Rattle.lexer.specs.Scans.{tokensUntil, linePast, lineUntil, store, recordsOver}
+use Rattle.lexer.specs.declared.Passed.{Passed}
 use Rattle.lexer.specs.declared.Lexed.{Lexed}
 use Rattle.lexer.specs.declared.Lexed.the-variants.{Tokens, Refused}
 use Rattle.lexer.proofs.TokenLaws.{start-fits}
-use Rattle.lexer.proofs.UntilLaws.{until-one, until-all, until-count, past-step, past-none, past-all, sets-last}
+use Rattle.lexer.proofs.UntilLaws.{eofOf, tokensBefore, until-one, until-all, until-count, past-step, past-none, past-all, sets-last}
 
 -- ---- filling
 
--- Eof, on the line behind all LFs
-abbrev last : List ℕ → Token
-last doc = eofAt (length doc) (1 + lineFeeds (drop (startOf doc) doc))
-
-records-all : (doc : List ℕ)
-    → recordsOf doc ≡ map recordOf (tokensUntil (length doc) (startOf doc) 1 doc) ++ (recordOf (last doc) ∷ [])
+records-all : (doc : List ℕ) → recordsOf doc ≡ map recordOf (tokensBefore doc) ++ (recordOf (eofOf doc) ∷ [])
 unfolding recordsOf
-records-all doc = ap (map recordOf) (until-all doc) ∙ go (tokensUntil (length doc) (startOf doc) 1 doc)
+records-all doc = ap (map recordOf) (until-all doc) ∙ go (tokensBefore doc)
   where
-    go : (ts : List Token) → map recordOf (ts ++ (last doc ∷ [])) ≡ map recordOf ts ++ (recordOf (last doc) ∷ [])
+    go : (ts : List Token) → map recordOf (ts ++ (eofOf doc ∷ [])) ≡ map recordOf ts ++ (recordOf (eofOf doc) ∷ [])
     go [] = refl
     go (t ∷ ts) = ap (λ (r : List (List ℕ)). recordOf t ∷ r) (go ts)
 
-module _ (doc : List ℕ) (start n : ℕ) (by : start ≡ startOf doc) (count : n ≡ length (tokensUntil (length doc) start 1 doc)) where
-  pub counted : n + 1 ≡ tokenCount doc
-  counted = ap (λ (k : ℕ). k + 1) (count ∙ ap (λ (s : ℕ). length (tokensUntil (length doc) s 1 doc)) by) ∙ until-count doc
+-- what a run over all tokens before Eof leaves: so many, the line behind them, and their records over the old ones
+pub record AllPassed (doc : List ℕ) (start : ℕ) (out : Passed) (old new : List (List ℕ)) : Type 0 where
+  pub by : start ≡ startOf doc
+  pub count : out .count ≡ length (tokensUntil (length doc) start 1 doc)
+  pub behind : out .line ≡ lineUntil (length doc) start 1 doc
+  pub stores : new ≡ store (length doc) start 1 doc 0 old
 
-  module _ (old new : List (List ℕ)) (stores : new ≡ sets old 0 (map recordOf (tokensUntil (length doc) start 1 doc))) where
-    pub filled-length : length new ≡ length old
-    filled-length = ap length stores ∙ length-sets old 0 (map recordOf (tokensUntil (length doc) start 1 doc))
+pub counted : (doc : List ℕ) (start n : ℕ) → start ≡ startOf doc → n ≡ length (tokensUntil (length doc) start 1 doc)
+    → n + 1 ≡ tokenCount doc
+counted doc start n by count =
+    let same : n ≡ length (tokensBefore doc) = rw by at count in
+    omega (arith, until-count doc)
 
-    pub filled : (line : ℕ) → line ≡ linePast doc 1 (tokensUntil (length doc) start 1 doc)
-        → (r : List ℕ) → r ≡ recordOf (eofAt (length doc) line) → tokenCount doc ≤ length old
-        → set new n r ≡ recordsOf doc ++ drop (tokenCount doc) old
-    filled line on r f l =
-        let all : line ≡ 1 + lineFeeds (drop (startOf doc) doc) =
-        on ∙ ap (λ (s : ℕ). linePast doc 1 (tokensUntil (length doc) s 1 doc)) by ∙ past-all doc (startOf doc) 1 (start-fits doc) in
-        let e : r ≡ recordOf (last doc) = f ∙ ap (λ (n : ℕ). recordOf (eofAt (length doc) n)) all in
-        let ts = tokensUntil (length doc) (startOf doc) 1 doc in
-        let same : n ≡ length (map recordOf ts) =
-        count ∙ ap (λ (s : ℕ). length (tokensUntil (length doc) s 1 doc)) by ∙ sym (length-map ts recordOf) in
-        let whole : new ≡ sets old 0 (map recordOf ts) = stores ∙ ap (λ (s : ℕ). sets old 0 (map recordOf (tokensUntil (length doc) s 1 doc))) by in
-        let stored = sets-last old (map recordOf ts) (recordOf (last doc)) (omega (arith, counted)) in
-        let most : length (map recordOf ts) + 1 ≡ tokenCount doc = omega (arith, counted) in
-        ap (λ (x : List (List ℕ)). set x n r) whole ∙ ap (λ (k : ℕ). set (sets old 0 (map recordOf ts)) k r) same
-        ∙ ap (λ (x : List ℕ). set (sets old 0 (map recordOf ts)) (length (map recordOf ts)) x) e
-        ∙ stored ∙ ap (λ (x : List (List ℕ)). x ++ drop (length (map recordOf ts) + 1) old) (sym (records-all doc))
-        ∙ ap (λ (k : ℕ). recordsOf doc ++ drop k old) most
+module _ (doc : List ℕ) (start : ℕ) (out : Passed) (old new : List (List ℕ)) (p : AllPassed doc start out old new) where
+  pub filled-length : length new ≡ length old
+  filled-length = ap length (p .stores) ∙ length-sets old 0 (map recordOf (tokensUntil (length doc) start 1 doc))
+
+  -- Eof behind them makes the records of the document
+  pub filled : (r : List ℕ) → r ≡ recordOf (eofAt (length doc) (out .line)) → tokenCount doc ≤ length old
+      → set new (out .count) r ≡ recordsOver doc old
+  filled r f l =
+      let n = out .count in
+      let rs = map recordOf (tokensBefore doc) in
+      let eof = recordOf (eofOf doc) in
+      let size : length rs + 1 ≡ tokenCount doc = omega (arith, until-count doc, length-map (tokensBefore doc) recordOf) in
+      let same : n ≡ length rs = omega (arith, counted doc start n (p .by) (p .count)) in
+      let whole : new ≡ sets old 0 rs = rw (p .by) at (p .stores) in
+      let on : out .line ≡ lineUntil (length doc) (startOf doc) 1 doc = rw (p .by) at (p .behind) in
+      let all = on ∙ past-all doc (startOf doc) 1 (start-fits doc) in
+      let e : r ≡ eof = f ∙ ap (λ (n : ℕ). recordOf (eofAt (length doc) n)) all in
+      ap (λ (x : List (List ℕ)). set x n r) whole ∙ ap (λ (k : ℕ). set (sets old 0 rs) k r) same
+      ∙ ap (set (sets old 0 rs) (length rs)) e ∙ sets-last old rs eof (omega arith)
+      ∙ ap (λ (x : List (List ℕ)). x ++ drop (length rs + 1) old) (sym (records-all doc))
+      ∙ ap (λ (k : ℕ). recordsOf doc ++ drop k old) size
 
 -- ---- one record, read back
 

@@ -65,8 +65,8 @@ lineUntil stop at line doc = linePast doc line (tokensUntil stop at line doc)
 -- ---- records
 
 -- their records stored over old ones, from the n-th on
-abbrev pub storesUntil : ℕ → ℕ → ℕ → List ℕ → ℕ → List (List ℕ) → List (List ℕ)
-storesUntil stop at line doc n old = sets old n (map recordOf (tokensUntil stop at line doc))
+abbrev pub store : ℕ → ℕ → ℕ → List ℕ → ℕ → List (List ℕ) → List (List ℕ)
+store stop at line doc n old = sets old n (map recordOf (tokensUntil stop at line doc))
 
 -- all records of a document over old ones, from the front
 abbrev pub recordsOver : List ℕ → List (List ℕ) → List (List ℕ)

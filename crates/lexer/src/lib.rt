@@ -13,7 +13,7 @@ ghost use Rattle.lexer.specs.Steps.{cursorOf, startAnswer, startNumber, 
 ghost use Rattle.lexer.specs.Steps.{stepOf, stepNumber, stepValue, stepRefusal, stepReturned};
 ghost use Rattle.lexer.specs.Whole.{tokenCount, lexAnswer, lexMemory};
 ghost use Rattle.lexer.specs.Whole.{lexedNumber, lexedValue, lexedLength, lexRefusal, lexReturned};
-ghost use Rattle.lexer.specs.Scans.{tokensUntil, lineUntil, storesUntil, recordsOver};
+ghost use Rattle.lexer.specs.Scans.{tokensUntil, lineUntil, store, recordsOver};
 use text::LIMIT;
 use text::Refusal;
 use text::Utf8Check;
@@ -188,7 +188,7 @@ fn lex_until(
     requires { ⌜ (start ≤ length (now doc)) × (stop ≤ length (now doc)) × (first ≤ start + 1) ⌝ }
     ensures count { λ r. ⌜ r .count ≡ length (tokensUntil stop start first (now (doc .entry))) ⌝ }
     ensures line { λ r. ⌜ r .line ≡ lineUntil stop start first (now (doc .entry)) ⌝ }
-    ensures memory { λ _. ⌜ now (records .exit) ≡ storesUntil stop start first (now (doc .entry)) 0 (now (records .entry)) ⌝ }
+    ensures memory { λ _. ⌜ now (records .exit) ≡ store stop start first (now (doc .entry)) 0 (now (records .entry)) ⌝ }
 {
     let mut at = start;
     let mut line = first;

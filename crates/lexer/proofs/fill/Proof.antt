@@ -1,13 +1,35 @@
 -- `fill` is right because the tokens that begin before the end of the document are stored first, and Eof behind them.
 -- Assumes nothing.
-use mathlib.Core.Path.{ap, _∙_}
+use Prim.Native.Nat.{ℕ, _+_}
+use mathlib.Core.Path.{_≡_, ap, _∙_}
+use mathlib.Core.List.{List}
 use Rattle.token.specs.Records.{recordOf}
+use Rattle.lexer.specs.Whole.{tokenCount}
 use Rattle.lexer.proofs.TokenLaws.{start-fits}
-use Rattle.lexer.proofs.WholeLaws.{counted, filled, filled-length}
+use Rattle.lexer.proofs.WholeLaws.{AllPassed, counted, filled, filled-length}
 use borrow.Author.Needs.{needs}
 use native.Mathlib.Omega.{arith}
 use Rattle.lexer.proofs.fill.Statement.{statement}
 use Rattle.lexer.proofs.fill.Tie as tie
+
+abbrev doc : tie.After-lex-until → List ℕ
+doc u = u .before .before .before .before .args .doc .now
+
+abbrev old : tie.After-lex-until → List (List ℕ)
+old u = u .before .before .before .before .args .records .now
+
+abbrev new : tie.After-lex-until → List (List ℕ)
+new u = u .lex-until .last .1 .1 .1 .1 .0
+
+-- all tokens before Eof are passed
+passed : (u : tie.After-lex-until)
+    → AllPassed (doc u) (u .before .before .start-of .result) (u .lex-until .result) (old u) (new u)
+passed u =
+    let is = u .lex-until .ensures in
+    record { by = u .before .before .start-of .ensures; count = is .0; behind = is .1 .0; stores = is .1 .1 }
+
+all : (u : tie.After-lex-until) → u .lex-until .result .count + 1 ≡ tokenCount (doc u)
+all u = counted (doc u) _ _ (passed u .by) (passed u .count)
 
 start-of-requires : tie.Need-start-of-requires
 start-of-requires c κs = search needs
@@ -22,32 +44,25 @@ as-record-requires : tie.Need-as-record-requires
 as-record-requires c κs = search needs
 
 mul-t12 : tie.Need-mul-t12
-mul-t12 c = let doc = c .before .before .before .before .before .before .before .args .doc .now in
-    let all = counted doc (c .before .before .before .before .before .start-of .result) (c .before .before .before .lex-until .result .count) (c .before .before .before .before .before .start-of .ensures) (c .before .before .before .lex-until .ensures .0) in
-    omega arith
+mul-t12 c = omega (arith, all (c .before .before .before))
 
 slice-set-from-records : tie.Need-slice-set-from-records
-slice-set-from-records c = let doc = c .before .before .before .before .before .before .before .args .doc .now in
-    let all = counted doc (c .before .before .before .before .before .start-of .result) (c .before .before .before .lex-until .result .count) (c .before .before .before .before .before .start-of .ensures) (c .before .before .before .lex-until .ensures .0) in
-    let same = filled-length doc (c .before .before .before .before .before .start-of .result) (c .before .before .before .lex-until .result .count) (c .before .before .before .before .before .start-of .ensures) (c .before .before .before .lex-until .ensures .0) (c .before .before .before .before .before .before .before .args .records .now) _ (c .before .before .before .lex-until .ensures .1 .1) in
-    omega arith
+slice-set-from-records c =
+    let u = c .before .before .before in
+    omega (arith, all u, filled-length (doc u) _ _ (old u) (new u) (passed u))
 
 add-result : tie.Need-add-result
-add-result c = let doc = c .before .before .before .before .before .before .before .args .doc .now in
-    let all = counted doc (c .before .before .before .before .before .start-of .result) (c .before .before .before .lex-until .result .count) (c .before .before .before .before .before .start-of .ensures) (c .before .before .before .lex-until .ensures .0) in
-    omega arith
+add-result c = omega (arith, all (c .before .before .before))
 
 same-length : tie.Need-same-length
 same-length c = search needs
 
 returns : tie.Need-returns
-returns c = let doc = c .before .before .before .before .before .before .before .args .doc .now in
-    let start = c .before .before .before .before .before .start-of in
-    let stored = c .before .before .before .lex-until in (
-      counted doc (start .result) (stored .result .count) (start .ensures) (stored .ensures .0),
-      filled doc (start .result) (stored .result .count) (start .ensures) (stored .ensures .0) (c .before .before .before .before .before .before .before .args .records .now) _ (stored .ensures .1 .1) (stored .result .line) (stored .ensures .1 .0)
-          (c .as-record .result) (c .as-record .ensures ∙ ap recordOf (c .before .token-of .ensures)) (c .before .before .before .before .before .before .before .pre),
-    )
+returns c =
+    let u = c .before .before .before in
+    let eof = c .as-record .ensures ∙ ap recordOf (c .before .token-of .ensures) in
+    let room = u .before .before .before .before .pre in
+    (all u, filled (doc u) _ _ (old u) (new u) (passed u) (c .as-record .result) eof room)
 
 pub fill-spec : {M : Type 1} → statement M
 fill-spec =

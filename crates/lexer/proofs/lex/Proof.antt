@@ -2,8 +2,10 @@
 -- more than bytes, because tokens number at most the bytes plus one.
 -- Assumes nothing.
 use Prim.Native.Nat.{ℕ}
-use mathlib.Core.Path.{sym, ap, _∙_}
+use mathlib.Core.Path.{_≡_, sym, ap, _∙_}
+use Rattle.text.specs.Answers.{checkOf}
 use Rattle.text.specs.declared.refusal.Refusal.the-variants.{FewTokens}
+use Rattle.text.specs.declared.utf8.Utf8Check.the-variants.{Valid}
 use Rattle.lexer.specs.declared.Lexed.the-variants.{Tokens, Refused}
 use Rattle.lexer.proofs.TokenLaws.{tokens-count}
 use Rattle.lexer.proofs.WholeLaws.{lex-broken, lex-few, lex-answered}
@@ -12,6 +14,10 @@ use borrow.Author.Needs.{needs}
 use native.Mathlib.Omega.{arith}
 use Rattle.lexer.proofs.lex.Statement.{statement}
 use Rattle.lexer.proofs.lex.Tie as tie
+
+-- past the check's refusals the document is valid
+valid : (c : tie.After-enum-told) → checkOf (c .before .before .before .before .args .doc .now) ≡ Valid
+valid c = sym (c .before .before .check-utf8 .ensures .0) ∙ c .enum-told .given .1
 
 check-utf8-requires : tie.Need-check-utf8-requires
 check-utf8-requires c κs = search needs
@@ -39,8 +45,7 @@ returns-2 : tie.Need-returns-2
 returns-2 c =
     let doc = c .before .before .before .before .before .before .before .before .args .doc .now in
     let old = c .before .before .before .before .before .before .before .before .args .records .now in
-    let valid = sym (c .before .before .before .before .before .before .check-utf8 .ensures .0) ∙ c .before .before .before .before .enum-told .given .1 in
-    let is = lex-answered doc old valid (omega (arith, tokens-count doc)) in
+    let is = lex-answered doc old (valid (c .before .before .before .before)) (omega (arith, tokens-count doc)) in
     lexed doc old _ _ (ap Tokens (c .before .fill .ensures .0) ∙ is .0) (c .before .fill .ensures .1 ∙ is .1)
 
 count-requires : tie.Need-count-requires
@@ -50,8 +55,7 @@ returns-3 : tie.Need-returns-3
 returns-3 c =
     let doc = c .before .before .before .before .before .before .before .args .doc .now in
     let old = c .before .before .before .before .before .before .before .args .records .now in
-    let valid = sym (c .before .before .before .before .before .check-utf8 .ensures .0) ∙ c .before .before .before .enum-told .given .1 in
-    let is = lex-few doc old valid (omega arith) in
+    let is = lex-few doc old (valid (c .before .before .before)) (omega arith) in
     lexed doc old _ _ (ap (λ (n : ℕ). Refused (FewTokens n)) (c .before .count .ensures) ∙ is .0) (is .1)
 
 fill-requires-2 : tie.Need-fill-requires-2
@@ -64,8 +68,7 @@ returns-4 : tie.Need-returns-4
 returns-4 c =
     let doc = c .before .before .before .before .before .before .before .before .before .before .args .doc .now in
     let old = c .before .before .before .before .before .before .before .before .before .before .args .records .now in
-    let valid = sym (c .before .before .before .before .before .before .before .before .check-utf8 .ensures .0) ∙ c .before .before .before .before .before .before .enum-told .given .1 in
-    let is = lex-answered doc old valid (omega arith) in
+    let is = lex-answered doc old (valid (c .before .before .before .before .before .before)) (omega arith) in
     lexed doc old _ _ (ap Tokens (c .before .fill2 .ensures .0) ∙ is .0) (c .before .fill2 .ensures .1 ∙ is .1)
 
 pub lex-spec : {M : Type 1} → statement M

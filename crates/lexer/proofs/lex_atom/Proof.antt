@@ -2,7 +2,6 @@
 -- Assumes nothing.
 use mathlib.Core.Path.{_∙_}
 use lib.Seq.{drop-drop}
-use Rattle.token.specs.declared.TokenKind.the-variants.{Atom}
 use Rattle.lexer.specs.Table.{extent}
 use Rattle.lexer.proofs.KindLaws.{end-is}
 use borrow.Author.Needs.{needs}
@@ -21,9 +20,7 @@ token-of-requires c κs = search needs
 
 returns : tie.Need-returns
 unfolding extent
-returns c =
-    let is = c .before .before .before .args in
-    c .token-of .ensures ∙ end-is Atom (is .at) (is .line) (c .before .atom-run .ensures ∙ simp drop-drop (omega arith))
+returns c = c .token-of .ensures ∙ end-is (c .before .atom-run .ensures ∙ simp drop-drop (omega arith))
 
 pub lex-atom-spec : {M : Type 1} → statement M
 lex-atom-spec = tie.close (tie.spec add-atom-run atom-run-requires token-of-requires returns)

@@ -2,7 +2,6 @@
 -- Assumes nothing.
 use mathlib.Core.Path.{_∙_}
 use lib.Seq.{drop-drop}
-use Rattle.token.specs.declared.TokenKind.the-variants.{Comment}
 use Rattle.lexer.specs.Table.{extent}
 use Rattle.lexer.proofs.KindLaws.{end-is}
 use Rattle.lexer.proofs.TailLaws.{comment-run}
@@ -22,9 +21,7 @@ token-of-requires c κs = search needs
 
 returns : tie.Need-returns
 unfolding extent
-returns c =
-    let is = c .before .before .before .args in
-    c .token-of .ensures ∙ end-is Comment (is .at) (is .line) (c .before .find-slice .ensures ∙ simp (drop-drop, comment-run) (omega arith))
+returns c = c .token-of .ensures ∙ end-is (c .before .find-slice .ensures ∙ simp (drop-drop, comment-run) (omega arith))
 
 pub lex-comment-spec : {M : Type 1} → statement M
 lex-comment-spec =

@@ -10,10 +10,9 @@ use lib.ListN.{length, drop, set, length-set}
 use lib.Seq.{sets, set-out}
 use Rattle.token.specs.declared.Token.{Token}
 use Rattle.token.specs.Records.{recordOf}
-use Rattle.lexer.specs.Table.{tokenLen}
 use Rattle.lexer.specs.Tokens.{tokenAt, lineAfter}
-use Rattle.lexer.specs.Scans.{tokensUntil, linePast, lineUntil, storesUntil}
-use Rattle.lexer.proofs.TokenLaws.{token-fits-at, token-long-at, line-fits-at}
+use Rattle.lexer.specs.Scans.{tokensUntil, linePast, lineUntil, store}
+use Rattle.lexer.proofs.TokenLaws.{endAt, token-fits-at, token-long-at, line-fits-at}
 use Rattle.lexer.proofs.UntilLaws.{until-step, until-stop, past-step, past-none}
 use borrow.Author.Needs.{needs}
 use native.Mathlib.Omega.{arith}
@@ -25,7 +24,7 @@ Inv-loop doc start first stop records₀ at₀ line₀ n₀ records at line n =
     (at ≤ length doc) × (n ≤ at) × (line ≤ at + 1) × (length records ≡ length records₀)
     × (n + length (tokensUntil stop at line doc) ≡ length (tokensUntil stop start first doc))
     × (lineUntil stop at line doc ≡ lineUntil stop start first doc)
-    × (storesUntil stop at line doc n records ≡ storesUntil stop start first doc 0 records₀)
+    × (store stop at line doc n records ≡ store stop start first doc 0 records₀)
 
 abbrev μ-loop : tie.MeasureT-loop
 μ-loop doc start first stop records₀ at₀ line₀ n₀ records at line n = length doc - at
@@ -68,14 +67,18 @@ loop-again c = let doc = c .before .before .before .before .before .before .args
     let l = c .before .before .before .before .loop .records in
     let inv = c .before .before .before .before .loop .inv in
     let here = c .before .before .process-token .ensures in
-    let end : c .before .before .process-token .result .span .end ≡ at + tokenLen (drop at doc) = ap (λ (t : Token). t .span .end) here in
+    let token = c .before .before .process-token .result in
+    let end : token .span .end ≡ endAt doc at = ap (λ (t : Token). t .span .end) here in
     let on : c .line-after .result ≡ lineAfter line (drop at doc) =
     c .line-after .ensures ∙ ap (λ (t : Token). lineAfter (t .line) (drop (t .span .start) doc)) here in
     let r = recordOf (tokenAt at line (drop at doc)) in
     let stored : c .before .if1 .records ≡ set l n r =
-    ⊎-elim (λ w. w .2 ∙ ap (set l n) (w .1 .ensures ∙ ap recordOf here)) (λ w. w .1 ∙ sym (set-out l n r (w .0 .left))) (c .before .if1 .came) in
+    ⊎-elim
+    (λ w. w .2 ∙ ap (set l n) (w .1 .ensures ∙ ap recordOf here))
+    (λ w. w .1 ∙ sym (set-out l n r (w .0 .left)))
+    (c .before .if1 .came) in
     let turn = until-step doc stop at line (omega arith) (omega arith) in
-    let rest = tokensUntil stop (at + tokenLen (drop at doc)) (lineAfter line (drop at doc)) doc in
+    let rest = tokensUntil stop (endAt doc at) (lineAfter line (drop at doc)) doc in
     rw (end, on, stored, add-one n) (
       token-fits-at doc at (omega arith),
       omega (arith, token-long-at doc at (omega arith)),

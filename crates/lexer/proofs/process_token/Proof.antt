@@ -84,88 +84,111 @@ lex-atom-requires c κs = search needs
 
 returns : tie.Need-returns
 unfolding kindBy extent
-returns c = c .lex-ascii-char .ensures ∙ made (c .before .before .before .before) Dot (rw (c .before .match .keys1))
+returns c =
+    let start = c .before .before .before .before in
+    c .lex-ascii-char .ensures ∙ made start Dot (rw (c .before .match .keys1))
 
 returns-2 : tie.Need-returns-2
 unfolding kindBy extent
-returns-2 c = c .lex-ascii-char2 .ensures ∙ made (c .before .before .before .before) Equals (rw (c .before .match .keys2))
+returns-2 c =
+    let start = c .before .before .before .before in
+    c .lex-ascii-char2 .ensures ∙ made start Equals (rw (c .before .match .keys2))
 
 returns-3 : tie.Need-returns-3
 unfolding kindBy extent
-returns-3 c = c .lex-ascii-char3 .ensures ∙ made (c .before .before .before .before) Comma (rw (c .before .match .keys3))
+returns-3 c =
+    let start = c .before .before .before .before in
+    c .lex-ascii-char3 .ensures ∙ made start Comma (rw (c .before .match .keys3))
 
 returns-4 : tie.Need-returns-4
 unfolding kindBy extent
-returns-4 c = c .lex-ascii-char4 .ensures ∙ made (c .before .before .before .before) LeftSquareBracket (rw (c .before .match .keys4))
+returns-4 c =
+    let start = c .before .before .before .before in
+    c .lex-ascii-char4 .ensures ∙ made start LeftSquareBracket (rw (c .before .match .keys4))
 
 returns-5 : tie.Need-returns-5
 unfolding kindBy extent
-returns-5 c = c .lex-ascii-char5 .ensures ∙ made (c .before .before .before .before) RightSquareBracket (rw (c .before .match .keys5))
+returns-5 c =
+    let start = c .before .before .before .before in
+    c .lex-ascii-char5 .ensures ∙ made start RightSquareBracket (rw (c .before .match .keys5))
 
 returns-6 : tie.Need-returns-6
 unfolding kindBy extent
-returns-6 c = c .lex-ascii-char6 .ensures ∙ made (c .before .before .before .before) LeftCurlyBracket (rw (c .before .match .keys6))
+returns-6 c =
+    let start = c .before .before .before .before in
+    c .lex-ascii-char6 .ensures ∙ made start LeftCurlyBracket (rw (c .before .match .keys6))
 
 returns-7 : tie.Need-returns-7
 unfolding kindBy extent
-returns-7 c = c .lex-ascii-char7 .ensures ∙ made (c .before .before .before .before) RightCurlyBracket (rw (c .before .match .keys7))
+returns-7 c =
+    let start = c .before .before .before .before in
+    c .lex-ascii-char7 .ensures ∙ made start RightCurlyBracket (rw (c .before .match .keys7))
 
 returns-8 : tie.Need-returns-8
 unfolding kindBy wschar
-returns-8 c = c .lex-whitespace .ensures ∙ made (c .before .before .before .before) Whitespace (rw (c .before .match .keys8))
+returns-8 c =
+    let start = c .before .before .before .before in
+    c .lex-whitespace .ensures ∙ made start Whitespace (rw (c .before .match .keys8))
 
 returns-9 : tie.Need-returns-9
 unfolding kindBy wschar
-returns-9 c = c .lex-whitespace2 .ensures ∙ made (c .before .before .before .before) Whitespace (rw (c .before .match .keys9))
+returns-9 c =
+    let start = c .before .before .before .before in
+    c .lex-whitespace2 .ensures ∙ made start Whitespace (rw (c .before .match .keys9))
 
 returns-10 : tie.Need-returns-10
 unfolding kindBy wschar
-returns-10 c = c .lex-comment .ensures ∙ made (c .before .before .before .before) Comment (rw (c .before .match .keys10))
+returns-10 c =
+    let start = c .before .before .before .before in
+    c .lex-comment .ensures ∙ made start Comment (rw (c .before .match .keys10))
 
 returns-11 : tie.Need-returns-11
 unfolding kindBy wschar
-returns-11 c = c .lex-crlf .ensures ∙ made (c .before .before .before .before) Newline (rw (c .before .match .keys11))
+returns-11 c =
+    let start = c .before .before .before .before in
+    c .lex-crlf .ensures ∙ made start Newline (rw (c .before .match .keys11))
 
 returns-12 : tie.Need-returns-12
 unfolding kindBy wschar extent
 returns-12 c =
-    let is = c .before .before .before .before in
-    c .lex-ascii-char8 .ensures ∙ end-is Newline (is .args .at) (is .args .line) (simp (newlineTail-at, c .before .match .keys12))
-    ∙ made is Newline (rw (c .before .match .keys12))
+    let start = c .before .before .before .before in
+    c .lex-ascii-char8 .ensures ∙ end-is (simp (newlineTail-at, c .before .match .keys12))
+    ∙ made start Newline (rw (c .before .match .keys12))
 
 returns-13 : tie.Need-returns-13
 unfolding kindBy wschar
 returns-13 c =
+    let start = c .before .before .before .before .before .before in
     let three = sym (c .before .before .is-triple .ensures) ∙ c .before .if1 .taken in
-    c .lex-ml-literal-string .ensures
-    ∙ made (c .before .before .before .before .before .before) MlLiteralString (rw (c .before .before .before .match .keys13, three))
+    c .lex-ml-literal-string .ensures ∙ made start MlLiteralString (rw (c .before .before .before .match .keys13, three))
 
 returns-14 : tie.Need-returns-14
 unfolding kindBy wschar
 returns-14 c =
+    let start = c .before .before .before .before .before .before in
     let three = sym (c .before .before .is-triple .ensures) ∙ c .before .if1 .left in
-    c .lex-literal-string .ensures
-    ∙ made (c .before .before .before .before .before .before) LiteralString (rw (c .before .before .before .match .keys13, three))
+    c .lex-literal-string .ensures ∙ made start LiteralString (rw (c .before .before .before .match .keys13, three))
 
 returns-15 : tie.Need-returns-15
 unfolding kindBy wschar
 returns-15 c =
+    let start = c .before .before .before .before .before .before in
     let three = sym (c .before .before .is-triple2 .ensures) ∙ c .before .if2 .taken in
-    c .lex-ml-basic-string .ensures
-    ∙ made (c .before .before .before .before .before .before) MlBasicString (rw (c .before .before .before .match .keys14, three))
+    c .lex-ml-basic-string .ensures ∙ made start MlBasicString (rw (c .before .before .before .match .keys14, three))
 
 returns-16 : tie.Need-returns-16
 unfolding kindBy wschar
 returns-16 c =
+    let start = c .before .before .before .before .before .before in
     let three = sym (c .before .before .is-triple2 .ensures) ∙ c .before .if2 .left in
-    c .lex-basic-string .ensures
-    ∙ made (c .before .before .before .before .before .before) BasicString (rw (c .before .before .before .match .keys14, three))
+    c .lex-basic-string .ensures ∙ made start BasicString (rw (c .before .before .before .match .keys14, three))
 
 returns-17 : tie.Need-returns-17
 unfolding kindBy wschar
 returns-17 c =
+    let start = c .before .before .before .before in
     let r = c .before .match .rest in
-    c .lex-atom .ensures ∙ made (c .before .before .before .before) Atom (simp (
+    c .lex-atom .ensures ∙ made start Atom (simp (
       ne-eqb _ _ (r .1),
       ne-eqb _ _ (r .0 .1),
       ne-eqb _ _ (r .0 .0 .1),

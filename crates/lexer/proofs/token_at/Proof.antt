@@ -1,19 +1,42 @@
 -- `token_at` is right because the tokens that begin at its place and before the next are one, whose record is read back.
 -- Assumes nothing.
-use Prim.Native.Nat.{_+_}
-use mathlib.Core.Path.{_≡_, ap, _∙_}
-use mathlib.Core.List.{[], _∷_}
+use Prim.Native.Nat.{ℕ}
+use mathlib.Core.Path.{_≡_, _∙_}
+use mathlib.Core.List.{List, [], _∷_}
 use lib.ListN.{drop}
-use Rattle.token.specs.declared.TokenKind.{TokenKind}
+use Rattle.token.specs.declared.Token.{Token}
 use Rattle.token.specs.KindNumbers.{kindNumber, kindOfNumber}
 use Rattle.token.specs.Records.{tokenOf, recordOf}
-use Rattle.lexer.specs.Table.{kindOf, tokenLen}
-use Rattle.lexer.specs.Tokens.{tokenAt}
+use Rattle.lexer.specs.Tokens.{tokenAt, lineAfter}
+use Rattle.lexer.proofs.KindLaws.{kind-is}
 use Rattle.lexer.proofs.WholeLaws.{one-record, one-line, read-back, never-refused}
 use borrow.Author.Needs.{needs}
 use native.Mathlib.Omega.{arith}
 use Rattle.lexer.proofs.token_at.Statement.{statement}
 use Rattle.lexer.proofs.token_at.Tie as tie
+
+-- the bytes from the place on, and the token there
+abbrev bytes : tie.Start → List ℕ
+bytes c = drop (c .args .at) (c .args .doc .now)
+
+abbrev token : tie.Start → Token
+token c = tokenAt (c .args .at) (c .args .line) (bytes c)
+
+-- its record is the one that was written, its line the one behind it, and its kind the one read back
+written : (c : tie.After-lex-until) → c .lex-until .last .1 .1 .1 .1 .0 ≡ recordOf (token (c .before .before .before)) ∷ []
+written c =
+    let is = c .before .before .before .args in
+    one-record (is .doc .now) (is .at) (is .line) _ (omega arith) (c .lex-until .ensures .1 .1)
+
+behind : (c : tie.After-lex-until)
+    → c .lex-until .result .line ≡ lineAfter (c .before .before .before .args .line) (bytes (c .before .before .before))
+behind c =
+    let is = c .before .before .before .args in
+    c .lex-until .ensures .1 .0 ∙ one-line (is .doc .now) (is .at) (is .line) (omega arith)
+
+number : (c : tie.After-from-number)
+    → c .from-number .result ≡ kindOfNumber (kindNumber (token (c .before .before .before .before .before .before) .kind))
+number c = rw (written (c .before .before .before)) at (c .from-number .ensures .0)
 
 add-lex-until : tie.Need-add-lex-until
 add-lex-until c = search needs
@@ -55,27 +78,19 @@ token-of-requires-2 : tie.Need-token-of-requires-2
 token-of-requires-2 c κs = search needs
 
 returns : tie.Need-returns
-returns c = let doc = c .before .before .before .before .before .before .before .before .before .before .args .doc .now in
-    let at = c .before .before .before .before .before .before .before .before .before .before .args .at in
-    let line = c .before .before .before .before .before .before .before .before .before .before .args .line in
-    let t = tokenAt at line (drop at doc) in
-    let new = c .before .before .before .before .before .before .before .lex-until .last .1 .1 .1 .1 .0 in
-    let read : new ≡ recordOf t ∷ [] = one-record doc at line new (omega arith) (c .before .before .before .before .before .before .before .lex-until .ensures .1 .1) in
-    let number : c .before .before .before .before .from-number .result ≡ kindOfNumber (kindNumber (t .kind)) = rw read at (c .before .before .before .before .from-number .ensures .0) in
-    let kind = read-back (t .kind) _ number _ (c .before .before .kind .given .1) in
-    let made : c .token-of .result ≡ tokenOf (c .before .before .kind .given .0 .0) at (at + tokenLen (drop at doc)) line = rw read at (c .token-of .ensures) in
-    let token : c .token-of .result ≡ t = made ∙ ap (λ (k : TokenKind). tokenOf k at (at + tokenLen (drop at doc)) line) kind in
-    (token, c .before .before .before .before .before .before .before .lex-until .ensures .1 .0 ∙ one-line doc at line (omega arith))
+returns c =
+    let t = token (c .before .before .before .before .before .before .before .before .before .before) in
+    let read = c .before .before .kind .given in
+    let kind = read-back (t .kind) _ (number (c .before .before .before .before)) _ (read .1) in
+    let stored = written (c .before .before .before .before .before .before .before) in
+    let made : c .token-of .result ≡ tokenOf (read .0 .0) (t .span .start) (t .span .end) (t .line) =
+    rw stored at (c .token-of .ensures) in
+    (made ∙ kind-is kind, behind (c .before .before .before .before .before .before .before))
 
 returns-2 : tie.Need-returns-2
-returns-2 c = let doc = c .before .before .before .before .before .before .before .before .before .args .doc .now in
-    let at = c .before .before .before .before .before .before .before .before .before .args .at in
-    let line = c .before .before .before .before .before .before .before .before .before .args .line in
-    let t = tokenAt at line (drop at doc) in
-    let new = c .before .before .before .before .before .before .lex-until .last .1 .1 .1 .1 .0 in
-    let read : new ≡ recordOf t ∷ [] = one-record doc at line new (omega arith) (c .before .before .before .before .before .before .lex-until .ensures .1 .1) in
-    let number : c .before .before .before .from-number .result ≡ kindOfNumber (kindNumber (t .kind)) = rw read at (c .before .before .before .from-number .ensures .0) in
-    absurd (never-refused (t .kind) _ number _ (c .before .enum-told .given .1))
+returns-2 c =
+    let t = token (c .before .before .before .before .before .before .before .before .before) in
+    absurd (never-refused (t .kind) _ (number (c .before .before .before)) _ (c .before .enum-told .given .1))
 
 pub token-at-spec : {M : Type 1} → statement M
 token-at-spec =
