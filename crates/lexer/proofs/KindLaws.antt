@@ -1,10 +1,9 @@
 -- A token's kind and end at a place of the document.
 -- Assumes nothing.
-use Prim.Native.Nat.{ℕ, _+_, _<_}
-use mathlib.Core.Path.{_≡_, refl, ap}
-use mathlib.Core.Bool.{Bool, true, false}
-use mathlib.Core.List.{List, [], _∷_}
-use native.Mathlib.Omega.{arith}
+use Prim.Native.Nat.{ℕ, _<_}
+use mathlib.Core.Path.{_≡_, ap}
+use mathlib.Core.Bool.{Bool, true}
+use mathlib.Core.List.{List}
 use borrow.Author.Tests.{eqb-true}
 use lib.Dec.{eqb}
 use lib.ListN.{length, getD, drop}
@@ -16,7 +15,7 @@ use Rattle.token.specs.declared.TokenKind.the-variants.{Dot, Equals, Comma, Lef
 use Rattle.token.specs.Records.{tokenOf}
 use Rattle.lexer.specs.Bytes.{eol}
 use Rattle.lexer.specs.Extents.{triple}
-use Rattle.lexer.specs.Table.{kindBy, kindOf, extent, tokenLen}
+use Rattle.lexer.specs.Table.{kindBy, kindOf, tokenLen}
 use Rattle.lexer.specs.Tokens.{tokenBy, tokenAt}
 
 pub kind-at : (s : List ℕ) (i : ℕ) → i < length s → kindOf (drop i s) ≡ kindBy (getD s i 0) (triple (getD s i 0) (drop i s))

@@ -7,7 +7,7 @@ use mathlib.Core.Bool.{Bool, true, false, not, cond, _&&_, _||_}
 use mathlib.Core.List.{List, [], _∷_}
 use native.Mathlib.Numerals.{add-one}
 use native.Mathlib.Omega.{arith}
-use borrow.Author.Tests.{eqb-true, ne-eqb, eq-eqb}
+use borrow.Author.Tests.{eqb-true, ne-eqb}
 use lib.Dec.{eqb}
 use lib.ListN.{length, getD, drop, drop-of-length-le, length-drop}
 use lib.Seq.{drop-cons, drop-drop, getD-drop}
@@ -16,7 +16,7 @@ use Rattle.classes.proofs.Conds.{cond-case, not-both}
 use Rattle.classes.proofs.RunLaws.{run-le}
 use Rattle.lexer.specs.Bytes.{hides, closes, inComment}
 use Rattle.lexer.specs.Extents.{lineTail, triple, upToTwo, mlTail}
-use Rattle.lexer.specs.Scans.{oneOf, noneOf, escapeOf}
+use Rattle.lexer.specs.Scans.{noneOf, escapeOf, SameEnd}
 
 -- ---- by a byte
 
@@ -118,7 +118,7 @@ over-run F p f (b ∷ s) =
 
 -- so the end of the tail is where it was
 over-run-at : (F : List ℕ → ℕ) (p : ℕ → Bool) → Over F p
-    → (s : List ℕ) (i r : ℕ) → r ≡ i + run p (drop i s) → i + F (drop i s) ≡ r + F (drop r s)
+    → (s : List ℕ) (i r : ℕ) → r ≡ i + run p (drop i s) → r + F (drop r s) ≡ i + F (drop i s)
 over-run-at F p f s i r e =
     let n = run p (drop i s) in
     let rest : drop n (drop i s) ≡ drop r s = drop-drop n i s ∙ ap (λ (k : ℕ). drop k s) (sym e) in
@@ -192,17 +192,20 @@ module _ (q : ℕ) (s : List ℕ) (i : ℕ) (l : i < length s) where
 
 -- from place i to place r, over bytes of the class p, none of which moves the end
 pub record Found (reach : List ℕ → ℕ) (p : ℕ → Bool) (s : List ℕ) (i r : ℕ) : Type 0 where
-  pub within : r ≤ length s
   pub forward : i ≤ r
-  pub same : i + reach (drop i s) ≡ r + reach (drop r s)
+  pub same : SameEnd reach s i r
   pub stopped : r < length s → p (getD s r 0) ≡ false
 
 found : (F : List ℕ → ℕ) (p : ℕ → Bool) → Over F p
     → (s : List ℕ) (i r : ℕ) → i ≤ length s → r ≡ i + run p (drop i s) → Found F p s i r
 found F p f s i r l e =
-    let same = over-run-at F p f s i r e in
-    record { within = run-within p s i r e l; forward = omega arith; same = same; stopped = run-fails p s i r e }
+    record {
+      forward = omega arith;
+      same = (run-within p s i r e l, over-run-at F p f s i r e);
+      stopped = run-fails p s i r e;
+    }
 
+-- for a string on one line, and for one on several
 abbrev pub LineFound : ℕ → List ℕ → ℕ → ℕ → Type 0
 LineFound q = Found (lineTail q false) (noneOf q (escapeOf q) 10)
 

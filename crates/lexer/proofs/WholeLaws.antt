@@ -23,7 +23,6 @@ use Rattle.lexer.specs.Tokens.{tokenAt, eofAt, lineAfter, startOf}
 use Rattle.lexer.specs.Whole.{recordsOf, tokenCount, lexAnswer, lexMemory}
 use Rattle.lexer.specs.Scans.{tokensUntil, linePast, lineUntil, store, recordsOver}
 use Rattle.lexer.specs.declared.Passed.{Passed}
-use Rattle.lexer.specs.declared.Lexed.{Lexed}
 use Rattle.lexer.specs.declared.Lexed.the-variants.{Tokens, Refused}
 use Rattle.lexer.proofs.TokenLaws.{start-fits}
 use Rattle.lexer.proofs.UntilLaws.{eofOf, tokensBefore, until-one, until-all, until-count, past-step, past-none, past-all, sets-last}
@@ -79,13 +78,14 @@ abbrev spare : List (List ℕ)
 spare = (0 ∷ 0 ∷ 0 ∷ 0 ∷ []) ∷ []
 
 pub one-record : (doc : List ℕ) (at line : ℕ) (new : List (List ℕ)) → at < length doc
-    → new ≡ sets spare 0 (map recordOf (tokensUntil (at + 1) at line doc)) → new ≡ recordOf (tokenAt at line (drop at doc)) ∷ []
+    → new ≡ store (at + 1) at line doc 0 spare → new ≡ recordOf (tokenAt at line (drop at doc)) ∷ []
 one-record doc at line new h e = e ∙ ap (λ (ts : List Token). sets spare 0 (map recordOf ts)) (until-one doc at line h)
 
-pub one-line : (doc : List ℕ) (at line : ℕ) → at < length doc
-    → linePast doc line (tokensUntil (at + 1) at line doc) ≡ lineAfter line (drop at doc)
-one-line doc at line h =
-    ap (linePast doc line) (until-one doc at line h) ∙ past-step doc at line [] ∙ past-none doc (lineAfter line (drop at doc))
+pub one-line : (doc : List ℕ) (at line n : ℕ) → at < length doc
+    → n ≡ lineUntil (at + 1) at line doc → n ≡ lineAfter line (drop at doc)
+one-line doc at line n h e =
+    let next = lineAfter line (drop at doc) in
+    e ∙ ap (linePast doc line) (until-one doc at line h) ∙ past-step doc at line [] ∙ past-none doc next
 
 module _ (k : TokenKind) (r : KindRead) (read : r ≡ kindOfNumber (kindNumber k)) where
   pub read-back : (j : TokenKind) → r ≡ Kind j → j ≡ k
@@ -100,7 +100,8 @@ module _ (k : TokenKind) (r : KindRead) (read : r ≡ kindOfNumber (kindNumber k
 -- ---- the answers
 
 module _ (doc : List ℕ) (old : List (List ℕ)) where
-  pub lex-broken : (r : Refusal) → checkOf doc ≡ Broken r → (Refused r ≡ lexAnswer doc (length old)) × (old ≡ lexMemory doc old)
+  pub lex-broken : (r : Refusal) → checkOf doc ≡ Broken r
+      → (Refused r ≡ lexAnswer doc (length old)) × (old ≡ lexMemory doc old)
   unfolding lexAnswer lexMemory
   lex-broken r e = (rw e, rw e)
 
@@ -110,6 +111,6 @@ module _ (doc : List ℕ) (old : List (List ℕ)) where
   lex-few e h = let t = lt-ltb (length old) (tokenCount doc) h in (rw (e, t), rw (e, t))
 
   pub lex-answered : checkOf doc ≡ Valid → tokenCount doc ≤ length old
-      → (Tokens (tokenCount doc) ≡ lexAnswer doc (length old)) × (recordsOf doc ++ drop (tokenCount doc) old ≡ lexMemory doc old)
+      → (Tokens (tokenCount doc) ≡ lexAnswer doc (length old)) × (recordsOver doc old ≡ lexMemory doc old)
   unfolding lexAnswer lexMemory
   lex-answered e h = let t = le-ltb (length old) (tokenCount doc) h in (rw (e, t), rw (e, t))

@@ -8,7 +8,7 @@ ghost use lib.ListN.{length, drop, getD};
 ghost use Rattle.classes.specs.Classes.{wschar};
 ghost use Rattle.classes.specs.Runs.{run};
 ghost use Rattle.classes.proofs.RunLaws.{Block};
-ghost use Rattle.lexer.specs.Bytes.{hides, inAtom};
+ghost use Rattle.lexer.specs.Bytes.{inAtom};
 ghost use Rattle.lexer.specs.Extents.{lineTail, triple, upToTwo, mlTail};
 ghost use Rattle.lexer.specs.Scans.{oneOf, noneOf, escapeOf, SameEnd};
 

@@ -1,10 +1,6 @@
 -- `lex_crlf` is right because a CR stands at its place, and it asks for the LF behind it.
 -- Assumes nothing.
-use mathlib.Core.Path.{_≡_, sym, ap, _∙_}
-use borrow.Author.Tests.{eq-eqb}
-use lib.Dec.{eqb}
-use lib.ListN.{getD}
-use mathlib.Core.Bool.{true}
+use mathlib.Core.Path.{sym, _∙_}
 use Rattle.lexer.specs.Table.{extent}
 use Rattle.lexer.proofs.MarkLaws.{newlineTail-at}
 use borrow.Author.Needs.{needs}

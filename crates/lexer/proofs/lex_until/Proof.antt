@@ -1,7 +1,7 @@
 -- `lex_until` is right because the tokens still to come, stored from here on, give the records at the end: a turn stores
 -- the first of them, or would store it beyond the last record, and counts the line on by its LFs.
 -- Assumes nothing.
-use Prim.Native.Nat.{ℕ, _+_, _-_, _≤_}
+use Prim.Native.Nat.{_+_, _-_, _≤_}
 use mathlib.Core.Path.{_≡_, refl, ap, sym, _∙_}
 use mathlib.Core.Logic.{⊎-elim}
 use mathlib.Core.List.{List, map}

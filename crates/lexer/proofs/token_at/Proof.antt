@@ -32,7 +32,7 @@ behind : (c : tie.After-lex-until)
     → c .lex-until .result .line ≡ lineAfter (c .before .before .before .args .line) (bytes (c .before .before .before))
 behind c =
     let is = c .before .before .before .args in
-    c .lex-until .ensures .1 .0 ∙ one-line (is .doc .now) (is .at) (is .line) (omega arith)
+    one-line (is .doc .now) (is .at) (is .line) _ (omega arith) (c .lex-until .ensures .1 .0)
 
 number : (c : tie.After-from-number)
     → c .from-number .result ≡ kindOfNumber (kindNumber (token (c .before .before .before .before .before .before) .kind))

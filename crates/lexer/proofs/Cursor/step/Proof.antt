@@ -20,7 +20,9 @@ within c =
 
 returns : tie.Need-returns
 unfolding stepOf
-returns c = stepped (c .before .before .args .doc .now) (c .before .before .args .self) _ (simp (lt-ltb _ _ (c .if1 .taken)))
+returns c =
+    let is = c .before .before .args in
+    stepped (is .doc .now) (is .self) _ (simp (lt-ltb _ _ (c .if1 .taken)))
 
 returns-2 : tie.Need-returns-2
 unfolding stepOf

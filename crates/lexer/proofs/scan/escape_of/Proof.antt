@@ -1,7 +1,6 @@
 -- `escape_of` is right because its test is the definition's.
 -- Assumes nothing.
 use borrow.Author.Tests.{eq-eqb, ne-eqb}
-use borrow.Author.Needs.{needs}
 use Rattle.lexer.proofs.scan.escape_of.Statement.{statement}
 use Rattle.lexer.proofs.scan.escape_of.Tie as tie
 

@@ -1,9 +1,8 @@
 -- `find_block` is right because a block with none of the three leaves the end of the run where it was.
 -- Assumes nothing.
-use Prim.Native.Nat.{_+_, _-_, _≤_}
-use mathlib.Core.Path.{_≡_}
+use Prim.Native.Nat.{_-_}
 use borrow.Author.Tests.{not-false}
-use lib.ListN.{length, drop}
+use lib.ListN.{length}
 use Rattle.classes.specs.Runs.{run}
 use Rattle.lexer.specs.Scans.{noneOf, SameEnd}
 use native.Mathlib.Omega.{arith}

@@ -1,9 +1,9 @@
 -- `find_slice` is right because neither a block nor a byte that is none of the three moves the end of the run.
 -- Assumes nothing.
-use Prim.Native.Nat.{_+_, _-_, _≤_}
-use mathlib.Core.Path.{_≡_, sym, ap, _∙_}
+use Prim.Native.Nat.{_-_}
+use mathlib.Core.Path.{sym, ap, _∙_}
 use mathlib.Core.Bool.{not}
-use lib.ListN.{length, drop}
+use lib.ListN.{length}
 use Rattle.classes.specs.Runs.{run}
 use Rattle.classes.proofs.RunLaws.{run-step, run-stop, run-end}
 use Rattle.lexer.specs.Scans.{noneOf, SameEnd}

@@ -1,7 +1,6 @@
 -- `is_one_of` is right because its tests are the definition's, in its order.
 -- Assumes nothing.
 use borrow.Author.Tests.{eq-eqb, ne-eqb}
-use borrow.Author.Needs.{needs}
 use Rattle.lexer.proofs.scan.is_one_of.Statement.{statement}
 use Rattle.lexer.proofs.scan.is_one_of.Tie as tie
 

@@ -1,9 +1,9 @@
 -- `wschar_run` is right because a space or tab passed leaves the end of the run where it was.
 -- Assumes nothing.
-use Prim.Native.Nat.{_+_, _-_, _≤_}
-use mathlib.Core.Path.{_≡_, sym, _∙_}
+use Prim.Native.Nat.{_-_}
+use mathlib.Core.Path.{sym, _∙_}
 use borrow.Author.Tests.{not-true, not-false}
-use lib.ListN.{length, drop}
+use lib.ListN.{length}
 use Rattle.classes.specs.Classes.{wschar}
 use Rattle.classes.specs.Runs.{run}
 use Rattle.lexer.specs.Scans.{SameEnd}
