@@ -2,19 +2,20 @@
 -- Assumes nothing.
 use Prim.Native.Nat.{ℕ, zero, suc, pred, _+_, _-_, _≤_, _<_}
 use mathlib.Core.Path.{_≡_, refl, sym, ap, _∙_, subst}
-use mathlib.Core.List.{List, [], _∷_, _++_}
+use mathlib.Core.List.{List, [], _∷_, _++_, map}
 use native.Mathlib.Omega.{arith}
 use native.Mathlib.Numerals.{add-one}
 use native.Mathlib.Decide.{decLt}
 use borrow.Author.Tests.{lt-ltb, le-ltb}
-use lib.ListN.{length, getD, take, drop, set, length-drop, length-append}
+use lib.ListN.{length, getD, take, drop, set, length-set, length-drop, length-append}
 use lib.Seq.{sets, sets-eq, drop-cons, drop-drop, append-snoc, set-append-seam}
 use Rattle.token.specs.declared.Token.{Token}
+use Rattle.token.specs.Records.{recordOf}
 use Rattle.lexer.specs.Lines.{lineFeeds, lineBehind}
 use Rattle.lexer.specs.Table.{tokenLen}
 use Rattle.lexer.specs.Tokens.{tokenAt, eofAt, lineAfter, walk, tokensFrom, startOf, tokensOf}
-use Rattle.lexer.specs.Scans.{before, tokensUntil, linePast, lineUntil}
-use Rattle.lexer.proofs.TokenLaws.{endAt, tokens-step, tokens-end, token-fits-at, token-long-at, start-fits}
+use Rattle.lexer.specs.Scans.{before, tokensUntil, linePast, lineUntil, store}
+use Rattle.lexer.proofs.TokenLaws.{endAt, tokens-step, tokens-end, token-fits-at, token-long-at, line-fits-at, start-fits}
 use Rattle.lexer.proofs.LineLaws.{lines-none, lines-end, lines-split, behind-front}
 
 module _ (doc : List ℕ) (stop at line : ℕ) where
@@ -123,6 +124,50 @@ past-from (suc n) doc at line h l =
 
 pub past-all : (doc : List ℕ) (at line : ℕ) → at ≤ length doc → PastAll doc at line
 past-all doc at line h = past-from (length doc) doc at line h (omega arith)
+
+-- ---- a loop over them
+
+module _ (doc : List ℕ) (stop start first : ℕ) (old : List (List ℕ)) where
+  -- from `at` on, with n records stored, it leaves what it leaves from `start` on
+  pub record Underway (at line n : ℕ) (new : List (List ℕ)) : Type 0 where
+    pub within : at ≤ length doc
+    pub few : n ≤ at
+    pub low : line ≤ at + 1
+    pub room : length new ≡ length old
+    pub count : n + length (tokensUntil stop at line doc) ≡ length (tokensUntil stop start first doc)
+    pub behind : lineUntil stop at line doc ≡ lineUntil stop start first doc
+    pub stores : store stop at line doc n new ≡ store stop start first doc 0 old
+
+  -- a turn stores the first of the tokens still to come
+  pub turned : {at line n : ℕ} {new : List (List ℕ)} → Underway at line n new → at < stop → stop ≤ length doc
+      → Underway (endAt doc at) (lineAfter line (drop at doc)) (n + 1) (set new n (recordOf (tokenAt at line (drop at doc))))
+  turned {at} {line} {n} {new} u h l =
+      let here = recordOf (tokenAt at line (drop at doc)) in
+      let rest = tokensUntil stop (endAt doc at) (lineAfter line (drop at doc)) doc in
+      let turn = until-step doc stop at line h l in
+      let behind = sym (ap (linePast doc line) turn ∙ past-step doc at line rest) in
+      record {
+        within = token-fits-at doc at (u .within);
+        few = omega (arith, token-long-at doc at (omega arith));
+        low = line-fits-at doc at line (u .low);
+        room = length-set new n here ∙ u .room;
+        count = omega (arith, ap length turn);
+        behind = behind ∙ u .behind;
+        stores = rw (add-one n) (ap (λ (ts : List Token). sets new n (map recordOf ts)) (sym turn) ∙ u .stores);
+      }
+
+  -- past the stop none is left
+  pub arrived : {at line n : ℕ} {new : List (List ℕ)} → Underway at line n new → stop ≤ at
+      → (n ≡ length (tokensUntil stop start first doc))
+      × ((line ≡ lineUntil stop start first doc) × (new ≡ store stop start first doc 0 old))
+  arrived {at} {line} {n} {new} u h =
+      let done = until-stop doc stop at line h in (
+        omega (arith, ap length done),
+        (
+          sym (ap (linePast doc line) done ∙ past-none doc line) ∙ u .behind,
+          ap (λ (ts : List Token). sets new n (map recordOf ts)) (sym done) ∙ u .stores,
+        ),
+      )
 
 -- ---- stores
 

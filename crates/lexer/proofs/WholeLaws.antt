@@ -50,7 +50,7 @@ counted doc start n by count =
     let same : n ≡ length (tokensBefore doc) = rw by at count in
     omega (arith, until-count doc)
 
-module _ (doc : List ℕ) (start : ℕ) (out : Passed) (old new : List (List ℕ)) (p : AllPassed doc start out old new) where
+module _ {doc : List ℕ} {start : ℕ} {out : Passed} {old new : List (List ℕ)} (p : AllPassed doc start out old new) where
   pub filled-length : length new ≡ length old
   filled-length = ap length (p .stores) ∙ length-sets old 0 (map recordOf (tokensUntil (length doc) start 1 doc))
 

@@ -49,7 +49,7 @@ mul-t12 c = omega (arith, all (c .before .before .before))
 slice-set-from-records : tie.Need-slice-set-from-records
 slice-set-from-records c =
     let u = c .before .before .before in
-    omega (arith, all u, filled-length (doc u) _ _ (old u) (new u) (passed u))
+    omega (arith, all u, filled-length (passed u))
 
 add-result : tie.Need-add-result
 add-result c = omega (arith, all (c .before .before .before))
@@ -62,7 +62,7 @@ returns c =
     let u = c .before .before .before in
     let eof = c .as-record .ensures ∙ ap recordOf (c .before .token-of .ensures) in
     let room = u .before .before .before .before .pre in
-    (all u, filled (doc u) _ _ (old u) (new u) (passed u) (c .as-record .result) eof room)
+    (all u, filled (passed u) (c .as-record .result) eof room)
 
 pub fill-spec : {M : Type 1} → statement M
 fill-spec =

@@ -1,19 +1,16 @@
 -- `lex_until` is right because the tokens still to come, stored from here on, give the records at the end: a turn stores
 -- the first of them, or would store it beyond the last record, and counts the line on by its LFs.
 -- Assumes nothing.
-use Prim.Native.Nat.{_+_, _-_, _≤_}
+use Prim.Native.Nat.{_-_}
 use mathlib.Core.Path.{_≡_, refl, ap, sym, _∙_}
 use mathlib.Core.Logic.{⊎-elim}
-use mathlib.Core.List.{List, map}
-use native.Mathlib.Numerals.{add-one}
-use lib.ListN.{length, drop, set, length-set}
-use lib.Seq.{sets, set-out}
+use lib.ListN.{length, drop, set}
+use lib.Seq.{set-out}
 use Rattle.token.specs.declared.Token.{Token}
 use Rattle.token.specs.Records.{recordOf}
 use Rattle.lexer.specs.Tokens.{tokenAt, lineAfter}
-use Rattle.lexer.specs.Scans.{tokensUntil, linePast, lineUntil, store}
-use Rattle.lexer.proofs.TokenLaws.{endAt, token-fits-at, token-long-at, line-fits-at}
-use Rattle.lexer.proofs.UntilLaws.{until-step, until-stop, past-step, past-none}
+use Rattle.lexer.proofs.TokenLaws.{endAt, token-fits-at, token-long-at}
+use Rattle.lexer.proofs.UntilLaws.{Underway, turned, arrived}
 use borrow.Author.Needs.{needs}
 use native.Mathlib.Omega.{arith}
 use Rattle.lexer.proofs.lex_until.Statement.{statement}
@@ -21,16 +18,26 @@ use Rattle.lexer.proofs.lex_until.Tie as tie
 
 abbrev Inv-loop : tie.InvT-loop
 Inv-loop doc start first stop records₀ at₀ line₀ n₀ records at line n =
-    (at ≤ length doc) × (n ≤ at) × (line ≤ at + 1) × (length records ≡ length records₀)
-    × (n + length (tokensUntil stop at line doc) ≡ length (tokensUntil stop start first doc))
-    × (lineUntil stop at line doc ≡ lineUntil stop start first doc)
-    × (store stop at line doc n records ≡ store stop start first doc 0 records₀)
+    Underway doc stop start first records₀ at line n records
 
 abbrev μ-loop : tie.MeasureT-loop
 μ-loop doc start first stop records₀ at₀ line₀ n₀ records at line n = length doc - at
 
+-- the token of a turn
+abbrev there : tie.At-loop Inv-loop μ-loop → Token
+there c = tokenAt (c .loop .at) (c .loop .line) (drop (c .loop .at) (c .before .before .args .doc .now))
+
 loop-holds : tie.Need-loop-holds Inv-loop μ-loop
-loop-holds c = (omega arith, omega arith, omega arith, refl, omega arith, refl, refl)
+loop-holds c =
+    record {
+      within = omega arith;
+      few = omega arith;
+      low = omega arith;
+      room = refl;
+      count = omega arith;
+      behind = refl;
+      stores = refl;
+    }
 
 process-token-requires : tie.Need-process-token-requires Inv-loop μ-loop
 process-token-requires c κs = omega arith
@@ -53,55 +60,44 @@ line-after-requires c κs =
     (record { within = omega arith; here = refl; low = omega arith })
 
 loop-less : tie.Need-loop-less Inv-loop μ-loop
-loop-less c = let doc = c .before .before .before .before .before .before .args .doc .now in
+loop-less c =
+    let doc = c .before .before .before .before .before .before .args .doc .now in
     let at = c .before .before .before .before .loop .at in
     let end = ap (λ (t : Token). t .span .end) (c .before .before .process-token .ensures) in
     omega (arith, token-long-at doc at (omega arith), token-fits-at doc at (omega arith))
 
-loop-again : tie.Need-loop-again Inv-loop μ-loop
-loop-again c = let doc = c .before .before .before .before .before .before .args .doc .now in
-    let stop = c .before .before .before .before .before .before .args .stop in
-    let at = c .before .before .before .before .loop .at in
-    let line = c .before .before .before .before .loop .line in
-    let n = c .before .before .before .before .loop .n in
-    let l = c .before .before .before .before .loop .records in
-    let inv = c .before .before .before .before .loop .inv in
-    let here = c .before .before .process-token .ensures in
-    let token = c .before .before .process-token .result in
-    let end : token .span .end ≡ endAt doc at = ap (λ (t : Token). t .span .end) here in
-    let on : c .line-after .result ≡ lineAfter line (drop at doc) =
-    c .line-after .ensures ∙ ap (λ (t : Token). lineAfter (t .line) (drop (t .span .start) doc)) here in
-    let r = recordOf (tokenAt at line (drop at doc)) in
-    let stored : c .before .if1 .records ≡ set l n r =
+-- the record is stored, or would stand beyond the last
+stored : (c : tie.Joined1 Inv-loop μ-loop)
+    → c .if1 .records ≡ set (c .before .before .before .loop .records) (c .before .before .before .loop .n)
+    (recordOf (there (c .before .before .before)))
+stored c =
+    let now = c .before .before .before .loop in
+    let token = there (c .before .before .before) in
+    let here = c .before .process-token .ensures in
     ⊎-elim
-    (λ w. w .2 ∙ ap (set l n) (w .1 .ensures ∙ ap recordOf here))
-    (λ w. w .1 ∙ sym (set-out l n r (w .0 .left)))
-    (c .before .if1 .came) in
-    let turn = until-step doc stop at line (omega arith) (omega arith) in
-    let rest = tokensUntil stop (endAt doc at) (lineAfter line (drop at doc)) doc in
-    rw (end, on, stored, add-one n) (
-      token-fits-at doc at (omega arith),
-      omega (arith, token-long-at doc at (omega arith)),
-      line-fits-at doc at line (inv .2),
-      length-set l n r ∙ inv .3,
-      omega (arith, ap length turn),
-      sym (ap (linePast doc line) turn ∙ past-step doc at line rest) ∙ inv .5,
-      ap (λ (x : List Token). sets l n (map recordOf x)) (sym turn) ∙ inv .6,
-    )
+    (λ w. w .2 ∙ ap (set (now .records) (now .n)) (w .1 .ensures ∙ ap recordOf here))
+    (λ w. w .1 ∙ sym (set-out (now .records) (now .n) (recordOf token) (w .0 .left)))
+    (c .if1 .came)
+
+loop-again : tie.Need-loop-again Inv-loop μ-loop
+loop-again c =
+    let is = c .before .before .before .before .before .before .args in
+    let doc = is .doc .now in
+    let now = c .before .before .before .before .loop in
+    let here = c .before .before .process-token .ensures in
+    let end : c .before .before .process-token .result .span .end ≡ endAt doc (now .at) = ap (λ (t : Token). t .span .end) here in
+    let on : c .line-after .result ≡ lineAfter (now .line) (drop (now .at) doc) =
+    c .line-after .ensures ∙ ap (λ (t : Token). lineAfter (t .line) (drop (t .span .start) doc)) here in
+    let next = turned doc (is .stop) (is .start) (is .first) (is .records .now) (now .inv) (omega arith) (omega arith) in
+    rw (end, on, stored (c .before)) next
 
 same-length : tie.Need-same-length Inv-loop μ-loop
-same-length c = c .before .loop .inv .3
+same-length c = c .before .loop .inv .room
 
 returns : tie.Need-returns Inv-loop μ-loop
-returns c = let at = c .before .loop in
-    let doc = c .before .before .before .args .doc .now in
-    let done = until-stop doc (c .before .before .before .args .stop) (at .at) (at .line) (omega arith) in (
-      omega (arith, ap length done),
-      (
-        sym (ap (linePast doc (at .line)) done ∙ past-none doc (at .line)) ∙ at .inv .5,
-        ap (λ (x : List Token). sets (at .records) (at .n) (map recordOf x)) (sym done) ∙ at .inv .6,
-      ),
-    )
+returns c =
+    let is = c .before .before .before .args in
+    arrived (is .doc .now) (is .stop) (is .start) (is .first) (is .records .now) (c .before .loop .inv) (omega arith)
 
 pub lex-until-spec : {M : Type 1} → statement M
 lex-until-spec =

@@ -166,8 +166,8 @@ returns-14 : tie.Need-returns-14
 unfolding kindBy wschar
 returns-14 c =
     let start = c .before .before .before .before .before .before in
-    let three = sym (c .before .before .is-triple .ensures) ∙ c .before .if1 .left in
-    c .lex-literal-string .ensures ∙ made start LiteralString (rw (c .before .before .before .match .keys13, three))
+    let fewer = sym (c .before .before .is-triple .ensures) ∙ c .before .if1 .left in
+    c .lex-literal-string .ensures ∙ made start LiteralString (rw (c .before .before .before .match .keys13, fewer))
 
 returns-15 : tie.Need-returns-15
 unfolding kindBy wschar
@@ -180,8 +180,8 @@ returns-16 : tie.Need-returns-16
 unfolding kindBy wschar
 returns-16 c =
     let start = c .before .before .before .before .before .before in
-    let three = sym (c .before .before .is-triple2 .ensures) ∙ c .before .if2 .left in
-    c .lex-basic-string .ensures ∙ made start BasicString (rw (c .before .before .before .match .keys14, three))
+    let fewer = sym (c .before .before .is-triple2 .ensures) ∙ c .before .if2 .left in
+    c .lex-basic-string .ensures ∙ made start BasicString (rw (c .before .before .before .match .keys14, fewer))
 
 returns-17 : tie.Need-returns-17
 unfolding kindBy wschar
