@@ -13,10 +13,10 @@ use lib.ListN.{length, getD, drop, drop-of-length-le, length-drop}
 use lib.Seq.{drop-cons, drop-drop, getD-drop}
 use Rattle.classes.specs.Runs.{run}
 use Rattle.classes.proofs.Conds.{cond-case, not-both}
-use Rattle.classes.proofs.RunLaws.{run-le}
+use Rattle.classes.proofs.RunLaws.{run-le, SameEnd}
 use Rattle.lexer.specs.Bytes.{hides, closes, inComment}
 use Rattle.lexer.specs.Extents.{lineTail, triple, upToTwo, mlTail}
-use Rattle.lexer.specs.Scans.{noneOf, escapeOf, SameEnd}
+use Rattle.lexer.specs.Scans.{noneOf, escapeOf}
 
 -- ---- by a byte
 

@@ -28,10 +28,6 @@ noneOf a b c x = not (oneOf a b c x)
 abbrev pub escapeOf : ℕ → ℕ
 escapeOf q = cond (eqb q 34) 92 q
 
--- from i a scan goes on as from `start`: it ends at the same place; `reach` is how far it reaches from the front of a list
-abbrev pub SameEnd : (List ℕ → ℕ) → List ℕ → ℕ → ℕ → Type 0
-SameEnd reach s start i = (i ≤ length s) × (i + reach (drop i s) ≡ start + reach (drop start s))
-
 -- ---- tokens
 
 -- a token is the one at its place of the document, on a line that does not pass that place plus 1

@@ -7,10 +7,10 @@ ghost use lib.Dec.{eqb};
 ghost use lib.ListN.{length, drop, getD};
 ghost use Rattle.classes.specs.Classes.{wschar};
 ghost use Rattle.classes.specs.Runs.{run};
-ghost use Rattle.classes.proofs.RunLaws.{Block};
+ghost use Rattle.classes.proofs.RunLaws.{Block, SameEnd};
 ghost use Rattle.lexer.specs.Bytes.{inAtom};
 ghost use Rattle.lexer.specs.Extents.{lineTail, triple, upToTwo, mlTail};
-ghost use Rattle.lexer.specs.Scans.{oneOf, noneOf, escapeOf, SameEnd};
+ghost use Rattle.lexer.specs.Scans.{oneOf, noneOf, escapeOf};
 
 // Over the spaces and tabs.
 pub(crate) fn wschar_run(doc: &[u8], start: usize) -> usize

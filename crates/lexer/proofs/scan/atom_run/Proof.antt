@@ -5,9 +5,8 @@ use mathlib.Core.Path.{sym, ap, _∙_}
 use mathlib.Core.Bool.{not}
 use lib.ListN.{length}
 use Rattle.classes.specs.Runs.{run}
-use Rattle.classes.proofs.RunLaws.{run-step, run-stop, run-end}
+use Rattle.classes.proofs.RunLaws.{run-step, run-stop, run-end, SameEnd}
 use Rattle.lexer.specs.Bytes.{inAtom}
-use Rattle.lexer.specs.Scans.{SameEnd}
 use borrow.Author.Needs.{needs}
 use native.Mathlib.Omega.{arith}
 use Rattle.lexer.proofs.scan.atom_run.Statement.{statement}

@@ -4,7 +4,8 @@ use Prim.Native.Nat.{_-_}
 use borrow.Author.Tests.{not-false}
 use lib.ListN.{length}
 use Rattle.classes.specs.Runs.{run}
-use Rattle.lexer.specs.Scans.{noneOf, SameEnd}
+use Rattle.classes.proofs.RunLaws.{SameEnd}
+use Rattle.lexer.specs.Scans.{noneOf}
 use native.Mathlib.Omega.{arith}
 use Rattle.lexer.proofs.scan.find_block.Statement.{statement}
 use Rattle.lexer.proofs.scan.find_block.Tie as tie

@@ -7,8 +7,8 @@ use mathlib.Core.Bool.{true, false}
 use mathlib.Core.List.{List}
 use borrow.Author.Tests.{eq-eqb, ne-eqb}
 use lib.ListN.{length, drop}
+use Rattle.classes.proofs.RunLaws.{SameEnd}
 use Rattle.lexer.specs.Extents.{lineTail}
-use Rattle.lexer.specs.Scans.{SameEnd}
 use Rattle.lexer.proofs.TailLaws.{LineFound, line-found, line-end, line-close, line-lf, line-escape, line-hidden}
 use borrow.Author.Needs.{needs}
 use native.Mathlib.Omega.{arith}

@@ -6,8 +6,8 @@ use mathlib.Core.Path.{_≡_, sym, _∙_}
 use mathlib.Core.Bool.{Bool, true, false}
 use mathlib.Core.List.{List}
 use lib.ListN.{length, drop}
+use Rattle.classes.proofs.RunLaws.{SameEnd}
 use Rattle.lexer.specs.Extents.{triple, mlTail}
-use Rattle.lexer.specs.Scans.{SameEnd}
 use Rattle.lexer.proofs.MarkLaws.{triple-fits-at}
 use Rattle.lexer.proofs.TailLaws.{MlFound, ml-found, ml-end, ml-close, ml-mark, ml-escape, ml-hidden}
 use borrow.Author.Needs.{needs}

@@ -6,8 +6,7 @@ use borrow.Author.Tests.{not-true, not-false}
 use lib.ListN.{length}
 use Rattle.classes.specs.Classes.{wschar}
 use Rattle.classes.specs.Runs.{run}
-use Rattle.lexer.specs.Scans.{SameEnd}
-use Rattle.classes.proofs.RunLaws.{run-step, run-stop, run-end}
+use Rattle.classes.proofs.RunLaws.{run-step, run-stop, run-end, SameEnd}
 use borrow.Author.Needs.{needs}
 use native.Mathlib.Omega.{arith}
 use Rattle.lexer.proofs.scan.wschar_run.Statement.{statement}
