@@ -79,10 +79,10 @@ module _ (ed : Edition) where
   put-escape s x r (v, d, n) = (x .v ∷ v, more (escaped-char (escaped (x .char))) d, (x .names, n))
 
   -- code points without error are derived
-  abbrev IfErrorFree : List ℕ → Type 0
-  IfErrorFree cs = All Scalar cs → (at : ℕ) → ErrorFree P false at (encodes cs) → Chars cs
+  abbrev CharsIf : List ℕ → Type 0
+  CharsIf cs = All Scalar cs → (at : ℕ) → ErrorFree P false at (encodes cs) → Chars cs
 
-  module _ (n : ℕ) (ih : (ds : List ℕ) → length ds ≤ n → IfErrorFree ds) (c : ℕ) (cs : List ℕ) (l : length cs ≤ n)
+  module _ (n : ℕ) (ih : (ds : List ℕ) → length ds ≤ n → CharsIf ds) (c : ℕ) (cs : List ℕ) (l : length cs ≤ n)
       (sc : All Scalar (c ∷ cs)) (at : ℕ) (e : ErrorFree P false at (encodes (c ∷ cs))) where
     char-clean : basicUnescaped c ≡ true → Chars (c ∷ cs)
     char-clean h =
@@ -113,8 +113,8 @@ module _ (ed : Edition) where
           ]
     ]
 
-  chars-clean : (cs : List ℕ) → IfErrorFree cs
-  chars-clean cs = by-length IfErrorFree (λ sc at e. ([], stop, tt)) some-clean (length cs) cs (omega arith)
+  chars-clean : (cs : List ℕ) → CharsIf cs
+  chars-clean cs = by-length CharsIf (λ sc at e. ([], stop, tt)) some-clean (length cs) cs (omega arith)
 
   -- ---- the text
 

@@ -36,7 +36,7 @@ use Rattle.grammar.proofs.ClassLaws.{no-true, basic-is, mlb-basic, mlb-
 use Rattle.grammar.proofs.Escapes.{shape, escape-ascii, escape-reads}
 use Rattle.grammar.proofs.Passing.{quotation, Seen, k0, InMl, in-ml, newline-in, basic-in, digit-in, Passed, Through, pass-all, ml-pass, marks-pass, ml-hidden, all-passed, through-rest}
 use Rattle.grammar.proofs.TripleMarks.{fenced, newline-ascii, Fences, ml-bytes, ml-no-error, ml-text, MlToken, ml-lexed}
-use Rattle.grammar.proofs.MlRuns.{end, mark0, mark1, content, FlatOf, put, Passes, flat-through, IfErrorFree, UpTo, mark-clean, left-clean, left-small, content-clean}
+use Rattle.grammar.proofs.MlRuns.{end, mark0, mark1, content, FlatOf, put, Passes, flat-through, RunIf, UpTo, mark-clean, left-clean, left-small, content-clean}
 use Rattle.grammar.proofs.MlBasicPieces.{P, char-plain, mark-plain, char-reads, newline-reads, visible-out, escape-piece, line-reads, skip-some, skip-reads, out-reads, char-out, Ended, Content, is-plain, is-crlf, is-escape, is-ended, content-inv, Skipped, is-out, is-one, is-two, skip-inv}
 use Rattle.grammar.proofs.MlBasicRuns.{Kept, kept, Run, body-run, MeantBody, meant, run-body}
 
@@ -455,9 +455,9 @@ module _ (ed : Edition) where
             pick-clean (content-inv ed at c (encodes cs) (first-clean (P ed) false at c (encodes cs) z))
       ]
 
-    chars-clean : (cs : List ℕ) → IfErrorFree (P ed) 0x22 (Kept ed true) rest cs
+    chars-clean : (cs : List ℕ) → RunIf (P ed) 0x22 (Kept ed true) rest cs
     chars-clean cs =
-        by-length (IfErrorFree (P ed) 0x22 (Kept ed true) rest) (λ sc k at e x. ([], end)) some-clean (length cs) cs (omega arith)
+        by-length (RunIf (P ed) 0x22 (Kept ed true) rest) (λ sc k at e x. ([], end)) some-clean (length cs) cs (omega arith)
 
   -- ---- the text
 

@@ -30,7 +30,7 @@ use Rattle.grammar.proofs.Reading.{IfClean, CopiesRuns, ErrorFree, Read
 use Rattle.grammar.proofs.ClassLaws.{literal-at, literal-is, literal-high, mll-literal, mll-same}
 use Rattle.grammar.proofs.Passing.{apostrophes, Seen, k0, literal-in, newline-in, Through, all-passed}
 use Rattle.grammar.proofs.TripleMarks.{newline-ascii, Fences, ml-bytes, ml-no-error, ml-text, MlToken, ml-lexed}
-use Rattle.grammar.proofs.MlRuns.{Flat, end, mark0, mark1, content, FlatOf, Passes, flat-through, Bodies, flat-body, IfErrorFree, UpTo, mark-clean, content-clean}
+use Rattle.grammar.proofs.MlRuns.{Flat, end, mark0, mark1, content, FlatOf, Passes, flat-through, Bodies, flat-body, RunIf, UpTo, mark-clean, content-clean}
 
 abbrev P : Pieces
 P = pieceOf MlLiteralText
@@ -208,9 +208,9 @@ module _ (rest : List ℕ) where
     some-clean : FlatOf 0x27 Copied k (c ∷ cs)
     some-clean = elim (side c) [ ascii h ↦ ascii-clean h | beyond h ↦ plain-clean (plain-high c h) ]
 
-  chars-clean : (cs : List ℕ) → IfErrorFree P 0x27 Copied rest cs
+  chars-clean : (cs : List ℕ) → RunIf P 0x27 Copied rest cs
   chars-clean cs =
-      by-length (IfErrorFree P 0x27 Copied rest) (λ sc k at e x. ([], end)) some-clean (length cs) cs (omega arith)
+      by-length (RunIf P 0x27 Copied rest) (λ sc k at e x. ([], end)) some-clean (length cs) cs (omega arith)
 
 -- ---- the text
 

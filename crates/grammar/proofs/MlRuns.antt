@@ -94,16 +94,16 @@ module _ (q : ℕ) (C : Contents) (Body Cont : List ℕ → List ℕ → Type 0)
 
 module _ (P : Pieces) (q : ℕ) (C : Contents) (rest : List ℕ) where
   -- a text that is read without error, in one token, is a run
-  abbrev pub IfErrorFree : List ℕ → Type 0
-  IfErrorFree m =
+  abbrev pub RunIf : List ℕ → Type 0
+  RunIf m =
       All Scalar m → (k : Seen) (at : ℕ) → ErrorFree P false at (encodes m) → Through q rest k m → FlatOf q C k m
 
   -- one of at most n code points
   abbrev pub UpTo : ℕ → Type 0
-  UpTo n = (m : List ℕ) → length m ≤ n → IfErrorFree m
+  UpTo n = (m : List ℕ) → length m ≤ n → RunIf m
 
   -- a mark in front
-  pub mark-clean : Mark q → (cs : List ℕ) → IfErrorFree cs → All Scalar cs → (k : Seen) (at : ℕ)
+  pub mark-clean : Mark q → (cs : List ℕ) → RunIf cs → All Scalar cs → (k : Seen) (at : ℕ)
       → ErrorFree P false at (encodes cs) → Through q rest k (q ∷ cs) → FlatOf q C k (q ∷ cs)
   mark-clean m cs is sc k0 at e x = let f = is sc k1 at e (through-one m rest cs .0 x) in (q ∷ f .0, mark0 (f .1))
   mark-clean m cs is sc k1 at e x = let f = is sc k2 at e (through-two m rest cs .0 x) in (q ∷ f .0, mark1 (f .1))

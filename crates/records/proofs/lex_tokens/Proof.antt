@@ -360,6 +360,7 @@ module _ {M : Type 1} (𝓤 : URA M) (H : Heap 𝓤) (A : Atoms 𝓤) (W : Given
             (advance-said (cur (i .0))) (id⊢ 𝓤 _) (λ r is-s gu.
             -- [what the step owns; the token; what doc owns; the row; the open borrow; obs; auth; _11; …; _10; …; _9; …; _8; …;
             -- _7; …]
+            -- u is the machine value of the step that the contract names, so the relation holds of it, its token and its cursor
             let is-u : u ∷ [] ≡ step-val stepped ∷ [] =
             LL.tells Sp.the-type Sp′.the-laws r (u ∷ []) gu ∙ ap (λ (s : Stepped). step-val s ∷ []) is-s in
             let gu₂ : Is Sp.the-row stepped (u ∷ []) = subst (λ (s : Stepped). Is Sp.the-row s (u ∷ [])) is-s gu in
@@ -396,6 +397,7 @@ module _ {M : Type 1} (𝓤 : URA M) (H : Heap 𝓤) (A : Atoms 𝓤) (W : Given
             (store ! 16 refl (tt, record { fits = next-fits })) $
             forget ! 6 refl $ forget ! 8 refl $ forget ! 10 refl $ forget ! 14 refl $
             move ! (1 ∷ []) $ split ! $ move ! (1 ∷ []) $ drop ! $ move ! (1 ∷ 3 ∷ 4 ∷ 5 ∷ 0 ∷ 2 ∷ []) $
+            -- the next cursor is the one after i + 1 steps
             let gn = subst (λ (c : Cursor). Is Cu.the-row c (cur-val c ∷ [])) (next-cursor (doc .now) (i .0)) gc in
             again ! Nearer At i (i .0 + 1, (add-one-le less, gn)) (add-one-dec n (i .0) less))))
           where
