@@ -18,6 +18,7 @@ use text::LIMIT;
 use text::Refusal;
 use text::Utf8Check;
 use token::KindRead;
+use token::Record;
 use token::Span;
 use token::Token;
 use token::TokenKind;
@@ -104,7 +105,7 @@ fn cursor_of(place: usize, line: usize, ended: bool) -> Cursor
 }
 
 // Whole lexing: every token into the lent records, from the front.
-pub fn lex(doc: &[u8], records: &mut [[usize; 4]]) -> Lexed
+pub fn lex(doc: &[u8], records: &mut [Record]) -> Lexed
     ensures answer { λ r. ⌜ r ≡ lexAnswer (now (doc .entry)) (length (now (records .entry))) ⌝ }
     ensures number { λ r. ⌜ lexedNumber r ≡ lexRefusal (now (doc .entry)) (length (now (records .entry))) ⌝ }
     ensures value { λ r. ⌜ lexedValue r ≡ lexReturned (now (doc .entry)) ⌝ }
@@ -134,7 +135,7 @@ fn count(doc: &[u8]) -> usize
 }
 
 // The tokens into records that are enough: how many.
-fn fill(doc: &[u8], records: &mut [[usize; 4]]) -> usize
+fn fill(doc: &[u8], records: &mut [Record]) -> usize
     requires { ⌜ tokenCount (now doc) ≤ length (now records) ⌝ }
     ensures count { λ r. ⌜ r ≡ tokenCount (now (doc .entry)) ⌝ }
     ensures memory { λ _. ⌜ now (records .exit) ≡ recordsOver (now (doc .entry)) (now (records .entry)) ⌝ }
@@ -178,13 +179,7 @@ struct Passed {
 
 // The tokens that begin at `start` or behind it, and before `stop`: how many, each written where a
 // record is left for it. The only caller of `process_token`, which is compiled into this loop.
-fn lex_until(
-    doc: &[u8],
-    start: usize,
-    first: usize,
-    stop: usize,
-    records: &mut [[usize; 4]],
-) -> Passed
+fn lex_until(doc: &[u8], start: usize, first: usize, stop: usize, records: &mut [Record]) -> Passed
     requires { ⌜ (start ≤ length (now doc)) × (stop ≤ length (now doc)) × (first ≤ start + 1) ⌝ }
     ensures count { λ r. ⌜ r .count ≡ length (tokensUntil stop start first (now (doc .entry))) ⌝ }
     ensures line { λ r. ⌜ r .line ≡ lineUntil stop start first (now (doc .entry)) ⌝ }

@@ -144,6 +144,15 @@ fn kind(n: usize) {
 }
 
 fn main() {
+    lexed_whole();
+    lexed_by_steps();
+    placed();
+    kind(1);
+    kind(3);
+    kind(5);
+}
+
+fn lexed_whole() {
     tokens(b"");
     tokens(b"\xEF\xBB\xBF");
     tokens(b"'''a'''''");
@@ -156,6 +165,9 @@ fn main() {
     tokens(b"a\xFF");
     tokens_in_two(b"a=");
     tokens_in_two(b"a");
+}
+
+fn lexed_by_steps() {
     start(b"\xEF\xBB\xBFa");
     start(b"a");
     step(b"\xEF\xBB\xBFa", 0, 1, false);
@@ -167,6 +179,9 @@ fn main() {
     step(b"a\r", 1, 2, false);
     step(b"a\r\n", 1, 1, false);
     step(b"a\n", 1, 3, false);
+}
+
+fn placed() {
     span(b"\xC3\xA9=1", 0, 2);
     span(b"\xC3\xA9=1", 2, 4);
     span(b"\xC3\xA9=1", 1, 2);
@@ -183,7 +198,4 @@ fn main() {
     position(b"\xFF\x80\x80a", 3);
     position(b"a\nb", 3);
     position(b"a\nb", 4);
-    kind(1);
-    kind(3);
-    kind(5);
 }
