@@ -51,6 +51,31 @@ static void lexing(void)
     EXPECT(answers(toml_check_utf8(BYTES("a\xED\xA0\x80")), 1, 1));
 }
 
+/* A multi-line string of n bytes between its marks, every k-th of them an LF, and Eof behind it: two tokens, and the
+ * line of the second is 1 plus those LFs. */
+static int counts_lines(size_t n, size_t k)
+{
+    uint8_t doc[80];
+    size_t records[8][4], lines = 1;
+    memset(doc, '\'', sizeof doc);
+    for (size_t i = 0; i < n; i++) {
+        doc[3 + i] = i % k == k - 1 ? '\n' : 'x';
+        lines += i % k == k - 1;
+    }
+    return answers(toml_lex(doc, n + 6, records, 8), 0, 2) && is_token(records[0], TOML_ML_LITERAL_STRING, 0, n + 6, 1)
+           && is_token(records[1], TOML_EOF, n + 6, n + 6, lines);
+}
+
+static void lines_of_long_strings(void)
+{
+    FROM("docs/RULES.md, 1 plus the LFs before it: through blocks of sixteen bytes, and the rest behind them");
+    for (size_t n = 0; n <= 70; n++) {
+        for (size_t k = 1; k <= 18; k++) {
+            EXPECT(counts_lines(n, k));
+        }
+    }
+}
+
 static int steps(toml_stepped s, toml_token token, toml_cursor next)
 {
     return answers(s.answer, 0, 0) && s.given == 1 && memcmp(&s.token, &token, sizeof token) == 0
@@ -384,6 +409,7 @@ static void long_documents(void)
 int main(void)
 {
     lexing();
+    lines_of_long_strings();
     stepping();
     decoding();
     decoding_refused();

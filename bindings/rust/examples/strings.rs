@@ -10,12 +10,17 @@ fn main() -> Result<(), Box<dyn std::error::Error>> {
         let Some(decoded) = token.decode(&doc) else {
             continue;
         };
-        let place = position(&doc, token.span().start())?;
+        let start = token.span().start();
         match decoded?.value() {
-            Ok(bytes) => println!("{}:{}: {:?}", place.line, place.column, String::from_utf8_lossy(&bytes)),
+            Ok(bytes) => {
+                let at = position(&doc, start)?;
+                println!("{}:{}: {:?}", at.line, at.column, String::from_utf8_lossy(&bytes));
+            }
             Err(errors) => {
+                // An error counts its places from the start of the token's text.
                 for error in errors {
-                    println!("{}:{}: {error}, expected {:?}", place.line, place.column, error.expected());
+                    let at = position(&doc, start + error.unexpected().start())?;
+                    println!("{}:{}: {}, expected {:?}", at.line, at.column, error.description(), error.expected());
                 }
             }
         }

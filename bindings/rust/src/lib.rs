@@ -130,13 +130,14 @@ pub fn lex_into(doc: &[u8], records: &mut [[usize; 4]]) -> Result<usize, Refusal
     Refusal::read(ffi::lex(doc, records))
 }
 
-/// The tokens of a document one after the other, each lexed when it is asked for.
+/// The tokens of a document one after the other, each lexed when it is asked for. A refusal is given once and ends them.
 #[derive(Copy, Clone, Debug)]
 pub struct Lexer<'i> {
     doc: &'i [u8],
     place: usize,
     ended: bool,
     line: usize,
+    refused: bool,
 }
 
 impl<'i> Lexer<'i> {
@@ -144,13 +145,13 @@ impl<'i> Lexer<'i> {
     pub fn new(doc: &'i [u8]) -> Result<Self, Refusal> {
         let start = ffi::start(doc);
         Refusal::read(start.answer)?;
-        Ok(Self { doc, place: start.cursor.place, ended: start.cursor.ended != 0, line: start.cursor.line })
+        Ok(Self::at(doc, start.cursor.place, start.cursor.ended != 0, start.cursor.line))
     }
 
     /// At any place of a document, on any line; lines are counted on from it. A place beyond the document, and a line past the
     /// place plus 1, are refused when a token is asked for.
     pub fn at(doc: &'i [u8], place: usize, ended: bool, line: usize) -> Self {
-        Self { doc, place, ended, line }
+        Self { doc, place, ended, line, refused: false }
     }
 
     /// Where the next token begins.
@@ -163,8 +164,13 @@ impl Iterator for Lexer<'_> {
     type Item = Result<Token, Refusal>;
 
     fn next(&mut self) -> Option<Self::Item> {
+        // The cursor would be refused again and again, and a caller that collects would never end.
+        if self.refused {
+            return None;
+        }
         let step = ffi::step(self.doc, self.place, self.ended, self.line);
         if let Err(refusal) = Refusal::read(step.answer) {
+            self.refused = true;
             return Some(Err(refusal));
         }
         if step.given == 0 {
@@ -176,6 +182,8 @@ impl Iterator for Lexer<'_> {
         Some(Token::from_record([step.token.kind, step.token.start, step.token.end, step.token.line]))
     }
 }
+
+impl core::iter::FusedIterator for Lexer<'_> {}
 
 /// Whether a span lies within a document, with neither end inside a character.
 pub fn check_span(doc: &[u8], span: Span) -> Result<(), Refusal> {

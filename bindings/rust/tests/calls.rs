@@ -30,6 +30,8 @@ fn a_cursor_made_by_hand_answers() {
     let mut lexer = Lexer::at(b"a", 2, false, 1);
     assert_eq!(lexer.next(), Some(Err(Refusal::OutOfPlace { length: 1 })));
     assert_eq!(Lexer::at(b"a", 1, true, 1).next(), None);
+    // a refusal ends the tokens
+    assert_eq!(Lexer::at(b"a", 2, false, 1).count(), 1);
 }
 
 #[test]
