@@ -1,7 +1,7 @@
 -- What the result of each call, and a line's fault, come to as an answer: a form and the numbers that fill it.
 -- Assumes nothing.
 use Prim.Native.Nat.{ℕ}
-use mathlib.Core.Bool.{Bool, true, false, cond}
+use mathlib.Core.Bool.{cond}
 use mathlib.Core.List.{[], _∷_, _++_}
 use lib.Dec.{eqb}
 use lib.ListN.{take}
@@ -13,6 +13,7 @@ use Rattle.token.specs.declared.Token.{Token}
 use Rattle.token.specs.declared.Answer.{Answer as Described}
 use Rattle.token.specs.declared.Answer.the-variants.{Given, Refused as Undescribed}
 use Rattle.token.specs.Records.{recordOf}
+use Rattle.lexer.specs.Steps.{bitOf}
 use Rattle.lexer.specs.declared.Cursor.{Cursor}
 use Rattle.lexer.specs.declared.Lexed.{Lexed}
 use Rattle.lexer.specs.declared.Lexed.the-variants.{Tokens, Refused as Unlexed}
@@ -52,11 +53,6 @@ refusedAs f r = filledBy f (refusalNumber r) (refusalValue r)
 abbrev pub refusedWhole : Refusal → Answer
 refusedWhole r =
     cond (eqb (refusalNumber r) 1) (threeBy form.Broken 1 (refusalValue r) (refusalLength r)) (refusedAs form.Refused r)
-
--- 1 for yes
-abbrev pub bitOf : Bool → ℕ
-bitOf true = 1
-bitOf false = 0
 
 -- lex: the tokens; lexline: the tokens with their lines; lexcap: 0 and their count
 abbrev pub tokensAs : Lexed → Answer

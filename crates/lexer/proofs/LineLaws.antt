@@ -43,39 +43,39 @@ behind-front line b s = go (eqb b 10)
     go true = omega arith
     go false = refl
 
-pub lines-none : lineFeeds [] ≡ 0
+pub feeds-none : lineFeeds [] ≡ 0
 unfolding lineFeeds
-lines-none = refl
+feeds-none = refl
 
-pub lines-le : (s : List ℕ) → lineFeeds s ≤ length s
-lines-le [] = omega (arith, lines-none)
-lines-le (b ∷ s) =
-    let r = lines-le s in
+pub feeds-le : (s : List ℕ) → lineFeeds s ≤ length s
+feeds-le [] = omega (arith, feeds-none)
+feeds-le (b ∷ s) =
+    let r = feeds-le s in
     let e = behind-front 0 b s in
     cond-case (λ (n : ℕ). n + lineFeeds s ≡ 0 + lineFeeds (b ∷ s) → lineFeeds (b ∷ s) ≤ suc (length s)) (eqb b 10)
     (λ _ k. omega arith) (λ _ k. omega arith) e
 
 -- a part and the rest
-pub lines-split : (n : ℕ) (s : List ℕ) → lineFeeds (take n s) + lineFeeds (drop n s) ≡ lineFeeds s
-lines-split zero s = omega (arith, lines-none)
-lines-split (suc n) [] = omega (arith, lines-none)
-lines-split (suc n) (b ∷ s) = omega (arith, lines-split n s, behind-front 0 b s, behind-front 0 b (take n s))
+pub feeds-split : (n : ℕ) (s : List ℕ) → lineFeeds (take n s) + lineFeeds (drop n s) ≡ lineFeeds s
+feeds-split zero s = omega (arith, feeds-none)
+feeds-split (suc n) [] = omega (arith, feeds-none)
+feeds-split (suc n) (b ∷ s) = omega (arith, feeds-split n s, behind-front 0 b s, behind-front 0 b (take n s))
 
-pub lines-taken : (n : ℕ) (s : List ℕ) → lineFeeds (take n s) ≤ n
-lines-taken n s = omega (arith, lines-le (take n s), length-take n s)
+pub feeds-taken : (n : ℕ) (s : List ℕ) → lineFeeds (take n s) ≤ n
+feeds-taken n s = omega (arith, feeds-le (take n s), length-take n s)
 
 -- from one place by two names
-pub lines-from : (doc : List ℕ) (i j : ℕ) → i ≡ j → lineFeeds (drop i doc) ≡ lineFeeds (drop j doc)
-lines-from doc i j e = ap (λ (k : ℕ). lineFeeds (drop k doc)) e
+pub feeds-from : (doc : List ℕ) (i j : ℕ) → i ≡ j → lineFeeds (drop i doc) ≡ lineFeeds (drop j doc)
+feeds-from doc i j e = ap (λ (k : ℕ). lineFeeds (drop k doc)) e
 
 -- from a place on: n bytes and the rest, or up to another place and the rest
-pub lines-on : (doc : List ℕ) (i n : ℕ)
+pub feeds-on : (doc : List ℕ) (i n : ℕ)
     → lineFeeds (take n (drop i doc)) + lineFeeds (drop (i + n) doc) ≡ lineFeeds (drop i doc)
-lines-on doc i n = omega (arith, lines-split n (drop i doc), ap lineFeeds (drop-drop n i doc))
+feeds-on doc i n = omega (arith, feeds-split n (drop i doc), ap lineFeeds (drop-drop n i doc))
 
-pub lines-between : (doc : List ℕ) (i j : ℕ) → i ≤ j
+pub feeds-between : (doc : List ℕ) (i j : ℕ) → i ≤ j
     → lineFeeds (take (j - i) (drop i doc)) + lineFeeds (drop j doc) ≡ lineFeeds (drop i doc)
-lines-between doc i j h = omega (arith, lines-on doc i (j - i), lines-from doc (i + (j - i)) j (omega arith))
+feeds-between doc i j h = omega (arith, feeds-on doc i (j - i), feeds-from doc (i + (j - i)) j (omega arith))
 
 -- ---- at a place
 
@@ -83,30 +83,30 @@ module _ (s : List ℕ) (i : ℕ) (h : i < length s) where
   split : drop i s ≡ getD s i 0 ∷ drop (i + 1) s
   split = rw (add-one, drop-cons s i 0)
 
-  pub line-at-lf : getD s i 0 ≡ 10 → lineFeeds (drop i s) ≡ suc (lineFeeds (drop (i + 1) s))
-  line-at-lf e = rw split (lf-front (getD s i 0) (drop (i + 1) s) e)
+  pub feeds-at-lf : getD s i 0 ≡ 10 → lineFeeds (drop i s) ≡ suc (lineFeeds (drop (i + 1) s))
+  feeds-at-lf e = rw split (lf-front (getD s i 0) (drop (i + 1) s) e)
 
-  pub line-at-other : (getD s i 0 ≡ 10 → ⊥) → lineFeeds (drop i s) ≡ lineFeeds (drop (i + 1) s)
-  line-at-other e = rw split (other-front (getD s i 0) (drop (i + 1) s) e)
+  pub feeds-at-other : (getD s i 0 ≡ 10 → ⊥) → lineFeeds (drop i s) ≡ lineFeeds (drop (i + 1) s)
+  feeds-at-other e = rw split (other-front (getD s i 0) (drop (i + 1) s) e)
 
   -- where `if byte == LF { n += 1; }` makes m of n, the LFs counted and those still to come stay the same
-  pub line-counted : (n m : ℕ) {A B : Type 0} → (A → getD s i 0 ≡ 10) → (B → getD s i 0 ≡ 10 → ⊥)
+  pub feeds-counted : (n m : ℕ) {A B : Type 0} → (A → getD s i 0 ≡ 10) → (B → getD s i 0 ≡ 10 → ⊥)
       → (A × (m ≡ n + 1)) ⊎ (B × (m ≡ n))
       → (m ≤ n + 1) × (m + lineFeeds (drop (i + 1) s) ≡ n + lineFeeds (drop i s))
-  line-counted n m f g (inl w) = let e = w .1 in (omega arith, omega (arith, line-at-lf (f (w .0))))
-  line-counted n m f g (inr w) = let e = w .1 in (omega arith, omega (arith, line-at-other (g (w .0))))
+  feeds-counted n m f g (inl w) = let e = w .1 in (omega arith, omega (arith, feeds-at-lf (f (w .0))))
+  feeds-counted n m f g (inr w) = let e = w .1 in (omega arith, omega (arith, feeds-at-other (g (w .0))))
 
-pub lines-end : (s : List ℕ) (i : ℕ) → length s ≤ i → lineFeeds (drop i s) ≡ 0
-lines-end s i h = rw (drop-of-length-le s h) lines-none
+pub feeds-end : (s : List ℕ) (i : ℕ) → length s ≤ i → lineFeeds (drop i s) ≡ 0
+feeds-end s i h = rw (drop-of-length-le s h) feeds-none
 
 -- ---- a byte order mark holds no LF
 
 -- passing a byte that is no LF, or that is not there, passes no line end
-line-past : (s : List ℕ) (i : ℕ) → (getD s i 0 ≡ 10 → ⊥) → lineFeeds (drop i s) ≡ lineFeeds (drop (i + 1) s)
-line-past s i e =
+feeds-past : (s : List ℕ) (i : ℕ) → (getD s i 0 ≡ 10 → ⊥) → lineFeeds (drop i s) ≡ lineFeeds (drop (i + 1) s)
+feeds-past s i e =
     elim (decLt i (length s)) [
-      | yes l ↦ line-at-other s i l e
-      | no l ↦ lines-end s i (omega arith) ∙ sym (lines-end s (i + 1) (omega arith))
+      | yes l ↦ feeds-at-other s i l e
+      | no l ↦ feeds-end s i (omega arith) ∙ sym (feeds-end s (i + 1) (omega arith))
     ]
 
 -- a byte that is there and no LF is none in a part from the front either
@@ -126,40 +126,40 @@ mark-bytes s t =
       eqb-true _ _ (both-right second third behind),
     )
 
-pub mark-no-line : (s : List ℕ) (n : ℕ) → lineFeeds (drop (startOf s) (take n s)) ≡ lineFeeds (take n s)
+pub mark-no-lf : (s : List ℕ) (n : ℕ) → lineFeeds (drop (startOf s) (take n s)) ≡ lineFeeds (take n s)
 unfolding startOf
-mark-no-line s n =
+mark-no-lf s n =
     cond-case (λ (k : ℕ). lineFeeds (drop k (take n s)) ≡ lineFeeds (take n s)) (hasBom s)
     (λ t.
     let m = mark-bytes s t in
     let past : (i b : ℕ) → getD s i 0 ≡ b → 10 < b → lineFeeds (drop i (take n s)) ≡ lineFeeds (drop (i + 1) (take n s)) =
-    λ i b e h. line-past (take n s) i (no-lf-in s n i b e h) in
+    λ i b e h. feeds-past (take n s) i (no-lf-in s n i b e h) in
     sym (past 0 _ (m .0) (omega arith) ∙ past 1 _ (m .1) (omega arith) ∙ past 2 _ (m .2) (omega arith)))
     (λ t. refl)
 
-pub start-no-line : (s : List ℕ) → lineFeeds (drop (startOf s) s) ≡ lineFeeds s
-start-no-line s = rw (take-length s) at (mark-no-line s (length s))
+pub start-no-lf : (s : List ℕ) → lineFeeds (drop (startOf s) s) ≡ lineFeeds s
+start-no-lf s = rw (take-length s) at (mark-no-lf s (length s))
 
 -- ---- in a token
 
 run-no-lf : (p : ℕ → Bool) (s : List ℕ) → p 10 ≡ false → lineFeeds (take (run p s) s) ≡ 0
 unfolding run
-run-no-lf p [] h = lines-none
+run-no-lf p [] h = feeds-none
 run-no-lf p (b ∷ s) h =
     let r = run-no-lf p s h in
     cond-case (λ (n : ℕ). lineFeeds (take n (b ∷ s)) ≡ 0) (p b)
-    (λ t. other-front b (take (run p s) s) (λ e. not-both t (ap p e ∙ h)) ∙ r) (λ t. lines-none)
+    (λ t. other-front b (take (run p s) s) (λ e. not-both t (ap p e ∙ h)) ∙ r) (λ t. feeds-none)
 
 line-no-lf : (q : ℕ) (h : Bool) (s : List ℕ) → (q ≡ 10 → ⊥) → lineFeeds (take (lineTail q h s) s) ≡ 0
 unfolding lineTail
-line-no-lf q h [] k = lines-none
+line-no-lf q h [] k = feeds-none
 line-no-lf q h (b ∷ s) k =
     let P : ℕ → Type 0 = λ n. lineFeeds (take n (b ∷ s)) ≡ 0 in
     let r = line-no-lf q (hides q h b) s k in
     let rest = take (lineTail q (hides q h b) s) s in
     let mark : closes q h b ≡ true → b ≡ q = λ t. eqb-true b q (both-right (not h) (eqb b q) t) in
-    cond-case P (closes q h b) (λ t. other-front b [] (λ e. k (sym (mark t) ∙ e)) ∙ lines-none)
-    λ _. cond-case P (eqb b 10) (λ t. lines-none) (λ t. other-front b rest (eqb-false b 10 t) ∙ r)
+    cond-case P (closes q h b) (λ t. other-front b [] (λ e. k (sym (mark t) ∙ e)) ∙ feeds-none)
+    λ _. cond-case P (eqb b 10) (λ t. feeds-none) (λ t. other-front b rest (eqb-false b 10 t) ∙ r)
 
 -- a kind that is no newline and not on several lines
 abbrev OneLine : TokenKind → Type 0 → Type 0
@@ -174,14 +174,14 @@ NoLf s n = lineFeeds (take n s) ≡ 0
 
 pub token-no-lf : (s : List ℕ) → OneLine (kindOf s) (NoLf s (tokenLen s))
 unfolding tokenLen kindOf extent wschar tokenStart
-token-no-lf [] = λ _ _ _. lines-none
+token-no-lf [] = λ _ _ _. feeds-none
 token-no-lf (b ∷ s) = λ n l m. go (eqb b 10) refl n l m
   where
     go : (t : Bool) → eqb b 10 ≡ t → OneLine (kindOf (b ∷ s)) (NoLf (b ∷ s) (tokenLen (b ∷ s)))
     go true t = λ n _ _. absurd (n (lf-newline b s (eqb-true b 10 t)))
     go false t =
         let rest : (k : ℕ) → NoLf s k → NoLf (b ∷ s) (suc k) = λ k e. other-front b (take k s) (eqb-false b 10 t) ∙ e in
-        let one : NoLf (b ∷ s) 1 = rest 0 lines-none in
+        let one : NoLf (b ∷ s) 1 = rest 0 feeds-none in
         let runs : (p : ℕ → Bool) → p 10 ≡ false → NoLf (b ∷ s) (suc (run p s)) =
         λ p e. rest (run p s) (run-no-lf p s e) in
         let string : (q : ℕ) → (q ≡ 10 → ⊥) → NoLf (b ∷ s) (suc (lineTail q false s)) =

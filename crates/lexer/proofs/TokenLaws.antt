@@ -21,7 +21,7 @@ use Rattle.lexer.specs.Table.{kindOf, extent, tokenLen}
 use Rattle.lexer.specs.Tokens.{tokenAt, eofAt, lineAfter, walk, tokensFrom, hasBom, startOf, tokensOf}
 use Rattle.lexer.proofs.MarkLaws.{triple-fits}
 use Rattle.lexer.proofs.KindLaws.{by-kind}
-use Rattle.lexer.proofs.LineLaws.{lines-none, behind-front, lines-taken, mark-bytes}
+use Rattle.lexer.proofs.LineLaws.{feeds-none, behind-front, feeds-taken, mark-bytes}
 
 -- ---- each extent stays within the bytes
 
@@ -94,7 +94,7 @@ same-walk {a} {b} {l} {m} s p q = ap (λ (n : ℕ). walk n l 0 s) p ∙ ap (λ (
 walk-skip : (k at line : ℕ) (s : List ℕ) → k ≤ length s
     → walk at line k s ≡ walk (at + k) (line + lineFeeds (take k s)) 0 (drop k s)
 unfolding walk
-walk-skip zero at line s h = same-walk s (omega arith) (omega (arith, lines-none))
+walk-skip zero at line s h = same-walk s (omega arith) (omega (arith, feeds-none))
 walk-skip (suc k) at line [] h = absurd (omega arith)
 walk-skip (suc k) at line (b ∷ s) h =
     walk-skip k (at + 1) (lineBehind line b) s (omega arith) ∙ same-walk (drop k s) (omega arith) (behind-front line b (take k s))
@@ -141,7 +141,7 @@ module _ (doc : List ℕ) (at : ℕ) where
 
   -- a line that does not pass its place plus 1 does not behind the token either
   pub line-fits-at : (line : ℕ) → line ≤ at + 1 → lineAfter line (drop at doc) ≤ at + tokenLen (drop at doc) + 1
-  line-fits-at line h = omega (arith, lines-taken (tokenLen (drop at doc)) (drop at doc))
+  line-fits-at line h = omega (arith, feeds-taken (tokenLen (drop at doc)) (drop at doc))
 
 pub start-fits : (doc : List ℕ) → startOf doc ≤ length doc
 unfolding startOf

@@ -16,7 +16,7 @@ use Rattle.lexer.specs.Table.{tokenLen}
 use Rattle.lexer.specs.Tokens.{tokenAt, eofAt, lineAfter, walk, tokensFrom, startOf, tokensOf}
 use Rattle.lexer.specs.Scans.{before, tokensUntil, linePast, lineUntil, store}
 use Rattle.lexer.proofs.TokenLaws.{endAt, tokens-step, tokens-end, token-fits-at, token-long-at, line-fits-at, start-fits}
-use Rattle.lexer.proofs.LineLaws.{lines-none, lines-end, lines-split, behind-front}
+use Rattle.lexer.proofs.LineLaws.{feeds-none, feeds-end, feeds-split, behind-front}
 
 module _ (doc : List ℕ) (stop at line : ℕ) where
   pub until-step : at < stop → stop ≤ length doc
@@ -55,7 +55,7 @@ walk-until : (at line k : ℕ) (s : List ℕ) → All (at + length s) (line + li
 unfolding walk before
 walk-until at line k [] =
     let same : at + 0 ≡ at = omega arith in
-    let on : line + lineFeeds [] ≡ line = omega (arith, lines-none) in
+    let on : line + lineFeeds [] ≡ line = omega (arith, feeds-none) in
     rw (same, on, le-ltb at at (omega arith))
 walk-until at line zero (b ∷ s) =
     let k = pred (tokenLen (b ∷ s)) in
@@ -106,7 +106,7 @@ PastAll doc at line = lineUntil (length doc) at line doc ≡ line + lineFeeds (d
 
 past-end : (doc : List ℕ) (at line : ℕ) → length doc ≤ at → PastAll doc at line
 past-end doc at line l =
-    rw (until-stop doc (length doc) at line l) (past-none doc line ∙ omega (arith, lines-end doc at l))
+    rw (until-stop doc (length doc) at line l) (past-none doc line ∙ omega (arith, feeds-end doc at l))
 
 past-from : (n : ℕ) (doc : List ℕ) (at line : ℕ) → at ≤ length doc → length doc ≤ at + n → PastAll doc at line
 past-from zero doc at line h l = past-end doc at line (omega arith)
@@ -118,7 +118,7 @@ past-from (suc n) doc at line h l =
           rw (until-step doc (length doc) at line w (omega arith))
           (past-step doc at line (tokensUntil (length doc) (at + k) (lineAfter line (drop at doc)) doc)
           ∙ past-from n doc (at + k) (lineAfter line (drop at doc)) (token-fits-at doc at h) (omega arith)
-          ∙ omega (arith, lines-split k (drop at doc), ap lineFeeds (drop-drop k at doc)))
+          ∙ omega (arith, feeds-split k (drop at doc), ap lineFeeds (drop-drop k at doc)))
       | no w ↦ past-end doc at line (omega arith)
     ]
 

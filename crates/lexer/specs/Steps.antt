@@ -18,6 +18,11 @@ use Rattle.lexer.specs.declared.Step.the-variants.{Token as Given, End, 
 abbrev pub cursorOf : ℕ → ℕ → Bool → Cursor
 cursorOf place line ended = record { place = place; line = line; ended = ended }
 
+-- whether it is ended, as a number: 1 for yes
+abbrev pub bitOf : Bool → ℕ
+bitOf true = 1
+bitOf false = 0
+
 -- the start: refusal 2; else past a byte order mark, on line 1, not ended
 unfoldable pub startAnswer : List ℕ → Start
 startAnswer doc = cond (ltb limit (length doc)) (Unstarted TooLong) (At (cursorOf (startOf doc) 1 false))

@@ -28,7 +28,7 @@ use Rattle.lexer.specs.declared.Cursor.{Cursor}
 use Rattle.lexer.specs.declared.Step.{Step}
 use Rattle.lexer.specs.declared.Step.the-variants.{Token as Given, End, Refused}
 use Rattle.classes.proofs.Conds.{cond-case, of-choice}
-use Rattle.lexer.proofs.LineLaws.{lines-none, lines-split, mark-bytes, start-no-line, lines-taken}
+use Rattle.lexer.proofs.LineLaws.{feeds-none, feeds-split, mark-bytes, start-no-lf, feeds-taken}
 use Rattle.lexer.proofs.TokenLaws.{token-fits, token-long, token-fits-at, line-fits-at, tokens-cons, tokens-step, tokens-end, start-fits}
 use Rattle.place.specs.Positions.{positionAnswer}
 use Rattle.lexing.specs.Lexing.{cursorBehind, stepsFrom, Gives, StepsWhole, TokenLine, OnLines, RecordLines, movedCursor, movedStep, StepsMoved, Follow, NoGap, NotEmpty, Uncut, Local}
@@ -134,7 +134,7 @@ stands-later at line n s t h u w =
     let e : drop (w .place) (drop n s) ≡ drop (n + w .place) s = drop-drop (w .place) n s in
     let same : at + n + w .place ≡ at + (n + w .place) = omega arith in
     let on : line + lineFeeds (take n s) + lineFeeds (take (w .place) (drop n s)) ≡ line + lineFeeds (take (n + w .place) s) =
-    omega (arith, lines-split n s, lines-split (w .place) (drop n s), lines-split (n + w .place) s, ap lineFeeds e) in
+    omega (arith, feeds-split n s, feeds-split (w .place) (drop n s), feeds-split (n + w .place) s, ap lineFeeds e) in
     record {
       place = n + w .place;
       within = omega (arith, w .within, length-drop n s);
@@ -147,7 +147,7 @@ stands-here at line s t e =
     record {
       place = 0;
       within = omega arith;
-      is = e ∙ same-token-at (omega arith) (omega (arith, lines-none)) refl;
+      is = e ∙ same-token-at (omega arith) (omega (arith, feeds-none)) refl;
       whole = λ u. u;
     }
 
@@ -210,7 +210,7 @@ line-by : (doc : List ℕ) (n place : ℕ) → place ≡ startOf doc + n
 line-by doc n place e =
     let s = drop (startOf doc) doc in
     let rest : drop n s ≡ drop place doc = drop-drop n (startOf doc) doc ∙ ap (λ (k : ℕ). drop k doc) (sym e) in
-    omega (arith, lines-split n s, lines-split place doc, start-no-line doc, ap lineFeeds rest)
+    omega (arith, feeds-split n s, feeds-split place doc, start-no-lf doc, ap lineFeeds rest)
 
 -- a token has its kind, its end and its line by the rules at its start
 pub record ByRule (doc : List ℕ) (t : Token) : Type 0 where
@@ -281,7 +281,7 @@ still-moved doc c d h =
     cond-case P (ltb limit (length doc)) (λ _. h)
     λ _. cond-case P (astray doc c) (λ _. h)
     λ _. cond-case P (eqb (c .place) (length doc)) (λ _. cond-case P (c .ended) (λ _. h) (λ _. h))
-    (λ _. omega (arith, lines-taken (tokenLen s) s))
+    (λ _. omega (arith, feeds-taken (tokenLen s) s))
 
 pub steps-moved : StepsMoved
 unfolding stepsFrom

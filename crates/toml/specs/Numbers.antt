@@ -2,7 +2,7 @@
 -- refusal 1 the length of the faulty sequence; and the call's own results, zero where refused.
 -- Assumes nothing.
 use Prim.Native.Nat.{ℕ, _-_}
-use mathlib.Core.Bool.{Bool, true, false, not}
+use mathlib.Core.Bool.{Bool, false, not}
 use mathlib.Core.List.{List}
 use lib.Dec.{eqb}
 use lib.ListN.{length, take, drop}
@@ -15,7 +15,7 @@ use Rattle.token.specs.declared.Answer.{Answer}
 use Rattle.token.specs.declared.Answer.the-variants.{Given as Told, Refused as Untold}
 use Rattle.token.specs.declared.Description.{Description}
 use Rattle.token.specs.declared.Encoding.{Encoding}
-use Rattle.lexer.specs.Steps.{cursorOf}
+use Rattle.lexer.specs.Steps.{cursorOf, bitOf}
 use Rattle.lexer.specs.declared.Cursor.{Cursor}
 use Rattle.lexer.specs.declared.Start.{Start}
 use Rattle.lexer.specs.declared.Start.the-variants.{At, Refused as Unstarted}
@@ -41,11 +41,7 @@ use Rattle.toml.specs.declared.DecodedText.{DecodedText}
 use Rattle.toml.specs.declared.Described.{Described}
 use Rattle.toml.specs.declared.EncodedKind.{EncodedKind}
 
--- a flag is 0 or 1 as an answer, and anything but 0 says yes as an argument
-abbrev pub bitOf : Bool → ℕ
-bitOf true = 1
-bitOf false = 0
-
+-- a flag is 0 or 1 as an answer (`bitOf`), and anything but 0 says yes as an argument
 abbrev pub flag : ℕ → Bool
 flag n = not (eqb n 0)
 

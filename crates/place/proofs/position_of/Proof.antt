@@ -10,7 +10,7 @@ use lib.Seq.{getD-take, length-take-le}
 use Rattle.classes.specs.Classes.{continuation}
 use Rattle.lexer.specs.Lines.{lineFeeds}
 use Rattle.lexer.specs.Tokens.{startOf}
-use Rattle.lexer.proofs.LineLaws.{line-at-lf, line-at-other, lines-end, mark-no-line}
+use Rattle.lexer.proofs.LineLaws.{feeds-at-lf, feeds-at-other, feeds-end, mark-no-lf}
 use Rattle.place.specs.Positions.{columnBehind, positionAnswer}
 use Rattle.place.proofs.PositionLaws.{column-at-lf, column-at-char, column-inside, column-end}
 use Rattle.place.proofs.NumberLaws.{positioned}
@@ -51,7 +51,7 @@ loop-holds c =
     let mark : c .start-of .result ≡ startOf doc = c .start-of .ensures in (
       omega arith,
       omega arith,
-      omega (arith, mark-no-line doc offset, ap (λ (k : ℕ). lineFeeds (drop k before)) mark),
+      omega (arith, mark-no-lf doc offset, ap (λ (k : ℕ). lineFeeds (drop k before)) mark),
       ap (λ (k : ℕ). columnBehind 1 (drop k before)) mark,
     )
 
@@ -86,19 +86,19 @@ loop-again c =
     ⊎-elim
     (λ w.
     let e = same ∙ w .0 .taken in
-    let turn = line-at-lf before (at .i) h e in
+    let turn = feeds-at-lf before (at .i) h e in
     let column = column-at-lf before (at .i) h (at .column) e in
     (omega (arith, w .1), omega (arith, w .2), omega (arith, w .1, turn), ap behind (w .2) ∙ sym column ∙ at .inv .3))
     (⊎-elim
     (λ w.
     let e : getD before (at .i) 0 ≡ 10 → ⊥ = λ e. w .0 .left (sym same ∙ e) in
-    let turn = line-at-other before (at .i) h e in
+    let turn = feeds-at-other before (at .i) h e in
     let first = ap continuation same ∙ sym (w .1 .ensures) ∙ not-true _ (w .2 .taken) in
     let column = column-at-char before (at .i) h (at .column) e first in
     (omega (arith, w .3), omega (arith, w .4), omega (arith, w .3, turn), ap behind (w .4) ∙ sym column ∙ at .inv .3))
     (λ w.
     let e : getD before (at .i) 0 ≡ 10 → ⊥ = λ e. w .0 .left (sym same ∙ e) in
-    let turn = line-at-other before (at .i) h e in
+    let turn = feeds-at-other before (at .i) h e in
     let inner = ap continuation same ∙ sym (w .1 .ensures) ∙ not-false _ (w .2 .left) in
     let column = column-inside before (at .i) h (at .column) e inner in
     (omega (arith, w .3), omega (arith, w .4), omega (arith, w .3, turn), ap behind (w .4) ∙ sym column ∙ at .inv .3)))
@@ -113,7 +113,7 @@ returns-3 c =
     let at = c .before .loop in
     let all : length before ≡ offset = length-take-le offset doc (omega arith) in
     let done : length before ≤ at .i = omega arith in
-    let line : at .line ≡ 1 + lineFeeds before = omega (arith, lines-end before (at .i) done) in
+    let line : at .line ≡ 1 + lineFeeds before = omega (arith, feeds-end before (at .i) done) in
     let column : at .column ≡ columnBehind 1 (drop (startOf doc) before) =
     sym (column-end before (at .i) done (at .column)) ∙ at .inv .3 in
     let second = c .before .before .before in

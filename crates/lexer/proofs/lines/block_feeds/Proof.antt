@@ -4,7 +4,7 @@ use Prim.Native.Nat.{_+_, _-_, _≤_}
 use mathlib.Core.Path.{_≡_}
 use lib.ListN.{drop}
 use Rattle.lexer.specs.Lines.{lineFeeds}
-use Rattle.lexer.proofs.LineLaws.{line-counted, lines-from, lines-on}
+use Rattle.lexer.proofs.LineLaws.{feeds-counted, feeds-from, feeds-on}
 use borrow.Author.Needs.{needs}
 use native.Mathlib.Omega.{arith}
 use Rattle.lexer.proofs.lines.block_feeds.Statement.{statement}
@@ -19,7 +19,7 @@ abbrev μ-loop : tie.MeasureT-loop
 loop-holds : tie.Need-loop-holds Inv-loop μ-loop
 loop-holds c =
     let i = c .args .i in
-    (omega arith, omega arith, omega (arith, lines-from (c .args .doc .now) (i + 0) i (omega arith)))
+    (omega arith, omega arith, omega (arith, feeds-from (c .args .doc .now) (i + 0) i (omega arith)))
 
 add-if1 : tie.Need-add-if1 Inv-loop μ-loop
 add-if1 c = omega arith
@@ -42,8 +42,8 @@ loop-again c =
     let doc = is .doc .now in
     let now = c .before .before .before .loop in
     let at = is .i + now .j in
-    let one = line-counted doc at (omega arith) (now .n) (c .if1 .n) (λ w. w .taken) (λ w. w .left) (c .if1 .came) in
-    let same = lines-from doc (at + 1) (is .i + (now .j + 1)) (omega arith) in
+    let one = feeds-counted doc at (omega arith) (now .n) (c .if1 .n) (λ w. w .taken) (λ w. w .left) (c .if1 .came) in
+    let same = feeds-from doc (at + 1) (is .i + (now .j + 1)) (omega arith) in
     (omega arith, omega arith, omega arith)
 
 cast-result : tie.Need-cast-result Inv-loop μ-loop
@@ -53,7 +53,7 @@ returns : tie.Need-returns Inv-loop μ-loop
 returns c =
     let doc = c .before .before .args .doc .now in
     let i = c .before .before .args .i in
-    omega (arith, lines-on doc i 16, lines-from doc (i + c .before .loop .j) (i + 16) (omega arith))
+    omega (arith, feeds-on doc i 16, feeds-from doc (i + c .before .loop .j) (i + 16) (omega arith))
 
 pub block-feeds-spec : {M : Type 1} → statement M
 block-feeds-spec =

@@ -18,7 +18,7 @@ use Rattle.lexer.specs.Lines.{lineFeeds}
 use Rattle.lexer.specs.Table.{kindOf, tokenLen}
 use Rattle.lexer.specs.Tokens.{lineAfter}
 use Rattle.lexer.proofs.TokenLaws.{token-fits-at, token-long-at}
-use Rattle.lexer.proofs.LineLaws.{OneIfLf, newline-token, token-no-lf, lines-taken}
+use Rattle.lexer.proofs.LineLaws.{OneIfLf, newline-token, token-no-lf, feeds-taken}
 use borrow.Author.Needs.{needs}
 use native.Mathlib.Omega.{arith}
 use Rattle.lexer.proofs.lines.line_after.Statement.{statement}
@@ -64,7 +64,7 @@ counted c n e =
     let at = c .args .token .span in
     let f = known c in
     let size : at .end - at .start ≡ tokenLen (bytes c) = omega (arith, f .end) in (
-      omega (arith, f .long, lines-taken (at .end - at .start) (bytes c)),
+      omega (arith, f .long, feeds-taken (at .end - at .start) (bytes c)),
       ap (λ (k : ℕ). c .args .token .line + k) (e ∙ ap (λ (k : ℕ). lineFeeds (take k (bytes c))) size),
     )
 

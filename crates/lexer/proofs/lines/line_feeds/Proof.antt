@@ -5,7 +5,7 @@ use mathlib.Core.Path.{_≡_}
 use mathlib.Core.List.{List}
 use lib.ListN.{drop}
 use Rattle.lexer.specs.Lines.{lineFeeds}
-use Rattle.lexer.proofs.LineLaws.{line-counted, lines-from, lines-on, lines-between, lines-taken}
+use Rattle.lexer.proofs.LineLaws.{feeds-counted, feeds-from, feeds-on, feeds-between, feeds-taken}
 use native.Mathlib.Omega.{arith}
 use Rattle.lexer.proofs.lines.line_feeds.Statement.{statement}
 use Rattle.lexer.proofs.lines.line_feeds.Tie as tie
@@ -38,7 +38,7 @@ block-feeds-requires c κs = omega arith
 add-n : tie.Need-add-n Inv-loop μ-loop Inv-loop2 μ-loop2
 add-n c =
     let doc = c .before .before .before .before .args .doc .now in
-    omega (arith, c .block-feeds .ensures, lines-taken 16 (drop (c .before .before .loop .i) doc))
+    omega (arith, c .block-feeds .ensures, feeds-taken 16 (drop (c .before .before .loop .i) doc))
 
 add-i : tie.Need-add-i Inv-loop μ-loop Inv-loop2 μ-loop2
 add-i c = omega arith
@@ -51,7 +51,7 @@ loop-again c =
     let doc = c .before .before .before .before .args .doc .now in
     let i = c .before .before .loop .i in
     let more = c .block-feeds .ensures in
-    (omega arith, omega arith, omega (arith, lines-taken 16 (drop i doc)), omega (arith, lines-on doc i 16))
+    (omega arith, omega arith, omega (arith, feeds-taken 16 (drop i doc)), omega (arith, feeds-on doc i 16))
 
 loop2-holds : tie.Need-loop2-holds Inv-loop μ-loop Inv-loop2 μ-loop2
 loop2-holds c = c .before .loop .inv
@@ -72,15 +72,15 @@ loop2-again : tie.Need-loop2-again Inv-loop μ-loop Inv-loop2 μ-loop2
 loop2-again c =
     let doc = c .before .before .before .before .before .before .before .args .doc .now in
     let now = c .before .before .before .loop2 in
-    let one = line-counted doc (now .i) (omega arith) (now .n) (c .if1 .n) (λ w. w .taken) (λ w. w .left) (c .if1 .came) in
+    let one = feeds-counted doc (now .i) (omega arith) (now .n) (c .if1 .n) (λ w. w .taken) (λ w. w .left) (c .if1 .came) in
     (omega arith, omega arith, omega arith, omega arith)
 
 returns : tie.Need-returns Inv-loop μ-loop Inv-loop2 μ-loop2
 returns c =
     let is = c .before .before .before .before .before .args in
     let doc = is .doc .now in
-    let same = lines-from doc (c .before .loop2 .i) (is .end) (omega arith) in
-    omega (arith, lines-between doc (is .start) (is .end) (omega arith))
+    let same = feeds-from doc (c .before .loop2 .i) (is .end) (omega arith) in
+    omega (arith, feeds-between doc (is .start) (is .end) (omega arith))
 
 pub line-feeds-spec : {M : Type 1} → statement M
 line-feeds-spec =
