@@ -55,7 +55,7 @@ static void lexing(void)
  * line of the second is 1 plus those LFs. */
 static int counts_lines(size_t n, size_t k)
 {
-    uint8_t doc[80];
+    uint8_t doc[320];
     size_t records[8][4], lines = 1;
     memset(doc, '\'', sizeof doc);
     for (size_t i = 0; i < n; i++) {
@@ -68,8 +68,8 @@ static int counts_lines(size_t n, size_t k)
 
 static void lines_of_long_strings(void)
 {
-    FROM("docs/RULES.md, 1 plus the LFs before it: through blocks of sixteen bytes, and the rest behind them");
-    for (size_t n = 0; n <= 70; n++) {
+    FROM("docs/RULES.md, 1 plus the LFs before it: through blocks of 128 bytes, and the rest behind them");
+    for (size_t n = 0; n <= 300; n++) {
         for (size_t k = 1; k <= 18; k++) {
             EXPECT(counts_lines(n, k));
         }

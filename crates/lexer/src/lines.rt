@@ -31,16 +31,16 @@ pub(crate) fn line_after(doc: &[u8], token: Token) -> usize
     }
 }
 
-// The LFs from a start up to an end, sixteen bytes at a time as long as so many are left.
+// The LFs from a start up to an end, in blocks of 128 bytes as long as so many are left.
 fn line_feeds(doc: &[u8], start: usize, end: usize) -> usize
     requires { ⌜ (start ≤ end) × (end ≤ length (now doc)) ⌝ }
     ensures { λ r. ⌜ r ≡ lineFeeds (take (end - start) (drop start (now (doc .entry)))) ⌝ }
 {
     let mut n: usize = 0;
     let mut i = start;
-    while 16 <= end - i {
+    while 128 <= end - i {
         n += block_feeds(doc, i);
-        i += 16;
+        i += 128;
     }
     while i < end {
         if doc[i] == b'\n' {
@@ -51,15 +51,15 @@ fn line_feeds(doc: &[u8], start: usize, end: usize) -> usize
     n
 }
 
-// The LFs of the sixteen bytes from i on: counted in a byte, so that the compiler adds the sixteen
-// at once.
+// The LFs of the 128 bytes from i on: counted in a byte, so that the compiler adds sixteen at once. A
+// shorter block it would unroll instead, and add one by one.
 fn block_feeds(doc: &[u8], i: usize) -> usize
-    requires { ⌜ i + 16 ≤ length (now doc) ⌝ }
-    ensures { λ r. ⌜ r ≡ lineFeeds (take 16 (drop i (now (doc .entry)))) ⌝ }
+    requires { ⌜ i + 128 ≤ length (now doc) ⌝ }
+    ensures { λ r. ⌜ r ≡ lineFeeds (take 128 (drop i (now (doc .entry)))) ⌝ }
 {
     let mut n: u8 = 0;
     let mut j = 0;
-    while j < 16 {
+    while j < 128 {
         if doc[i + j] == b'\n' {
             n += 1;
         }

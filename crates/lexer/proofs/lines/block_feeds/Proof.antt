@@ -11,10 +11,10 @@ use Rattle.lexer.proofs.lines.block_feeds.Statement.{statement}
 use Rattle.lexer.proofs.lines.block_feeds.Tie as tie
 
 abbrev Inv-loop : tie.InvT-loop
-Inv-loop doc i n₀ j₀ n j = (j ≤ 16) × (n ≤ j) × (n + lineFeeds (drop (i + j) doc) ≡ lineFeeds (drop i doc))
+Inv-loop doc i n₀ j₀ n j = (j ≤ 128) × (n ≤ j) × (n + lineFeeds (drop (i + j) doc) ≡ lineFeeds (drop i doc))
 
 abbrev μ-loop : tie.MeasureT-loop
-μ-loop doc i n₀ j₀ n j = 16 - j
+μ-loop doc i n₀ j₀ n j = 128 - j
 
 loop-holds : tie.Need-loop-holds Inv-loop μ-loop
 loop-holds c =
@@ -53,7 +53,7 @@ returns : tie.Need-returns Inv-loop μ-loop
 returns c =
     let doc = c .before .before .args .doc .now in
     let i = c .before .before .args .i in
-    omega (arith, feeds-on doc i 16, feeds-from doc (i + c .before .loop .j) (i + 16) (omega arith))
+    omega (arith, feeds-on doc i 128, feeds-from doc (i + c .before .loop .j) (i + 128) (omega arith))
 
 pub block-feeds-spec : {M : Type 1} → statement M
 block-feeds-spec =

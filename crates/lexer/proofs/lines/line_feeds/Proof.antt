@@ -38,7 +38,7 @@ block-feeds-requires c κs = omega arith
 add-n : tie.Need-add-n Inv-loop μ-loop Inv-loop2 μ-loop2
 add-n c =
     let doc = c .before .before .before .before .args .doc .now in
-    omega (arith, c .block-feeds .ensures, feeds-taken 16 (drop (c .before .before .loop .i) doc))
+    omega (arith, c .block-feeds .ensures, feeds-taken 128 (drop (c .before .before .loop .i) doc))
 
 add-i : tie.Need-add-i Inv-loop μ-loop Inv-loop2 μ-loop2
 add-i c = omega arith
@@ -51,7 +51,7 @@ loop-again c =
     let doc = c .before .before .before .before .args .doc .now in
     let i = c .before .before .loop .i in
     let more = c .block-feeds .ensures in
-    (omega arith, omega arith, omega (arith, feeds-taken 16 (drop i doc)), omega (arith, feeds-on doc i 16))
+    (omega arith, omega arith, omega (arith, feeds-taken 128 (drop i doc)), omega (arith, feeds-on doc i 128))
 
 loop2-holds : tie.Need-loop2-holds Inv-loop μ-loop Inv-loop2 μ-loop2
 loop2-holds c = c .before .loop .inv
