@@ -1,5 +1,6 @@
 // The two loops over a body's pieces: one counts, one writes. What they ask of a decoder is that its
-// pieces are `Fine` (crate `strings`), so they serve all five. What stores says the place behind.
+// pieces are `Fine` (crate `strings`), so they serve all five. A function that stores answers the
+// place behind what it stored.
 ghost use mathlib.Core.Path.{_≡_};
 ghost use mathlib.Core.Bool.{false};
 ghost use Prim.Native.Nat.{ℕ, _+_, _<_, _≤_};

@@ -1,9 +1,8 @@
--- Where UTF-8 may be joined and cut, and how byte classes meet character classes: what is asked of ASCII alone holds of
--- the bytes exactly where it holds of the scalar values.
+-- Where UTF-8 may be joined and cut.
 -- Assumes nothing.
 use Prim.Native.Nat.{ℕ, _≤_, _<_}
 use mathlib.Core.Path.{_≡_, refl, sym, ap, _∙_, subst}
-use mathlib.Core.Logic.{_⊎_, inl, inr, ⊎-elim, _↔_}
+use mathlib.Core.Logic.{_⊎_, inl, inr, ⊎-elim}
 use mathlib.Core.List.{List, [], _∷_, _++_, append-nil}
 use native.Mathlib.Omega.{arith}
 use native.Mathlib.Decide.{decLt}
@@ -35,37 +34,6 @@ utf8-append p q (cs, h, e) (ds, k, f) = (cs ++ ds, all-append Scalar cs ds h k, 
 
 pub scalars-append : (p q : List ℕ) → Utf8 p → scalars (p ++ q) ≡ scalars p ++ scalars q
 scalars-append p q (cs, h, e) = rw (← e, scalars-encodes cs h q, scalars-of cs h)
-
--- ---- ASCII: its bytes are exactly its scalar values
-
--- what is asked of ASCII alone
-abbrev pub Ascii : (ℕ → Type 0) → ℕ → Type 0
-Ascii P x = x < 0x80 → P x
-
-tails-pass : (P : ℕ → Type 0) (ts : List ℕ) → All Tail ts → All (Ascii P) ts
-tails-pass P [] h = tt
-tails-pass P (t ∷ ts) h = (λ k. absurd (omega (arith, h .0)), tails-pass P ts (h .1))
-
-ascii-one : (P : ℕ → Type 0) (c : ℕ) → All (Ascii P) (encodeScalar c) ↔ Ascii P c
-ascii-one P c = go (parts c)
-  where
-    go : Parts c → All (Ascii P) (encodeScalar c) ↔ Ascii P c
-    go p = (
-      λ a k. subst P (p .same k) ((rw (p .whole) at a) .0 (omega (arith, p .same k))),
-      λ f. rw (p .whole) (
-        λ k. elim (decLt c 0x80) [ yes l ↦ rw (p .same l) (f l) | no l ↦ absurd (omega (arith, p .more (omega arith))) ],
-        tails-pass P (p .tails) (p .each),
-      ),
-    )
-
-pub ascii-all : (P : ℕ → Type 0) (cs : List ℕ) → All (Ascii P) (encodes cs) ↔ All (Ascii P) cs
-ascii-all P [] = (λ a. tt, λ a. tt)
-ascii-all P (c ∷ cs) =
-    let i = ascii-one P c in
-    let r = ascii-all P cs in (
-      λ a. let f = all-parts (Ascii P) (encodeScalar c) (encodes cs) a in (i .0 (f .0), r .0 (f .1)),
-      λ a. all-append (Ascii P) (encodeScalar c) (encodes cs) (i .1 (a .0)) (r .1 (a .1)),
-    )
 
 -- ---- cutting
 
