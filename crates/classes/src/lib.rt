@@ -14,10 +14,14 @@ pub fn is_wschar(b: u8) -> bool
 }
 
 // TOKEN_START: the bytes below 64 are the bits of a number, since a loop over a document asks this
-// of every byte of an atom, and a shift is one test where a match is a jump.
+// of every byte of an atom, and a shift is one test where a match is a jump. The first number has the bits of
+// all of them by the low six bits of the byte: most bytes of an atom are told by it alone.
 pub fn is_token_start(b: u8) -> bool
     ensures { λ r. ⌜ r ≡ tokenStart b ⌝ }
 {
+    if (0x2800_508d_2800_2600u64 >> (wide(b) & 63)) & 1 == 0 {
+        return false;
+    }
     if b < 64 {
         return (0x2000_5009_0000_2600u64 >> wide(b)) & 1 == 1;
     }

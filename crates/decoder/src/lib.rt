@@ -11,13 +11,16 @@ ghost use Rattle.strings.specs.Encodings.{choiceIn, unnamed, choiceBy, choiceOf
 ghost use Rattle.strings.specs.declared.Choice.the-variants.{Known};
 ghost use Rattle.strings.specs.Decoding.{bytesOf, errorsOf, bytesBy, errorsBy, decodedBy, decodeIn, decodeOf, after};
 ghost use Rattle.strings.specs.Decoding.{decodedNumber, decodedValue, decodedErrors, decodedLength, decodeRefusal, decodeReturned, decodeNoted};
+ghost use Rattle.strings.proofs.PlainLaws.{Named};
 ghost use Rattle.strings.proofs.StoreLaws.{Stored};
 
 mod marks;
+mod plain;
 mod write;
 
 use crate::marks::ends_of;
 use crate::marks::mark_error;
+use crate::plain::copy_plain;
 use crate::write::Counts;
 use crate::write::count;
 use crate::write::miss;
@@ -50,7 +53,14 @@ pub fn decode(text: &[u8], kind: usize, output: &mut [u8], errors: &mut [[usize;
         ⌜ decodedErrors r ≡ decodeNoted (now (text .entry)) 10 kind (length (now (output .entry))) (length (now (errors .entry))) ⌝ }
     ensures length { λ r. ⌜ decodedLength r ≡ checkFault (now (text .entry)) ⌝ }
 {
-    decode_in(text, Edition::TOML_10, kind, output, errors)
+    let n = copy_plain(kind, text, output);
+    if n < text.len() {
+        return Decoded::Written {
+            bytes: n,
+            errors: 0,
+        };
+    }
+    decode_checked(text, Edition::TOML_10, kind, output, errors)
 }
 
 // The same in the edition of TOML that a number names: 10 for TOML 1.0, 11 for TOML 1.1.
@@ -74,6 +84,43 @@ pub fn decode_in(
     ensures noted { λ r.
         ⌜ decodedErrors r ≡ decodeNoted (now (text .entry)) edition kind (length (now (output .entry))) (length (now (errors .entry))) ⌝ }
     ensures length { λ r. ⌜ decodedLength r ≡ checkFault (now (text .entry)) ⌝ }
+{
+    if !is_edition(edition) {
+        return decode_checked(text, edition, kind, output, errors);
+    }
+    let n = copy_plain(kind, text, output);
+    if n < text.len() {
+        return Decoded::Written {
+            bytes: n,
+            errors: 0,
+        };
+    }
+    decode_checked(text, edition, kind, output, errors)
+}
+
+fn is_edition(number: usize) -> bool
+    ensures { λ r. ⌜ (r ≡ true → Named number) ⌝ }
+{
+    match number {
+        Edition::TOML_10 | Edition::TOML_11 => true,
+        _ => false,
+    }
+}
+
+// Any text: the check comes first.
+fn decode_checked(
+    text: &[u8],
+    edition: usize,
+    kind: usize,
+    output: &mut [u8],
+    errors: &mut [[usize; 3]],
+) -> Decoded
+    ensures answer { λ r.
+        ⌜ r ≡ decodeIn (now (text .entry)) edition kind (length (now (output .entry))) (length (now (errors .entry))) ⌝ }
+    ensures output { λ r.
+        ⌜ now (output .exit) ≡ after r (bytesBy (choiceBy edition kind) (now (text .entry))) (now (output .entry)) ⌝ }
+    ensures records { λ r.
+        ⌜ now (errors .exit) ≡ after r (errorsBy (choiceBy edition kind) (now (text .entry))) (now (errors .entry)) ⌝ }
 {
     let check = check_utf8(text);
     match check {

@@ -1,8 +1,8 @@
 -- A token's kind and end at a place of the document.
 -- Assumes nothing.
 use Prim.Native.Nat.{ℕ, _<_}
-use mathlib.Core.Path.{_≡_, ap}
-use mathlib.Core.Bool.{Bool, true}
+use mathlib.Core.Path.{_≡_, refl, ap}
+use mathlib.Core.Bool.{Bool, true, false, _||_}
 use mathlib.Core.List.{List}
 use borrow.Author.Tests.{eqb-true}
 use lib.Dec.{eqb}
@@ -33,6 +33,21 @@ Made k doc at line = tokenBy k at line (drop at doc) ≡ tokenAt at line (drop a
 pub token-there : (k : TokenKind) (doc : List ℕ) (at line : ℕ) → at < length doc → KindThere doc at k → Made k doc at line
 unfolding tokenLen
 token-there k doc at line h e = rw (kind-at doc at h, e)
+
+-- a space or a tab begins whitespace
+pub ws-there : (doc : List ℕ) (at : ℕ) → wschar (getD doc at 0) ≡ true → KindThere doc at Whitespace
+unfolding kindBy wschar
+ws-there doc at w = go (eqb b 32) refl
+  where
+    b : ℕ
+    b = getD doc at 0
+
+    go : (t : Bool) → eqb b 32 ≡ t → KindThere doc at Whitespace
+    go true t = let e : getD doc at 0 ≡ 32 = eqb-true b 32 t in rw e
+    go false t =
+        let tab : (false || eqb b 9) ≡ true = rw t at w in
+        let e : getD doc at 0 ≡ 9 = eqb-true b 9 tab in
+        rw e
 
 -- the same token by an equal end, or by an equal kind
 pub end-is : {k : TokenKind} {at line e f : ℕ} → e ≡ f → tokenOf k at e line ≡ tokenOf k at f line

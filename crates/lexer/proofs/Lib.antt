@@ -1,7 +1,9 @@
+pub mod BlockLaws
 pub mod TailLaws
 pub mod MarkLaws
 pub mod KindLaws
 pub mod LineLaws
+pub mod EntryLaws
 pub mod TokenLaws
 pub mod UntilLaws
 pub mod WholeLaws

@@ -17,7 +17,7 @@ use Rattle.classes.specs.Runs.{run}
 use Rattle.classes.proofs.Conds.{cond-case, both-left, both-right, not-both}
 use Rattle.classes.proofs.RunLaws.{there}
 use Rattle.token.specs.declared.TokenKind.{TokenKind}
-use Rattle.token.specs.declared.TokenKind.the-variants.{Newline, MlLiteralString, MlBasicString}
+use Rattle.token.specs.declared.TokenKind.the-variants.{Dot, Equals, Comma, LeftSquareBracket, RightSquareBracket, LeftCurlyBracket, RightCurlyBracket, Whitespace, Comment, Newline, LiteralString, BasicString, MlLiteralString, MlBasicString, Atom, Eof}
 use Rattle.lexer.specs.Bytes.{hides, closes, inComment, inAtom}
 use Rattle.lexer.specs.Extents.{lineTail, triple, newlineTail}
 use Rattle.lexer.specs.Lines.{lineFeeds, lineBehind}
@@ -161,9 +161,24 @@ line-no-lf q h (b ∷ s) k =
     cond-case P (closes q h b) (λ t. other-front b [] (λ e. k (sym (mark t) ∙ e)) ∙ feeds-none)
     λ _. cond-case P (eqb b 10) (λ t. feeds-none) (λ t. other-front b rest (eqb-false b 10 t) ∙ r)
 
--- a kind that is no newline and not on several lines
-abbrev OneLine : TokenKind → Type 0 → Type 0
-OneLine k P = (k ≡ Newline → ⊥) → (k ≡ MlLiteralString → ⊥) → (k ≡ MlBasicString → ⊥) → P
+-- the kinds that may hold an LF: a newline, and those on several lines
+abbrev pub holdsLf : TokenKind → Bool
+holdsLf Dot = false
+holdsLf Equals = false
+holdsLf Comma = false
+holdsLf LeftSquareBracket = false
+holdsLf RightSquareBracket = false
+holdsLf LeftCurlyBracket = false
+holdsLf RightCurlyBracket = false
+holdsLf Whitespace = false
+holdsLf Comment = false
+holdsLf Newline = true
+holdsLf LiteralString = false
+holdsLf BasicString = false
+holdsLf MlLiteralString = true
+holdsLf MlBasicString = true
+holdsLf Atom = false
+holdsLf Eof = false
 
 lf-newline : (b : ℕ) (s : List ℕ) → b ≡ 10 → kindOf (b ∷ s) ≡ Newline
 unfolding kindOf kindBy wschar
@@ -172,13 +187,13 @@ lf-newline b s e = rw e
 abbrev NoLf : List ℕ → ℕ → Type 0
 NoLf s n = lineFeeds (take n s) ≡ 0
 
-pub token-no-lf : (s : List ℕ) → OneLine (kindOf s) (NoLf s (tokenLen s))
+pub token-no-lf : (s : List ℕ) → holdsLf (kindOf s) ≡ false → NoLf s (tokenLen s)
 unfolding tokenLen kindOf extent wschar tokenStart
-token-no-lf [] = λ _ _ _. feeds-none
-token-no-lf (b ∷ s) = λ n l m. go (eqb b 10) refl n l m
+token-no-lf [] = λ _. feeds-none
+token-no-lf (b ∷ s) = go (eqb b 10) refl
   where
-    go : (t : Bool) → eqb b 10 ≡ t → OneLine (kindOf (b ∷ s)) (NoLf (b ∷ s) (tokenLen (b ∷ s)))
-    go true t = λ n _ _. absurd (n (lf-newline b s (eqb-true b 10 t)))
+    go : (t : Bool) → eqb b 10 ≡ t → holdsLf (kindOf (b ∷ s)) ≡ false → NoLf (b ∷ s) (tokenLen (b ∷ s))
+    go true t = λ f. not-both (ap holdsLf (lf-newline b s (eqb-true b 10 t))) f
     go false t =
         let rest : (k : ℕ) → NoLf s k → NoLf (b ∷ s) (suc k) = λ k e. other-front b (take k s) (eqb-false b 10 t) ∙ e in
         let one : NoLf (b ∷ s) 1 = rest 0 feeds-none in
@@ -186,11 +201,11 @@ token-no-lf (b ∷ s) = λ n l m. go (eqb b 10) refl n l m
         λ p e. rest (run p s) (run-no-lf p s e) in
         let string : (q : ℕ) → (q ≡ 10 → ⊥) → NoLf (b ∷ s) (suc (lineTail q false s)) =
         λ q k. rest (lineTail q false s) (line-no-lf q false s k) in
-        by-kind (λ (k : TokenKind). OneLine k (NoLf (b ∷ s) (extent k (b ∷ s)))) b (triple b (b ∷ s))
-        (λ _ _ _ _. one) (λ _ _ _ _. one) (λ _ _ _ _. one) (λ _ _ _ _. one) (λ _ _ _ _. one) (λ _ _ _ _. one) (λ _ _ _ _. one)
-        (λ _ _ _ _. runs wschar refl) (λ _ _ _ _. runs inComment refl) (λ _ n _ _. absurd (n refl))
-        (λ _ _ _ _. string 39 (λ e. omega arith)) (λ _ _ _ _. string 34 (λ e. omega arith))
-        (λ _ _ _ l _. absurd (l refl)) (λ _ _ _ _ m. absurd (m refl)) (λ _ _ _. runs inAtom refl)
+        by-kind (λ (k : TokenKind). holdsLf k ≡ false → NoLf (b ∷ s) (extent k (b ∷ s))) b (triple b (b ∷ s))
+        (λ _ _. one) (λ _ _. one) (λ _ _. one) (λ _ _. one) (λ _ _. one) (λ _ _. one) (λ _ _. one)
+        (λ _ _. runs wschar refl) (λ _ _. runs inComment refl) (λ _ f. not-both refl f)
+        (λ _ _. string 39 (λ e. omega arith)) (λ _ _. string 34 (λ e. omega arith))
+        (λ _ _ f. not-both refl f) (λ _ _ f. not-both refl f) (λ _. runs inAtom refl)
 
 -- a newline holds an LF where its last byte is one
 pub newline-line : (s : List ℕ) → 0 < length s
@@ -212,19 +227,17 @@ newline-line (b ∷ s) h =
 abbrev pub OneIfLf : ℕ → ℕ → Type 0
 OneIfLf b n = (b ≡ 10 → n ≡ 1) × ((b ≡ 10 → ⊥) → n ≡ 0)
 
--- so by the byte before its end
-pub newline-token : (doc : List ℕ) (at end : ℕ) → at < length doc
-    → kindOf (drop at doc) ≡ Newline → end ≡ at + tokenLen (drop at doc)
-    → OneIfLf (getD doc (end - 1) 0) (lineFeeds (take (tokenLen (drop at doc)) (drop at doc)))
+-- so by its last byte
+pub newline-token : (doc : List ℕ) (at i : ℕ) → at < length doc
+    → kindOf (drop at doc) ≡ Newline → i ≡ at + newlineTail (drop at doc)
+    → OneIfLf (getD doc i 0) (lineFeeds (take (tokenLen (drop at doc)) (drop at doc)))
 unfolding tokenLen extent
-newline-token doc at end h k e =
+newline-token doc at i h k e =
     let s = drop at doc in
     let n = newlineTail s in
     let size : tokenLen s ≡ suc n = ap (λ (j : TokenKind). extent j s) k in
-    let same : at + n ≡ end - 1 = omega (arith, size) in
-    let byte : getD s n 0 ≡ getD doc (end - 1) 0 = getD-drop at doc n 0 ∙ ap (λ (i : ℕ). getD doc i 0) same in
-    let last : lineFeeds (take (suc n) s) ≡ cond (eqb (getD doc (end - 1) 0) 10) 1 0 =
-    newline-line s (omega (arith, length-drop at doc)) ∙ ap (λ (b : ℕ). cond (eqb b 10) 1 0) byte in
-    let is : lineFeeds (take (tokenLen s) s) ≡ cond (eqb (getD doc (end - 1) 0) 10) 1 0 =
-    ap (λ (i : ℕ). lineFeeds (take i s)) size ∙ last in
-    (λ f. is ∙ rw (eq-eqb (getD doc (end - 1) 0) 10 f), λ f. is ∙ rw (ne-eqb (getD doc (end - 1) 0) 10 f))
+    let byte : getD s n 0 ≡ getD doc i 0 = getD-drop at doc n 0 ∙ ap (λ (j : ℕ). getD doc j 0) (sym e) in
+    let is : lineFeeds (take (tokenLen s) s) ≡ cond (eqb (getD doc i 0) 10) 1 0 =
+    ap (λ (j : ℕ). lineFeeds (take j s)) size ∙ newline-line s (omega (arith, length-drop at doc))
+    ∙ ap (λ (b : ℕ). cond (eqb b 10) 1 0) byte in
+    (λ f. is ∙ rw (eq-eqb (getD doc i 0) 10 f), λ f. is ∙ rw (ne-eqb (getD doc i 0) 10 f))

@@ -11,6 +11,7 @@ use Rattle.lexer.specs.declared.Cursor.{Cursor}
 use Rattle.lexer.specs.declared.Start.{Start}
 use Rattle.lexer.specs.declared.Step.{Step}
 use Rattle.lexer.specs.declared.Lexed.{Lexed}
+use Rattle.lexer.specs.Lines.{lineOf}
 use Rattle.lexer.specs.Tokens.{startOf}
 use Rattle.lexer.specs.Steps.{startAnswer, stepOf}
 use Rattle.lexer.specs.Whole.{lexAnswer, lexMemory}
@@ -28,3 +29,6 @@ lex doc old = (only-equal (lexAnswer doc (length old)), only-equal (lexMemory do
 
 pub start-of : (doc : List ℕ) → Only (λ (r : ℕ). r ≡ startOf doc)
 start-of doc = only-equal (startOf doc)
+
+pub line-of : (doc : List ℕ) (offset : ℕ) → Only (λ (r : ℕ). r ≡ lineOf doc offset)
+line-of doc offset = only-equal (lineOf doc offset)

@@ -219,6 +219,15 @@ module _ (q : ℕ) (s : List ℕ) (i r escape : ℕ) (by : escape ≡ escapeOf q
   pub ml-found : r ≡ i + run (noneOf q escape escape) (drop i s) → MlFound q s i r
   ml-found e = found (mlTail q false) (noneOf q (escapeOf q) (escapeOf q)) (ml-over q) s i r l (rw by at e)
 
+-- over some of the bytes that do not matter, the end of the string stays where it is too
+pub line-passed : (q : ℕ) (s : List ℕ) (i r escape : ℕ) → escape ≡ escapeOf q → i ≤ length s
+    → SameEnd (run (noneOf q escape 10)) s i r → SameEnd (lineTail q false) s i r
+line-passed q s i r escape by l e =
+    let end = i + run (noneOf q escape 10) (drop i s) in
+    let one = line-found q s i end escape by l refl .same in
+    let two = line-found q s r end escape by (e .0) (sym (e .1)) .same in
+    (e .0, omega arith)
+
 -- ---- a comment's bytes
 
 run-same : (p r : ℕ → Bool) → ((b : ℕ) → p b ≡ r b) → (s : List ℕ) → run p s ≡ run r s

@@ -14,7 +14,7 @@ use Rattle.token.specs.Records.{recordOf}
 use Rattle.lexer.specs.Lines.{lineFeeds, lineBehind}
 use Rattle.lexer.specs.Table.{tokenLen}
 use Rattle.lexer.specs.Tokens.{tokenAt, eofAt, lineAfter, walk, tokensFrom, startOf, tokensOf}
-use Rattle.lexer.specs.Scans.{before, tokensUntil, linePast, lineUntil, store}
+use Rattle.lexer.specs.Scans.{before, tokensUntil, linePast, lineUntil, GoesOn, store}
 use Rattle.lexer.proofs.TokenLaws.{endAt, tokens-step, tokens-end, token-fits-at, token-long-at, line-fits-at, start-fits}
 use Rattle.lexer.proofs.LineLaws.{feeds-none, feeds-end, feeds-split, behind-front}
 
@@ -43,6 +43,19 @@ until-one doc at line h =
     until-step doc (at + 1) at line (omega arith) (omega arith)
     ∙ ap (λ (r : List Token). tokenAt at line (drop at doc) ∷ r)
     (until-stop doc (at + 1) (endAt doc at) (lineAfter line (drop at doc)) (omega arith))
+
+-- no more than the bytes before the stop
+pub until-few : (n : ℕ) (doc : List ℕ) (stop at line : ℕ) → stop ≤ at + n → stop ≤ length doc
+    → length (tokensUntil stop at line doc) ≤ n
+until-few zero doc stop at line h l = omega (arith, ap length (until-stop doc stop at line (omega arith)))
+until-few (suc n) doc stop at line h l =
+    elim (decLt at stop) [
+      | yes w ↦
+          let long = token-long-at doc at (omega arith) in
+          let rest = until-few n doc stop (endAt doc at) (lineAfter line (drop at doc)) (omega arith) l in
+          omega (arith, ap length (until-step doc stop at line w l))
+      | no w ↦ omega (arith, ap length (until-stop doc stop at line (omega arith)))
+    ]
 
 -- all of them, and Eof
 abbrev All : ℕ → ℕ → List Token → Type 0
@@ -134,7 +147,8 @@ module _ (doc : List ℕ) (stop start first : ℕ) (old : List (List ℕ)) where
     pub few : n ≤ at
     pub low : line ≤ at + 1
     pub room : length new ≡ length old
-    pub count : n + length (tokensUntil stop at line doc) ≡ length (tokensUntil stop start first doc)
+    pub counts : (end : ℕ) → stop ≤ end → end ≤ length doc
+        → n + length (tokensUntil end at line doc) ≡ length (tokensUntil end start first doc)
     pub behind : lineUntil stop at line doc ≡ lineUntil stop start first doc
     pub stores : store stop at line doc n new ≡ store stop start first doc 0 old
 
@@ -151,21 +165,31 @@ module _ (doc : List ℕ) (stop start first : ℕ) (old : List (List ℕ)) where
         few = omega (arith, token-long-at doc at (omega arith));
         low = line-fits-at doc at line (u .low);
         room = length-set new n here ∙ u .room;
-        count = omega (arith, ap length turn);
+        counts = λ e p q. omega (arith, u .counts e p q, ap length (until-step doc e at line (omega (arith, p)) q));
         behind = behind ∙ u .behind;
         stores = rw (add-one n) (ap (λ (ts : List Token). sets new n (map recordOf ts)) (sym turn) ∙ u .stores);
       }
 
+  -- before the stop a record is left, where there are enough
+  pub has-room : {at line n : ℕ} {new : List (List ℕ)} → Underway at line n new → at < stop → stop ≤ length doc
+      → length (tokensUntil stop start first doc) ≤ length old → n < length new
+  has-room {at} {line} {n} {new} u h l m =
+      omega (arith, u .counts stop (omega arith) l, u .room, ap length (until-step doc stop at line h l))
+
   -- past the stop none is left
   pub arrived : {at line n : ℕ} {new : List (List ℕ)} → Underway at line n new → stop ≤ at
       → (n ≡ length (tokensUntil stop start first doc))
-      × ((line ≡ lineUntil stop start first doc) × (new ≡ store stop start first doc 0 old))
+      × ((line ≡ lineUntil stop start first doc)
+      × (GoesOn doc stop start first (record { count = n; place = at; line = line }) × (new ≡ store stop start first doc 0 old)))
   arrived {at} {line} {n} {new} u h =
       let done = until-stop doc stop at line h in (
-        omega (arith, ap length done),
+        omega (arith, u .counts stop (omega arith) (omega (arith, u .within)), ap length done),
         (
           sym (ap (linePast doc line) done ∙ past-none doc line) ∙ u .behind,
-          ap (λ (ts : List Token). sets new n (map recordOf ts)) (sym done) ∙ u .stores,
+          (
+            record { within = u .within; far = h; low = u .low; counts = u .counts },
+            ap (λ (ts : List Token). sets new n (map recordOf ts)) (sym done) ∙ u .stores,
+          ),
         ),
       )
 

@@ -15,7 +15,7 @@ use Rattle.text.specs.declared.utf8.Utf8Check.the-variants.{Valid, Refused as B
 use Rattle.token.specs.declared.Token.{Token}
 use Rattle.token.specs.declared.TokenKind.{TokenKind}
 use Rattle.token.specs.declared.KindRead.{KindRead}
-use Rattle.token.specs.declared.KindRead.the-variants.{Kind, Refused as Unread}
+use Rattle.token.specs.declared.KindRead.the-variants.{Kind}
 use Rattle.token.specs.KindNumbers.{kindNumber, kindOfNumber}
 use Rattle.token.specs.Records.{recordOf}
 use Rattle.token.proofs.KindLaws.{kind-back}
@@ -90,12 +90,6 @@ one-line doc at line n h e =
 module _ (k : TokenKind) (r : KindRead) (read : r ≡ kindOfNumber (kindNumber k)) where
   pub read-back : (j : TokenKind) → r ≡ Kind j → j ≡ k
   read-back j e = let back = kind-back k in cc
-
-  pub never-refused : (x : Refusal) → r ≡ Unread x → ⊥
-  never-refused x e =
-      let back = kind-back k in
-      let z : _≡_ {A = ℕ} 0 1 = cc in
-      omega arith
 
 -- ---- the answers
 

@@ -9,10 +9,14 @@ use lib.ListN.{length, take, drop}
 use lib.Seq.{sets}
 use lib.Dec.{ltb, eqb}
 use Rattle.token.specs.declared.Token.{Token}
+use Rattle.token.specs.declared.TokenKind.{TokenKind}
+use Rattle.token.specs.KindNumbers.{kindNumber}
 use Rattle.token.specs.Records.{recordOf}
 use Rattle.lexer.specs.Lines.{lineFeeds}
-use Rattle.lexer.specs.Tokens.{tokenAt, tokensFrom}
+use Rattle.lexer.specs.Tokens.{tokenAt, lineAfter, tokensFrom}
 use Rattle.lexer.specs.Whole.{recordsOf, tokenCount}
+use Rattle.lexer.specs.declared.Entry.{Entry}
+use Rattle.lexer.specs.declared.Passed.{Passed}
 
 -- ---- scans
 
@@ -36,6 +40,13 @@ pub record Stands (doc : List ℕ) (t : Token) : Type 0 where
   pub here : t ≡ tokenAt (t .span .start) (t .line) (drop (t .span .start) doc)
   pub low : t .line ≤ t .span .start + 1
 
+-- a token's record with the line behind the token, and that of the token at a place
+abbrev pub entryOf : Token → ℕ → Entry
+entryOf t line = record { numbers = recordOf t; line = line }
+
+abbrev pub entryAt : ℕ → ℕ → List ℕ → Entry
+entryAt at line s = entryOf (tokenAt at line s) (lineAfter line s)
+
 -- the tokens at the front that begin before a place
 unfoldable pub before : ℕ → List Token → List Token
 before stop [] = []
@@ -58,7 +69,19 @@ linePast doc line (t ∷ ts) = linePast doc (lineOver doc t) ts
 abbrev pub lineUntil : ℕ → ℕ → ℕ → List ℕ → ℕ
 lineUntil stop at line doc = linePast doc line (tokensUntil stop at line doc)
 
+-- from a place behind the stop the tokens go on as from the start, those that were passed counted
+pub record GoesOn (doc : List ℕ) (stop start first : ℕ) (out : Passed) : Type 0 where
+  pub within : out .place ≤ length doc
+  pub far : stop ≤ out .place
+  pub low : out .line ≤ out .place + 1
+  pub counts : (end : ℕ) → stop ≤ end → end ≤ length doc
+      → out .count + length (tokensUntil end (out .place) (out .line) doc) ≡ length (tokensUntil end start first doc)
+
 -- ---- records
+
+-- a kind is the one that has a number, where any has
+abbrev pub Numbered : ℕ → TokenKind → Type 0
+Numbered number kind = (k : TokenKind) → number ≡ kindNumber k → kind ≡ k
 
 -- their records stored over old ones, from the n-th on
 abbrev pub store : ℕ → ℕ → ℕ → List ℕ → ℕ → List (List ℕ) → List (List ℕ)

@@ -8,16 +8,16 @@ ghost use Prim.Native.Nat.{_+_, _≤_, _<_};
 ghost use lib.ListN.{length, drop, getD};
 ghost use Rattle.text.specs.Answers.{checkFault};
 ghost use Rattle.token.specs.Records.{tokenOf};
+ghost use Rattle.lexer.specs.Lines.{lineOf};
 ghost use Rattle.lexer.specs.Tokens.{hasBom, startOf, tokenBy, tokenAt, lineAfter};
 ghost use Rattle.lexer.specs.Steps.{cursorOf, startAnswer, startNumber, startValue, startRefusal, startReturned};
 ghost use Rattle.lexer.specs.Steps.{stepOf, stepNumber, stepValue, stepRefusal, stepReturned};
 ghost use Rattle.lexer.specs.Whole.{tokenCount, lexAnswer, lexMemory};
 ghost use Rattle.lexer.specs.Whole.{lexedNumber, lexedValue, lexedLength, lexRefusal, lexReturned};
-ghost use Rattle.lexer.specs.Scans.{tokensUntil, lineUntil, store, recordsOver};
+ghost use Rattle.lexer.specs.Scans.{Stands, GoesOn, Numbered, entryOf, entryAt, tokensUntil, lineUntil, store, recordsOver};
 use text::LIMIT;
 use text::Refusal;
 use text::Utf8Check;
-use token::KindRead;
 use token::Record;
 use token::Span;
 use token::Token;
@@ -126,12 +126,26 @@ pub fn lex(doc: &[u8], records: &mut [Record]) -> Lexed
     Lexed::Tokens(fill(doc, records))
 }
 
-// How many tokens the document has, Eof counted.
+// How many tokens the document has, Eof counted: in parts of 64 bytes, whose records are let go.
 fn count(doc: &[u8]) -> usize
     ensures { λ r. ⌜ r ≡ tokenCount (now (doc .entry)) ⌝ }
 {
-    let mut spare = [[0usize; 4]; 1];
-    lex_until(doc, start_of(doc), 1, doc.len(), &mut spare).count + 1
+    let mut spare = [[0usize; 4]; 64];
+    let mut at = start_of(doc);
+    let mut line: usize = 1;
+    let mut passed: usize = 0;
+    while at < doc.len() {
+        let stop = if 64 < doc.len() - at {
+            at + 64
+        } else {
+            doc.len()
+        };
+        let part = lex_until(doc, at, line, stop, &mut spare);
+        passed += part.count;
+        line = part.line;
+        at = part.place;
+    }
+    passed + 1
 }
 
 // The tokens into records that are enough: how many.
@@ -158,46 +172,79 @@ fn token_at(doc: &[u8], at: usize, line: usize) -> Next
     ensures token { λ r. ⌜ r .token ≡ tokenAt at line (drop at (now (doc .entry))) ⌝ }
     ensures line { λ r. ⌜ r .line ≡ lineAfter line (drop at (now (doc .entry))) ⌝ }
 {
+    // Whitespace is about every third token, and soon read: without the loop.
+    if classes::is_wschar(doc[at]) {
+        return Next {
+            token: lex_whitespace(doc, at, line),
+            line,
+        };
+    }
     let mut one = [[0usize; 4]; 1];
     let passed = lex_until(doc, at, line, at + 1, &mut one);
     let record = one[0];
-    let token = match TokenKind::from_number(record[0]) {
-        KindRead::Kind(kind) => token_of(kind, record[1], record[2], record[3]),
-        KindRead::Refused(_) => token_of(TokenKind::Eof, at, at, line),
-    };
     Next {
-        token,
+        token: token_of(kind_of(record[0]), record[1], record[2], record[3]),
         line: passed.line,
     }
 }
 
-// How many tokens were passed, and the line behind them.
+// The kind that has a number which is a kind's: `TokenKind::from_number` without a refusal, and for this one caller, so
+// that it is compiled into it.
+fn kind_of(number: usize) -> TokenKind
+    ensures { λ r. ⌜ Numbered number r ⌝ }
+{
+    match number {
+        TokenKind::DOT => TokenKind::Dot,
+        TokenKind::EQUALS => TokenKind::Equals,
+        TokenKind::COMMA => TokenKind::Comma,
+        TokenKind::LEFT_SQUARE_BRACKET => TokenKind::LeftSquareBracket,
+        TokenKind::RIGHT_SQUARE_BRACKET => TokenKind::RightSquareBracket,
+        TokenKind::LEFT_CURLY_BRACKET => TokenKind::LeftCurlyBracket,
+        TokenKind::RIGHT_CURLY_BRACKET => TokenKind::RightCurlyBracket,
+        TokenKind::WHITESPACE => TokenKind::Whitespace,
+        TokenKind::COMMENT => TokenKind::Comment,
+        TokenKind::NEWLINE => TokenKind::Newline,
+        TokenKind::LITERAL_STRING => TokenKind::LiteralString,
+        TokenKind::BASIC_STRING => TokenKind::BasicString,
+        TokenKind::ML_LITERAL_STRING => TokenKind::MlLiteralString,
+        TokenKind::ML_BASIC_STRING => TokenKind::MlBasicString,
+        TokenKind::ATOM => TokenKind::Atom,
+        _ => TokenKind::Eof,
+    }
+}
+
+// How many tokens were passed, and the place and the line behind them.
 struct Passed {
     count: usize,
+    place: usize,
     line: usize,
 }
 
-// The tokens that begin at `start` or behind it, and before `stop`: how many, each written where a
-// record is left for it. The only caller of `process_token`, which is compiled into this loop.
+// The tokens that begin at `start` or behind it, and before `stop`: how many, each written into its
+// record. The only caller of `process_token`, which is compiled into this loop.
 fn lex_until(doc: &[u8], start: usize, first: usize, stop: usize, records: &mut [Record]) -> Passed
-    requires { ⌜ (start ≤ length (now doc)) × (stop ≤ length (now doc)) × (first ≤ start + 1) ⌝ }
+    requires { ⌜ (start ≤ length (now doc)) × (stop ≤ length (now doc)) × (first ≤ start + 1) × (length (tokensUntil stop start first (now doc)) ≤ length (now records)) ⌝ }
     ensures count { λ r. ⌜ r .count ≡ length (tokensUntil stop start first (now (doc .entry))) ⌝ }
     ensures line { λ r. ⌜ r .line ≡ lineUntil stop start first (now (doc .entry)) ⌝ }
+    ensures place { λ r. ⌜ GoesOn (now (doc .entry)) stop start first r ⌝ }
     ensures memory { λ _. ⌜ now (records .exit) ≡ store stop start first (now (doc .entry)) 0 (now (records .entry)) ⌝ }
 {
     let mut at = start;
     let mut line = first;
     let mut n: usize = 0;
     while at < stop {
-        let token = process_token(doc, at, line);
-        if n < records.len() {
-            records[n] = token.as_record();
-        }
+        let entry = process_token(doc, at, line);
+        let record = entry.numbers;
+        records[n] = record;
         n += 1;
-        line = lines::line_after(doc, token);
-        at = token.span.end;
+        line = entry.line;
+        at = record[2];
     }
-    Passed { count: n, line }
+    Passed {
+        count: n,
+        place: at,
+        line,
+    }
 }
 
 // Where lexing starts: behind a byte order mark.
@@ -205,6 +252,18 @@ pub fn start_of(doc: &[u8]) -> usize
     ensures { λ r. ⌜ r ≡ startOf (now (doc .entry)) ⌝ }
 {
     if has_bom(doc) { Span::BOM } else { 0 }
+}
+
+// The line of an offset, counted from 1; beyond the end it is the line of the end.
+pub fn line_of(doc: &[u8], offset: usize) -> usize
+    ensures { λ r. ⌜ r ≡ lineOf (now (doc .entry)) offset ⌝ }
+{
+    let end = if offset < doc.len() {
+        offset
+    } else {
+        doc.len()
+    };
+    1 + lines::line_feeds(doc, 0, end)
 }
 
 // BOM
@@ -220,41 +279,72 @@ fn token_of(kind: TokenKind, start: usize, end: usize, line: usize) -> Token
     Token::new(kind, Span::new(start, end), line)
 }
 
-// The token that begins at a place of the document, by the byte there.
-fn process_token(doc: &[u8], at: usize, line: usize) -> Token
-    requires { ⌜ at < length (now doc) ⌝ }
-    ensures { λ r. ⌜ r ≡ tokenAt at line (drop at (now (doc .entry))) ⌝ }
+// The token that begins at a place of the document, by the byte there. Its record and the line behind it are made in
+// the arms, where the kind is known.
+fn process_token(doc: &[u8], at: usize, line: usize) -> Entry
+    requires { ⌜ (at < length (now doc)) × (line ≤ at + 1) ⌝ }
+    ensures { λ r. ⌜ r ≡ entryAt at line (drop at (now (doc .entry))) ⌝ }
 {
     let b = doc[at];
     match b {
-        b'.' => lex_ascii_char(doc, at, line, TokenKind::Dot),
-        b'=' => lex_ascii_char(doc, at, line, TokenKind::Equals),
-        b',' => lex_ascii_char(doc, at, line, TokenKind::Comma),
-        b'[' => lex_ascii_char(doc, at, line, TokenKind::LeftSquareBracket),
-        b']' => lex_ascii_char(doc, at, line, TokenKind::RightSquareBracket),
-        b'{' => lex_ascii_char(doc, at, line, TokenKind::LeftCurlyBracket),
-        b'}' => lex_ascii_char(doc, at, line, TokenKind::RightCurlyBracket),
-        b' ' => lex_whitespace(doc, at, line),
-        b'\t' => lex_whitespace(doc, at, line),
-        b'#' => lex_comment(doc, at, line),
+        b'.' => same_line(lex_ascii_char(doc, at, line, TokenKind::Dot)),
+        b'=' => same_line(lex_ascii_char(doc, at, line, TokenKind::Equals)),
+        b',' => same_line(lex_ascii_char(doc, at, line, TokenKind::Comma)),
+        b'[' => same_line(lex_ascii_char(doc, at, line, TokenKind::LeftSquareBracket)),
+        b']' => same_line(lex_ascii_char(doc, at, line, TokenKind::RightSquareBracket)),
+        b'{' => same_line(lex_ascii_char(doc, at, line, TokenKind::LeftCurlyBracket)),
+        b'}' => same_line(lex_ascii_char(doc, at, line, TokenKind::RightCurlyBracket)),
+        b' ' => same_line(lex_whitespace(doc, at, line)),
+        b'\t' => same_line(lex_whitespace(doc, at, line)),
+        b'#' => same_line(lex_comment(doc, at, line)),
         b'\r' => lex_crlf(doc, at, line),
-        b'\n' => lex_ascii_char(doc, at, line, TokenKind::Newline),
+        b'\n' => entry_of(lex_ascii_char(doc, at, line, TokenKind::Newline), line + 1),
         b'\'' => {
             if scan::is_triple(doc, at, b'\'') {
-                lex_ml_literal_string(doc, at, line)
+                over_lines(doc, lex_ml_literal_string(doc, at, line))
             } else {
-                lex_literal_string(doc, at, line)
+                same_line(lex_literal_string(doc, at, line))
             }
         }
         b'"' => {
             if scan::is_triple(doc, at, b'"') {
-                lex_ml_basic_string(doc, at, line)
+                over_lines(doc, lex_ml_basic_string(doc, at, line))
             } else {
-                lex_basic_string(doc, at, line)
+                same_line(lex_basic_string(doc, at, line))
             }
         }
-        _ => lex_atom(doc, at, line),
+        _ => same_line(lex_atom(doc, at, line)),
     }
+}
+
+// A token's record, and the line behind the token.
+struct Entry {
+    numbers: Record,
+    line: usize,
+}
+
+fn entry_of(token: Token, line: usize) -> Entry
+    ensures { λ r. ⌜ r ≡ entryOf token line ⌝ }
+{
+    Entry {
+        numbers: token.as_record(),
+        line,
+    }
+}
+
+// Of a token that holds no LF.
+fn same_line(token: Token) -> Entry
+    ensures { λ r. ⌜ r ≡ entryOf token (token .line) ⌝ }
+{
+    entry_of(token, token.line)
+}
+
+// Of a token that may hold LFs: they are counted.
+fn over_lines(doc: &[u8], token: Token) -> Entry
+    requires { ⌜ Stands (now doc) token ⌝ }
+    ensures { λ r. ⌜ r ≡ entryOf token (lineAfter (token .line) (drop (token .span .start) (now (doc .entry)))) ⌝ }
+{
+    entry_of(token, lines::line_after(doc, token))
 }
 
 // A token of one byte.
@@ -291,15 +381,15 @@ fn lex_comment(doc: &[u8], at: usize, line: usize) -> Token
     )
 }
 
-// newline =/ %x0D.0A ; and a CR alone
-fn lex_crlf(doc: &[u8], at: usize, line: usize) -> Token
-    requires { ⌜ (at < length (now doc)) × (getD (now doc) at 0 ≡ 13) ⌝ }
-    ensures { λ r. ⌜ r ≡ tokenBy TokenKind.Newline at line (drop at (now (doc .entry))) ⌝ }
+// newline =/ %x0D.0A ; and a CR alone, which ends no line
+fn lex_crlf(doc: &[u8], at: usize, line: usize) -> Entry
+    requires { ⌜ (at < length (now doc)) × (line ≤ at + 1) × (getD (now doc) at 0 ≡ 13) ⌝ }
+    ensures { λ r. ⌜ r ≡ entryAt at line (drop at (now (doc .entry))) ⌝ }
 {
     if scan::is_at(doc, at + 1, b'\n') {
-        return token_of(TokenKind::Newline, at, at + 2, line);
+        return entry_of(token_of(TokenKind::Newline, at, at + 2, line), line + 1);
     }
-    token_of(TokenKind::Newline, at, at + 1, line)
+    entry_of(token_of(TokenKind::Newline, at, at + 1, line), line)
 }
 
 // literal-string = apostrophe *literal-char apostrophe

@@ -6,33 +6,17 @@ ghost use Rattle.lexer.specs.Lines.{lineFeeds};
 ghost use Rattle.lexer.specs.Tokens.{lineAfter};
 ghost use Rattle.lexer.specs.Scans.{Stands};
 use token::Token;
-use token::TokenKind;
 
-// The line behind a token. Only a newline and the ml kinds hold an LF, so no other is looked at.
+// The line behind a token: its own, and the LFs in it.
 pub(crate) fn line_after(doc: &[u8], token: Token) -> usize
     requires { ⌜ Stands (now doc) token ⌝ }
     ensures { λ r. ⌜ r ≡ lineAfter (token .line) (drop (token .span .start) (now (doc .entry))) ⌝ }
 {
-    let start = token.span.start;
-    let end = token.span.end;
-    let line = token.line;
-    let kind = token.kind;
-    match kind {
-        TokenKind::Newline => {
-            if doc[end - 1] == b'\n' {
-                line + 1
-            } else {
-                line
-            }
-        }
-        TokenKind::MlLiteralString => line + line_feeds(doc, start, end),
-        TokenKind::MlBasicString => line + line_feeds(doc, start, end),
-        _ => line,
-    }
+    token.line + line_feeds(doc, token.span.start, token.span.end)
 }
 
 // The LFs from a start up to an end, in blocks of 128 bytes as long as so many are left.
-fn line_feeds(doc: &[u8], start: usize, end: usize) -> usize
+pub(crate) fn line_feeds(doc: &[u8], start: usize, end: usize) -> usize
     requires { ⌜ (start ≤ end) × (end ≤ length (now doc)) ⌝ }
     ensures { λ r. ⌜ r ≡ lineFeeds (take (end - start) (drop start (now (doc .entry)))) ⌝ }
 {

@@ -27,12 +27,27 @@ pub(crate) fn wschar_run(doc: &[u8], start: usize) -> usize
     i
 }
 
-// Over the bytes of an atom.
+// Over the bytes of an atom, four to a turn as long as so many are left.
 pub(crate) fn atom_run(doc: &[u8], start: usize) -> usize
     requires { ⌜ start ≤ length (now doc) ⌝ }
     ensures { λ r. ⌜ r ≡ start + run inAtom (drop start (now (doc .entry))) ⌝ }
 {
     let mut i = start;
+    while 4 <= doc.len() - i {
+        if classes::is_token_start(doc[i]) {
+            return i;
+        }
+        if classes::is_token_start(doc[i + 1]) {
+            return i + 1;
+        }
+        if classes::is_token_start(doc[i + 2]) {
+            return i + 2;
+        }
+        if classes::is_token_start(doc[i + 3]) {
+            return i + 3;
+        }
+        i += 4;
+    }
     while i < doc.len() {
         if classes::is_token_start(doc[i]) {
             return i;
@@ -57,51 +72,112 @@ pub(crate) fn find_slice(doc: &[u8], start: usize, a: u8, b: u8, c: u8) -> usize
     i
 }
 
-// Over blocks of sixteen bytes with none of the three: a place from which the search goes on.
+// Over the bytes that are none of the three, as long as whole blocks are left: a place from which the search goes on.
+// Where two of them are the same, two are looked for.
 fn find_block(doc: &[u8], start: usize, a: u8, b: u8, c: u8) -> usize
     requires { ⌜ start ≤ length (now doc) ⌝ }
     ensures { λ r. ⌜ SameEnd (run (noneOf a b c)) (now (doc .entry)) start r ⌝ }
 {
+    if b == c {
+        return find_pair(doc, start, a, b);
+    }
+    if a == b {
+        return find_pair(doc, start, c, a);
+    }
     let mut i = start;
-    while 16 <= doc.len() - i {
-        if !is_clear(doc, i, a, b, c) {
-            return i;
+    while 32 <= doc.len() - i {
+        let n = clear_bytes(doc, i, a, b, c);
+        if n < 32 {
+            return i + n;
         }
-        i += 16;
+        i += 32;
     }
     i
 }
 
-// Whether the sixteen bytes from i on have none of the three: a flag for each byte that is looked
-// for, and no branch among them, so that the compiler tests the sixteen at once.
-fn is_clear(doc: &[u8], i: usize, a: u8, b: u8, c: u8) -> bool
-    requires { ⌜ i + 16 ≤ length (now doc) ⌝ }
-    ensures { λ r. ⌜ (r ≡ true → Block (noneOf a b c) (now (doc .entry)) i 16) ⌝ }
+// The same for two.
+fn find_pair(doc: &[u8], start: usize, a: u8, b: u8) -> usize
+    requires { ⌜ start ≤ length (now doc) ⌝ }
+    ensures { λ r. ⌜ SameEnd (run (noneOf a b b)) (now (doc .entry)) start r ⌝ }
 {
-    let mut has_a = false;
-    let mut has_b = false;
-    let mut has_c = false;
+    let mut i = start;
+    while 48 <= doc.len() - i {
+        let n = clear_of_pair(doc, i, a, b);
+        if n < 48 {
+            return i + n;
+        }
+        i += 48;
+    }
+    i
+}
+
+// How many of the 32 bytes from i on are none of the three, before the first that is one: the least of 32 places,
+// counted in a byte, so that the compiler takes sixteen at once. A shorter block it would unroll.
+fn clear_bytes(doc: &[u8], i: usize, a: u8, b: u8, c: u8) -> usize
+    requires { ⌜ i + 32 ≤ length (now doc) ⌝ }
+    ensures { λ r. ⌜ (r ≤ 32) × Block (noneOf a b c) (now (doc .entry)) i r ⌝ }
+{
+    let mut first: u8 = 32;
+    let mut k: u8 = 0;
     let mut j = 0;
-    while j < 16 {
-        let x = doc[i + j];
-        if x == a {
-            has_a = true;
-        }
-        if x == b {
-            has_b = true;
-        }
-        if x == c {
-            has_c = true;
-        }
+    while j < 32 {
+        first = least(place_of(doc[i + j], a, b, c, k), first);
+        k += 1;
         j += 1;
     }
-    if has_a {
-        return false;
+    first as usize
+}
+
+// The same for two, of 48 bytes.
+fn clear_of_pair(doc: &[u8], i: usize, a: u8, b: u8) -> usize
+    requires { ⌜ i + 48 ≤ length (now doc) ⌝ }
+    ensures { λ r. ⌜ (r ≤ 48) × Block (noneOf a b b) (now (doc .entry)) i r ⌝ }
+{
+    let mut first: u8 = 48;
+    let mut k: u8 = 0;
+    let mut j = 0;
+    while j < 48 {
+        first = least(place_of_pair(doc[i + j], a, b, k), first);
+        k += 1;
+        j += 1;
     }
-    if has_b {
-        return false;
+    first as usize
+}
+
+// The place k where x is one of the three, else the end of the block.
+fn place_of(x: u8, a: u8, b: u8, c: u8, k: u8) -> u8
+    requires { ⌜ k ≤ 32 ⌝ }
+    ensures { λ r. ⌜ (r ≤ 32) × (k < r → noneOf a b c x ≡ true) ⌝ }
+{
+    if x == a {
+        return k;
     }
-    !has_c
+    if x == b {
+        return k;
+    }
+    if x == c {
+        return k;
+    }
+    32
+}
+
+fn place_of_pair(x: u8, a: u8, b: u8, k: u8) -> u8
+    requires { ⌜ k ≤ 48 ⌝ }
+    ensures { λ r. ⌜ (r ≤ 48) × (k < r → noneOf a b b x ≡ true) ⌝ }
+{
+    if x == a {
+        return k;
+    }
+    if x == b {
+        return k;
+    }
+    48
+}
+
+fn least(a: u8, b: u8) -> u8
+    ensures { λ r. ⌜ (r ≤ a) × (r ≤ b) ⌝ }
+{
+    if a < b { a } else { b }
 }
 
 fn is_one_of(x: u8, a: u8, b: u8, c: u8) -> bool
@@ -125,9 +201,11 @@ pub(crate) fn line_tail(doc: &[u8], start: usize, q: u8) -> usize
     let escape = escape_of(q);
     let mut i = start;
     while i < doc.len() {
-        i = find_slice(doc, i, q, escape, b'\n');
-        if i == doc.len() {
-            return i;
+        if !is_one_of(doc[i], q, escape, b'\n') {
+            i = find_slice(doc, i, q, escape, b'\n');
+            if i == doc.len() {
+                return i;
+            }
         }
         let b = doc[i];
         if b == q {
@@ -144,7 +222,28 @@ pub(crate) fn line_tail(doc: &[u8], start: usize, q: u8) -> usize
         if doc[i] == b'\n' {
             return i;
         }
+        i = near(doc, i + 1, q, escape);
+    }
+    i
+}
+
+// Over eight bytes at most that are none of the three, one by one: behind an escape the next is often near, and a block would
+// be read in vain. A place from which the search goes on.
+fn near(doc: &[u8], start: usize, q: u8, escape: u8) -> usize
+    requires { ⌜ start ≤ length (now doc) ⌝ }
+    ensures { λ r. ⌜ (start ≤ r) × SameEnd (run (noneOf q escape 10)) (now (doc .entry)) start r ⌝ }
+{
+    let mut i = start;
+    let mut n: usize = 0;
+    while n < 8 {
+        if i == doc.len() {
+            return i;
+        }
+        if is_one_of(doc[i], q, escape, b'\n') {
+            return i;
+        }
         i += 1;
+        n += 1;
     }
     i
 }

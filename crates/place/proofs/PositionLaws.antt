@@ -1,6 +1,6 @@
 -- Columns at a place, for the loop that counts them, and what a column is of any bytes, UTF-8 or not.
 -- Assumes nothing.
-use Prim.Native.Nat.{ℕ, suc, _+_, _≤_, _<_}
+use Prim.Native.Nat.{ℕ, zero, suc, _+_, _-_, _≤_, _<_}
 use mathlib.Core.Path.{_≡_, ap, _∙_}
 use mathlib.Core.Bool.{Bool, true, false, cond}
 use mathlib.Core.List.{List, [], _∷_, _++_}
@@ -9,7 +9,7 @@ use native.Mathlib.Numerals.{add-one}
 use borrow.Author.Tests.{eq-eqb, ne-eqb}
 use lib.Dec.{eqb}
 use lib.ListN.{length, getD, drop, drop-of-length-le}
-use lib.Seq.{drop-cons}
+use lib.Seq.{drop-cons, drop-drop, getD-drop}
 use Rattle.classes.specs.Classes.{continuation}
 use Rattle.place.specs.Positions.{columnBehind}
 
@@ -22,10 +22,7 @@ module _ (s : List ℕ) (i : ℕ) (h : i < length s) where
   unfolding columnBehind
   column-at c d e = rw (add-one, drop-cons s i 0) (ap (λ (k : ℕ). columnBehind k (drop (suc i) s)) e)
 
-  -- an LF, a byte that begins a character, and one inside a character
-  pub column-at-lf : (c : ℕ) → getD s i 0 ≡ 10 → columnBehind c (drop i s) ≡ columnBehind 1 (drop (i + 1) s)
-  column-at-lf c e = column-at c 1 (rw (eq-eqb (getD s i 0) 10 e))
-
+  -- a byte that begins a character, and one inside a character
   pub column-at-char : (c : ℕ) → (getD s i 0 ≡ 10 → ⊥) → continuation (getD s i 0) ≡ false
       → columnBehind c (drop i s) ≡ columnBehind (c + 1) (drop (i + 1) s)
   column-at-char c e t = column-at c (c + 1) (rw (ne-eqb (getD s i 0) 10 e, t))
@@ -33,6 +30,22 @@ module _ (s : List ℕ) (i : ℕ) (h : i < length s) where
   pub column-inside : (c : ℕ) → (getD s i 0 ≡ 10 → ⊥) → continuation (getD s i 0) ≡ true
       → columnBehind c (drop i s) ≡ columnBehind c (drop (i + 1) s)
   column-inside c e t = column-at c c (rw (ne-eqb (getD s i 0) 10 e, t))
+
+-- the column behind an LF does not depend on what stands before
+lf-resets : (k c : ℕ) (s : List ℕ) → getD s k 0 ≡ 10 → columnBehind c s ≡ columnBehind 1 (drop (suc k) s)
+unfolding columnBehind
+lf-resets k c [] e = absurd (omega arith)
+lf-resets zero c (b ∷ s) e = ap (λ (n : ℕ). columnBehind n s) (rw (eq-eqb b 10 e))
+lf-resets (suc k) c (b ∷ s) e = lf-resets k (turned b c) s e
+
+pub column-behind-lf : (s : List ℕ) (a i c : ℕ) → a < i → getD s (i - 1) 0 ≡ 10
+    → columnBehind c (drop a s) ≡ columnBehind 1 (drop i s)
+column-behind-lf s a i c h e =
+    let k = i - 1 - a in
+    let same : a + k ≡ i - 1 = omega arith in
+    let on : a + suc k ≡ i = omega arith in
+    lf-resets k c (drop a s) (getD-drop a s k 0 ∙ ap (λ (n : ℕ). getD s n 0) same ∙ e)
+    ∙ ap (columnBehind 1) (drop-drop (suc k) a s ∙ ap (λ (n : ℕ). drop n s) on)
 
 pub column-end : (s : List ℕ) (i : ℕ) → length s ≤ i → (c : ℕ) → columnBehind c (drop i s) ≡ c
 unfolding columnBehind

@@ -4,7 +4,7 @@ ghost use mathlib.Core.Path.{_≡_};
 ghost use Prim.Native.Nat.{_≤_};
 ghost use lib.ListN.{length, getD};
 ghost use Rattle.place.specs.Spans.{inside, spanAnswer, spanNumber, spanValue, spanRefusal, spanReturned, spanText};
-ghost use Rattle.place.specs.Positions.{positionAnswer, positionNumber, positionValue, positionRefusal, positionReturned};
+ghost use Rattle.place.specs.Positions.{columnOf, positionAnswer, positionNumber, positionValue, positionRefusal, positionReturned};
 use text::LIMIT;
 use text::Refusal;
 use token::Span;
@@ -83,19 +83,29 @@ pub fn position_of(doc: &[u8], offset: usize) -> Position
     if doc.len() < offset {
         return Position::Refused(Refusal::OutOfPlace { length: doc.len() });
     }
-    let mut line: usize = 1;
+    let line = lexer::line_of(doc, offset);
+    let column = column_of(doc, offset);
+    Position::At { line, column }
+}
+
+// The column of an offset: the characters that begin behind the last LF before it, found from the
+// offset back. A byte order mark has no column, and no LF.
+fn column_of(doc: &[u8], offset: usize) -> usize
+    requires { ⌜ offset ≤ length (now doc) ⌝ }
+    ensures { λ r. ⌜ r ≡ columnOf (now (doc .entry)) offset ⌝ }
+{
+    let first = lexer::start_of(doc);
     let mut column: usize = 1;
-    // A byte order mark has no column, and no LF.
-    let mut i = lexer::start_of(doc);
-    while i < offset {
-        let b = doc[i];
+    let mut i = offset;
+    while first < i {
+        let b = doc[i - 1];
         if b == b'\n' {
-            line += 1;
-            column = 1;
-        } else if !classes::is_continuation(b) {
+            return column;
+        }
+        if !classes::is_continuation(b) {
             column += 1;
         }
-        i += 1;
+        i -= 1;
     }
-    Position::At { line, column }
+    column
 }

@@ -6,6 +6,7 @@ pub mod BodyLaws
 pub mod MarkLaws
 pub mod LoopLaws
 pub mod DecodeLaws
+pub mod PlainLaws
 pub mod NumberLaws
 pub mod Bounds
 pub mod AsciiLaws

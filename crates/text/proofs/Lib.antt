@@ -4,6 +4,7 @@ pub mod ReadLaws
 pub mod LeadLaws
 pub mod OnesLaws
 pub mod BegunLaws
+pub mod CharLaws
 pub mod FaultLaws
 pub mod CutLaws
 pub mod AnswerLaws

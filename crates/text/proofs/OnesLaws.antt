@@ -1,6 +1,6 @@
 -- The leading ones of a first byte tell what table 3-7 says of it: one test, computed over all bytes.
 -- Assumes nothing.
-use Prim.Native.Nat.{ℕ, _-_, _≤_, _<_}
+use Prim.Native.Nat.{ℕ, _≤_, _<_}
 use mathlib.Core.Path.{_≡_, refl, _∙_}
 use mathlib.Core.Bool.{cond}
 use native.Mathlib.Omega.{arith}
@@ -8,13 +8,9 @@ use lib.Count.{leadingZeros}
 use lib.Dec.{ltb, eqb}
 use borrow.Author.Tests.{lt-ltb, le-ltb, eq-eqb, ne-eqb}
 use Rattle.text.specs.declared.utf8.Lead.{Lead}
-use Rattle.text.specs.Lead.{row, leadOf}
+use Rattle.text.specs.Lead.{row, leadOf, onesOf}
 use Rattle.classes.proofs.Conds.{by-lt, by-eq}
 use Rattle.text.proofs.LeadLaws.{leads-agree}
-
--- they are the leading zeros of its complement
-abbrev pub onesOf : ℕ → ℕ
-onesOf a = leadingZeros 8 (255 - a)
 
 -- what a byte says that has n of them, two to four: n is its length, but for what the table leaves out
 abbrev beyond : ℕ → ℕ → Lead
@@ -34,6 +30,53 @@ byOnes n a = cond (eqb n 0) (row 1 0 0) (cond (ltb n 2) (row 0 0 0) (cond (ltb 4
 by-ones : (a : ℕ) → a < 256 → byOnes (onesOf a) a ≡ leadOf a
 unfolding leadOf leadingZeros
 by-ones a h = leads-agree (λ b. byOnes (onesOf b) b) leadOf 0 256 tt a (omega arith) h
+
+-- ---- the tests of the code that has four bytes before it
+
+abbrev byTests : ℕ → Lead
+byTests a =
+    cond (ltb (onesOf a) 3) (cond (ltb a 0xC2) (leadOf a) (row 2 0x80 0xBF))
+    (cond (eqb (onesOf a) 3)
+    (cond (eqb a 0xE0) (row 3 0xA0 0xBF) (cond (eqb a 0xED) (row 3 0x80 0x9F) (row 3 0x80 0xBF)))
+    (cond (eqb a 0xF0) (row 4 0x90 0xBF)
+    (cond (ltb a 0xF4) (row 4 0x80 0xBF) (cond (eqb a 0xF4) (row 4 0x80 0x8F) (leadOf a)))))
+
+by-tests : (a : ℕ) → a < 256 → byTests a ≡ leadOf a
+unfolding leadOf leadingZeros
+by-tests a h = leads-agree byTests leadOf 0 256 tt a (omega arith) h
+
+module _ (a : ℕ) (h : a < 256) where
+  pub two-ones : onesOf a < 3 → 0xC2 ≤ a → row 2 0x80 0xBF ≡ leadOf a
+  two-ones l g = simp (lt-ltb _ _ l, le-ltb _ _ g) at (by-tests a h)
+
+  module _ (e : onesOf a ≡ 3) where
+    more-than-two : 3 ≤ onesOf a
+    more-than-two = omega arith
+
+    pub three-e0 : a ≡ 0xE0 → row 3 0xA0 0xBF ≡ leadOf a
+    three-e0 k = simp (le-ltb _ _ more-than-two, eq-eqb _ _ e, eq-eqb _ _ k) at (by-tests a h)
+
+    pub three-ed : (a ≡ 0xE0 → ⊥) → a ≡ 0xED → row 3 0x80 0x9F ≡ leadOf a
+    three-ed m k = simp (le-ltb _ _ more-than-two, eq-eqb _ _ e, ne-eqb _ _ m, eq-eqb _ _ k) at (by-tests a h)
+
+    pub three-rest : (a ≡ 0xE0 → ⊥) → (a ≡ 0xED → ⊥) → row 3 0x80 0xBF ≡ leadOf a
+    three-rest m k = simp (le-ltb _ _ more-than-two, eq-eqb _ _ e, ne-eqb _ _ m, ne-eqb _ _ k) at (by-tests a h)
+
+  module _ (l : 3 < onesOf a) where
+    at-least : 3 ≤ onesOf a
+    at-least = omega arith
+
+    not-three : onesOf a ≡ 3 → ⊥
+    not-three e = omega arith
+
+    pub four-f0 : a ≡ 0xF0 → row 4 0x90 0xBF ≡ leadOf a
+    four-f0 k = simp (le-ltb _ _ at-least, ne-eqb _ _ not-three, eq-eqb _ _ k) at (by-tests a h)
+
+    pub four-mid : (a ≡ 0xF0 → ⊥) → a < 0xF4 → row 4 0x80 0xBF ≡ leadOf a
+    four-mid m k = simp (le-ltb _ _ at-least, ne-eqb _ _ not-three, ne-eqb _ _ m, lt-ltb _ _ k) at (by-tests a h)
+
+    pub four-f4 : (a ≡ 0xF0 → ⊥) → 0xF4 ≤ a → a ≡ 0xF4 → row 4 0x80 0x8F ≡ leadOf a
+    four-f4 m g k = simp (le-ltb _ _ at-least, ne-eqb _ _ not-three, ne-eqb _ _ m, le-ltb _ _ g, eq-eqb _ _ k) at (by-tests a h)
 
 -- ---- the cases of the code
 

@@ -4,6 +4,7 @@
 use Prim.Native.Nat.{ℕ, _+_, _-_, _≤_}
 use mathlib.Core.Path.{_≡_}
 use mathlib.Core.Bool.{Bool, cond, _&&_}
+use lib.Count.{leadingZeros}
 use mathlib.Core.List.{List}
 use lib.Dec.{ltb, leb, eqb}
 use lib.ListN.{length, getD}
@@ -30,6 +31,21 @@ leadOf a =
 -- from the first number to the second, both counted in
 abbrev pub Among : ℕ → ℕ → ℕ → Type 0
 Among low high b = (low ≤ b) × (b ≤ high)
+
+-- the leading ones of a byte: the leading zeros of its complement
+abbrev pub onesOf : ℕ → ℕ
+onesOf a = leadingZeros 8 (255 - a)
+
+-- the first byte a says that its character has n bytes, and the second is as it asks
+abbrev pub Asked : ℕ → ℕ → ℕ → Type 0
+Asked a n b = (leadOf a .0 ≡ n) × Among (leadOf a .1) (leadOf a .2) b
+
+-- a character of n bytes stands in front of four: a, b, c and d
+pub record Whole (a b c d n : ℕ) : Type 0 where
+  pub some : (2 ≤ n) × (n ≤ 4)
+  pub asked : Asked a n b
+  pub third : 3 ≤ n → Among 0x80 0xBF c
+  pub fourth : 4 ≤ n → Among 0x80 0xBF d
 
 -- r bytes, of `left` that are there, are as the first one asks; the next one is not, or is not asked for, or is not there.
 -- The second to the fourth byte are b, c and d.

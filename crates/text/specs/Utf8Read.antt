@@ -60,3 +60,7 @@ pub record Passed (s : List ℕ) (at r : ℕ) : Type 0 where
   pub whole : at + validPrefix (drop at s) ≡ r + validPrefix (drop r s)
   pub forward : at ≤ r
   pub stuck : r ≡ at → validPrefix (drop at s) ≡ 0
+
+-- whole characters stand from `start` up to r
+abbrev pub Along : List ℕ → ℕ → ℕ → Type 0
+Along s start r = (start ≤ r) × (r ≤ length s) × (start + validPrefix (drop start s) ≡ r + validPrefix (drop r s))

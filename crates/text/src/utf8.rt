@@ -7,8 +7,8 @@ ghost use lib.ListN.{length, drop};
 ghost use Rattle.classes.specs.Runs.{run};
 ghost use Rattle.classes.proofs.RunLaws.{Block, SameEnd};
 ghost use Rattle.text.specs.Utf8.{encodeScalar};
-ghost use Rattle.text.specs.Utf8Read.{isScalar, ascii, charLen, Passed};
-ghost use Rattle.text.specs.Lead.{leadOf, Among, BegunAt, faultLen};
+ghost use Rattle.text.specs.Utf8Read.{isScalar, ascii, charLen, Passed, Along};
+ghost use Rattle.text.specs.Lead.{leadOf, onesOf, Among, Asked, Whole, BegunAt, faultLen};
 ghost use Rattle.text.specs.Answers.{padded, encodedOf, checkOf};
 ghost use Rattle.text.specs.Answers.{checkNumber, checkValue, checkLength, checkRefusal, checkReturned, checkFault};
 use crate::refusal::LIMIT;
@@ -51,7 +51,115 @@ fn passed(s: &[u8], at: usize) -> usize
     if s[at] < 0x80 {
         return ascii_run(s, at);
     }
+    let behind = chars_run(s, at);
+    if at < behind {
+        return behind;
+    }
     at + char_at(s, at)
+}
+
+// Over whole characters as long as four bytes are there to be read, so that none is asked for that is not there; up to
+// four in a row of ASCII, which `ascii_run` is quicker over.
+fn chars_run(s: &[u8], start: usize) -> usize
+    requires { ⌜ start ≤ length (now s) ⌝ }
+    ensures { λ r. ⌜ Along (now (s .entry)) start r ⌝ }
+{
+    let mut i = start;
+    while 4 <= s.len() - i {
+        let a = s[i];
+        if a < 0x80 {
+            if is_ascii_next(s, i) {
+                return i;
+            }
+            i += 1;
+        } else {
+            let n = whole(a, s[i + 1], s[i + 2], s[i + 3]);
+            if n == 0 {
+                return i;
+            }
+            i += n;
+        }
+    }
+    i
+}
+
+// Whether the three bytes behind i are ASCII.
+fn is_ascii_next(s: &[u8], i: usize) -> bool
+    requires { ⌜ i + 4 ≤ length (now s) ⌝ }
+{
+    if 0x80 <= s[i + 1] {
+        return false;
+    }
+    if 0x80 <= s[i + 2] {
+        return false;
+    }
+    s[i + 3] < 0x80
+}
+
+// The length of the character that four bytes begin with, beyond ASCII: the count of leading ones; 0 where none begins
+// so. Tests of constants, so that the compiler makes a comparison of each.
+fn whole(a: u8, b: u8, c: u8, d: u8) -> usize
+    requires { ⌜ 0x80 ≤ a ⌝ }
+    ensures { λ r. ⌜ (0 < r → Whole a b c d r) ⌝ }
+{
+    let ones = u8::leading_zeros(!a) as usize;
+    if ones < 3 {
+        if a < 0xC2 {
+            return 0;
+        }
+        if !is_among(b, 0x80, 0xBF) {
+            return 0;
+        }
+        return 2;
+    }
+    if ones == 3 {
+        if !is_second_of_three(a, b) {
+            return 0;
+        }
+        if !is_among(c, 0x80, 0xBF) {
+            return 0;
+        }
+        return 3;
+    }
+    if !is_second_of_four(a, b) {
+        return 0;
+    }
+    if !is_among(c, 0x80, 0xBF) {
+        return 0;
+    }
+    if !is_among(d, 0x80, 0xBF) {
+        return 0;
+    }
+    4
+}
+
+fn is_second_of_three(a: u8, b: u8) -> bool
+    requires { ⌜ onesOf a ≡ 3 ⌝ }
+    ensures { λ r. ⌜ (r ≡ true → Asked a 3 b) ⌝ }
+{
+    if a == 0xE0 {
+        return is_among(b, 0xA0, 0xBF);
+    }
+    if a == 0xED {
+        return is_among(b, 0x80, 0x9F);
+    }
+    is_among(b, 0x80, 0xBF)
+}
+
+fn is_second_of_four(a: u8, b: u8) -> bool
+    requires { ⌜ 3 < onesOf a ⌝ }
+    ensures { λ r. ⌜ (r ≡ true → Asked a 4 b) ⌝ }
+{
+    if a == 0xF0 {
+        return is_among(b, 0x90, 0xBF);
+    }
+    if a < 0xF4 {
+        return is_among(b, 0x80, 0xBF);
+    }
+    if a == 0xF4 {
+        return is_among(b, 0x80, 0x8F);
+    }
+    false
 }
 
 // The place of the first byte from `start` on that is not ASCII, or the end.

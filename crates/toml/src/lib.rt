@@ -12,7 +12,7 @@ ghost use Rattle.place.specs.Spans.{spanAnswer, spanText};
 ghost use Rattle.place.specs.Positions.{positionAnswer};
 ghost use Rattle.toml.specs.Numbers.{flag, given, refusedBy, toldBy, cursorNumbers, noToken, partFrom};
 ghost use Rattle.toml.specs.Numbers.{checkNumbers, startNumbers, stepNumbers, lexNumbers, spanNumbers, partOf, partText};
-ghost use Rattle.toml.specs.Numbers.{positionNumbers, decodeAnswer, outputAfter, errorsAfter, describedNumbers, encodedNumbers};
+ghost use Rattle.toml.specs.Numbers.{positionNumbers, decodeNumbers, decodeAnswer, outputAfter, errorsAfter, describedNumbers, encodedNumbers};
 use lexer::Cursor;
 use lexer::Lexed;
 use lexer::Start;
@@ -20,7 +20,6 @@ use lexer::Step;
 use place::Position;
 use place::SpanCheck;
 use strings::Decoded;
-use strings::Edition;
 use text::Refusal;
 use text::Utf8Check;
 use token::Answer;
@@ -224,7 +223,7 @@ pub extern "C" fn toml_decode(
     ensures records { λ _. ⌜ now (errors .exit)
         ≡ errorsAfter (now (text .entry)) 10 kind (now (output .entry)) (now (errors .entry)) ⌝ }
 {
-    toml_decode_in(text, Edition::TOML_10, kind, output, errors)
+    decode_numbers(decoder::decode(text, kind, output, errors))
 }
 
 // The same in the edition of TOML that a number names: 10 for TOML 1.0, 11 for TOML 1.1.
@@ -242,16 +241,7 @@ pub extern "C" fn toml_decode_in(
     ensures records { λ _. ⌜ now (errors .exit)
         ≡ errorsAfter (now (text .entry)) edition kind (now (output .entry)) (now (errors .entry)) ⌝ }
 {
-    match decoder::decode_in(text, edition, kind, output, errors) {
-        Decoded::Written { bytes, errors } => DecodedText {
-            answer: answer_of(bytes),
-            errors,
-        },
-        Decoded::Refused(r) => DecodedText {
-            answer: refused(r),
-            errors: 0,
-        },
-    }
+    decode_numbers(decoder::decode_in(text, edition, kind, output, errors))
 }
 
 #[no_mangle]
@@ -297,6 +287,21 @@ fn refused(r: Refusal) -> Answered
         refusal: r.number(),
         value: r.value(),
         length: r.length(),
+    }
+}
+
+fn decode_numbers(d: Decoded) -> DecodedText
+    ensures { λ r. ⌜ r ≡ decodeNumbers d ⌝ }
+{
+    match d {
+        Decoded::Written { bytes, errors } => DecodedText {
+            answer: answer_of(bytes),
+            errors,
+        },
+        Decoded::Refused(r) => DecodedText {
+            answer: refused(r),
+            errors: 0,
+        },
     }
 }
 

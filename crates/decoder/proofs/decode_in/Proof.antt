@@ -1,40 +1,18 @@
--- `decode_in` is right because it asks in the order of the refusals: the check, then kind and edition, then the lent memory.
+-- `decode_in` is right because a plain text decodes to its body in either edition, and any other is decoded as it stands.
 -- Assumes nothing.
-use mathlib.Core.Path.{refl, sym, _∙_}
 use borrow.Author.Needs.{needs}
 use lib.ListN.{length}
-use Rattle.text.proofs.AnswerLaws.{checked}
-use Rattle.strings.proofs.DecodeLaws.{decode-invalid, decode-valid}
 use Rattle.strings.proofs.NumberLaws.{decoded}
+use Rattle.strings.proofs.PlainLaws.{copied-some, copied-none, plain-decodes, plain-answer, plain-output, plain-records}
+use borrow.Author.Tests.{not-false}
 use Rattle.decoder.proofs.decode_in.Statement.{statement}
 use Rattle.decoder.proofs.decode_in.Tie as tie
 
-check-utf8-requires : tie.Need-check-utf8-requires
-check-utf8-requires c κs = search needs
+is-edition-requires : tie.Need-is-edition-requires
+is-edition-requires c κs = search needs
 
-enum-known-check : tie.Need-enum-known-check
-enum-known-check c = search needs
-
-enum-told : tie.Need-enum-told
-enum-told c = search needs
-
-choice-by-requires : tie.Need-choice-by-requires
-choice-by-requires c κs = search needs
-
-decode-by-requires : tie.Need-decode-by-requires
-decode-by-requires c κs =
-    let t = c .before .before .before .before .before .before .before .before .args .text .now in
-    let checks = c .before .before .before .before .before .check-utf8 .ensures .0 in
-    checked t (sym checks ∙ c .before .before .before .enum-told .given .1) .0
-
-returns : tie.Need-returns
-returns c =
-    let a = c .before .before .before .before .before .before .args in
-    let refused = sym (c .before .check .given .1) ∙ c .before .before .before .check-utf8 .ensures .0 in
-    let o = length (a .output .now) in
-    let e = length (a .errors .now) in
-    let answer = decode-invalid (a .text .now) (a .edition) (a .kind) o e _ refused in
-    decoded (a .text .now) (a .edition) (a .kind) o e _ answer refl refl
+decode-checked-requires : tie.Need-decode-checked-requires
+decode-checked-requires c κs = search needs
 
 same-length : tie.Need-same-length
 same-length c = search needs
@@ -42,28 +20,59 @@ same-length c = search needs
 same-length-2 : tie.Need-same-length-2
 same-length-2 c = search needs
 
+returns : tie.Need-returns
+returns c =
+    let a = c .before .before .before .before .before .before .before .before .before .before .args in
+    let d = c .before .before .before .decode-checked .ensures in
+    decoded (a .text .now) (a .edition) (a .kind) (length (a .output .now)) (length (a .errors .now)) _ (d .0) (d .1 .0) (d .1 .1)
+
+copy-plain-requires : tie.Need-copy-plain-requires
+copy-plain-requires c κs = search needs
+
+same-length-3 : tie.Need-same-length-3
+same-length-3 c = search needs
+
 returns-2 : tie.Need-returns-2
 returns-2 c =
-    let a = c .before .before .before .before .before .before .before .before .before .before .before .before .args in
-    let checks = c .before .before .before .before .before .before .before .before .before .check-utf8 .ensures .0 in
-    let valid = sym (c .before .before .before .before .before .before .before .enum-told .given .1) ∙ checks in
-    let d = c .before .before .before .decode-by in
-    let chosen = c .before .before .before .before .before .before .choice-by .ensures in
+    let a = c .before .before .before .before .before .before .before .before .before .args in
+    let k = copied-some (c .before .before .before .copy-plain .ensures) (c .if2 .taken) in
+    let d = plain-decodes (a .text .now) (a .edition) (a .kind) _ (c .before .before .before .before .before .before .is-edition .ensures (not-false _ (c .before .before .before .before .before .if1 .left))) (k .1) (k .0) in
     let o = length (a .output .now) in
     let e = length (a .errors .now) in
-    let answer = rw chosen at (d .ensures .0) ∙ decode-valid (a .text .now) (a .edition) (a .kind) o e valid in
-    decoded (a .text .now) (a .edition) (a .kind) o e _ answer (rw chosen at (d .ensures .1 .0)) (rw chosen at (d .ensures .1 .1))
+    let answer = plain-answer (k .1) d o e (k .2) in
+    decoded (a .text .now) (a .edition) (a .kind) o e _ answer (plain-output (k .1) d _ _ (k .3)) (plain-records (k .1) d (a .errors .now))
+
+decode-checked-requires-2 : tie.Need-decode-checked-requires-2
+decode-checked-requires-2 c κs = search needs
+
+same-length-4 : tie.Need-same-length-4
+same-length-4 c = search needs
+
+same-length-5 : tie.Need-same-length-5
+same-length-5 c = search needs
+
+returns-3 : tie.Need-returns-3
+returns-3 c =
+    let a = c .before .before .before .before .before .before .before .before .before .before .before .before .before .before .before .args in
+    let d = c .before .before .before .decode-checked2 .ensures in
+    let kept = copied-none (c .before .before .before .before .before .before .before .before .before .copy-plain .ensures) (c .before .before .before .before .before .before .if2 .left) in
+    let o = length (a .output .now) in
+    let e = length (a .errors .now) in
+    decoded (a .text .now) (a .edition) (a .kind) o e _ (rw kept at (d .0)) (rw kept at (d .1 .0)) (d .1 .1)
 
 pub decode-in-spec : {M : Type 1} → statement M
 decode-in-spec =
     tie.close
     (tie.spec
-    check-utf8-requires
-    enum-known-check
-    enum-told
-    choice-by-requires
-    decode-by-requires
-    returns
+    is-edition-requires
+    decode-checked-requires
     same-length
     same-length-2
-    returns-2)
+    returns
+    copy-plain-requires
+    same-length-3
+    returns-2
+    decode-checked-requires-2
+    same-length-4
+    same-length-5
+    returns-3)

@@ -1,7 +1,7 @@
 -- `fill` is right because the tokens that begin before the end of the document are stored first, and Eof behind them.
 -- Assumes nothing.
 use Prim.Native.Nat.{ℕ, _+_}
-use mathlib.Core.Path.{_≡_, ap, _∙_}
+use mathlib.Core.Path.{_≡_, refl, ap, _∙_}
 use mathlib.Core.List.{List}
 use Rattle.token.specs.Records.{recordOf}
 use Rattle.lexer.specs.Whole.{tokenCount}
@@ -26,7 +26,7 @@ passed : (u : tie.After-lex-until)
     → AllPassed (doc u) (u .before .before .start-of .result) (u .lex-until .result) (old u) (new u)
 passed u =
     let is = u .lex-until .ensures in
-    record { by = u .before .before .start-of .ensures; count = is .0; behind = is .1 .0; stores = is .1 .1 }
+    record { by = u .before .before .start-of .ensures; count = is .0; behind = is .1 .0; stores = is .1 .1 .1 }
 
 all : (u : tie.After-lex-until) → u .lex-until .result .count + 1 ≡ tokenCount (doc u)
 all u = counted (doc u) _ _ (passed u .by) (passed u .count)
@@ -35,7 +35,10 @@ start-of-requires : tie.Need-start-of-requires
 start-of-requires c κs = search needs
 
 lex-until-requires : tie.Need-lex-until-requires
-lex-until-requires c κs = omega (arith, start-fits (c .before .before .before .args .doc .now))
+lex-until-requires c κs =
+    let doc = c .before .before .before .args .doc .now in
+    let start = c .before .start-of in
+    omega (arith, start-fits doc, counted doc (start .result) _ (start .ensures) refl)
 
 token-of-requires : tie.Need-token-of-requires
 token-of-requires c κs = search needs

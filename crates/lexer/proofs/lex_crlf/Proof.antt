@@ -1,11 +1,26 @@
 -- `lex_crlf` is right because a CR stands at its place, and it asks for the LF behind it.
 -- Assumes nothing.
-use mathlib.Core.Path.{sym, _∙_}
-use Rattle.lexer.specs.Table.{extent}
+use Prim.Native.Nat.{_+_}
+use mathlib.Core.Path.{_≡_, refl, sym, _∙_}
+use lib.ListN.{drop}
+use borrow.Author.Tests.{eqb-true}
+use Rattle.classes.specs.Classes.{wschar}
+use Rattle.token.specs.declared.TokenKind.the-variants.{Newline}
+use Rattle.lexer.specs.Extents.{newlineTail}
+use Rattle.lexer.specs.Table.{kindBy, extent}
+use Rattle.lexer.specs.Tokens.{tokenBy}
+use Rattle.lexer.proofs.KindLaws.{KindThere}
 use Rattle.lexer.proofs.MarkLaws.{newlineTail-at}
+use Rattle.lexer.proofs.EntryLaws.{entry-lf, entry-cr}
 use borrow.Author.Needs.{needs}
+use native.Mathlib.Omega.{arith}
 use Rattle.lexer.proofs.lex_crlf.Statement.{statement}
 use Rattle.lexer.proofs.lex_crlf.Tie as tie
+
+-- a newline begins with a CR
+newline : (c : tie.Start) → KindThere (c .args .doc .now) (c .args .at) Newline
+unfolding kindBy wschar
+newline c = rw (c .pre .2)
 
 add-is-at : tie.Need-add-is-at
 add-is-at c = search needs
@@ -19,11 +34,24 @@ add-token-of c = search needs
 token-of-requires : tie.Need-token-of-requires
 token-of-requires c κs = search needs
 
+add-entry-of : tie.Need-add-entry-of
+add-entry-of c = search needs
+
+entry-of-requires : tie.Need-entry-of-requires
+entry-of-requires c κs = search needs
+
 returns : tie.Need-returns
 unfolding extent
 returns c =
-    let second = sym (c .before .before .is-at .ensures) ∙ c .before .if1 .taken in
-    c .token-of .ensures ∙ simp (newlineTail-at, c .before .before .before .before .pre .1, second)
+    let start = c .before .before .before .before .before in
+    let is = start .args in
+    let second = sym (c .before .before .before .is-at .ensures) ∙ c .before .before .if1 .taken in
+    let two : newlineTail (drop (is .at) (is .doc .now)) ≡ 1 = simp (newlineTail-at, start .pre .2, second) in
+    let made : c .before .token-of .result ≡ tokenBy Newline (is .at) (is .line) (drop (is .at) (is .doc .now)) =
+    c .before .token-of .ensures ∙ simp (two) in
+    c .entry-of .ensures
+    ∙ entry-lf Newline (is .doc .now) (is .at) (is .line) (start .pre .0) (newline start) _ made refl
+    (is .at + 1) (omega arith) (eqb-true _ _ second)
 
 add-token-of-2 : tie.Need-add-token-of-2
 add-token-of-2 c = search needs
@@ -31,11 +59,21 @@ add-token-of-2 c = search needs
 token-of-requires-2 : tie.Need-token-of-requires-2
 token-of-requires-2 c κs = search needs
 
+entry-of-requires-2 : tie.Need-entry-of-requires-2
+entry-of-requires-2 c κs = search needs
+
 returns-2 : tie.Need-returns-2
 unfolding extent
 returns-2 c =
-    let second = sym (c .before .before .is-at .ensures) ∙ c .before .if1 .left in
-    c .token-of2 .ensures ∙ simp (newlineTail-at, c .before .before .before .before .pre .1, second)
+    let start = c .before .before .before .before .before in
+    let is = start .args in
+    let second = sym (c .before .before .before .is-at .ensures) ∙ c .before .before .if1 .left in
+    let one : newlineTail (drop (is .at) (is .doc .now)) ≡ 0 = simp (newlineTail-at, start .pre .2, second) in
+    let made : c .before .token-of2 .result ≡ tokenBy Newline (is .at) (is .line) (drop (is .at) (is .doc .now)) =
+    c .before .token-of2 .ensures ∙ simp (one) in
+    c .entry-of2 .ensures
+    ∙ entry-cr Newline (is .doc .now) (is .at) (is .line) (start .pre .0) (newline start) _ made refl
+    (is .at) (omega arith) (λ e. omega (arith, start .pre .2))
 
 pub lex-crlf-spec : {M : Type 1} → statement M
 lex-crlf-spec =
@@ -45,7 +83,10 @@ lex-crlf-spec =
     is-at-requires
     add-token-of
     token-of-requires
+    add-entry-of
+    entry-of-requires
     returns
     add-token-of-2
     token-of-requires-2
+    entry-of-requires-2
     returns-2)

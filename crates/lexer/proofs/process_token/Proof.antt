@@ -1,22 +1,50 @@
--- `process_token` is right because each arm's byte picks its kind in the table, and its function reads that kind's token.
+-- `process_token` is right because its arms are the table's, first byte by first byte, and each function reads that kind's
+-- token; the kinds on one line leave the line as it was, an LF is one more, and in the others the LFs are counted.
 -- Assumes nothing.
-use mathlib.Core.Path.{sym, _∙_}
+use Prim.Native.Nat.{_+_}
+use mathlib.Core.Path.{_≡_, refl, sym, ap, _∙_}
+use mathlib.Core.Bool.{false}
+use lib.ListN.{drop}
 use borrow.Author.Tests.{ne-eqb}
 use Rattle.classes.specs.Classes.{wschar}
+use Rattle.token.specs.declared.Token.{Token}
 use Rattle.token.specs.declared.TokenKind.{TokenKind}
 use Rattle.token.specs.declared.TokenKind.the-variants.{Dot, Equals, Comma, LeftSquareBracket, RightSquareBracket, LeftCurlyBracket, RightCurlyBracket, Whitespace, Comment, Newline, LiteralString, BasicString, MlLiteralString, MlBasicString, Atom}
+use Rattle.lexer.specs.Extents.{newlineTail}
 use Rattle.lexer.specs.Table.{kindBy, extent}
+use Rattle.lexer.specs.Tokens.{tokenBy}
+use Rattle.lexer.specs.Scans.{entryOf, entryAt}
 use Rattle.lexer.proofs.MarkLaws.{triple-fits-at, newlineTail-at}
-use Rattle.lexer.proofs.KindLaws.{KindThere, Made, token-there, end-is}
+use Rattle.lexer.proofs.KindLaws.{KindThere, end-is}
+use Rattle.lexer.proofs.LineLaws.{holdsLf}
+use Rattle.lexer.proofs.EntryLaws.{entry-plain, entry-stands, entry-over, entry-lf}
 use borrow.Author.Needs.{needs}
 use native.Mathlib.Omega.{arith}
 use Rattle.lexer.proofs.process_token.Statement.{statement}
 use Rattle.lexer.proofs.process_token.Tie as tie
 
--- a token of the kind by the byte there is the token there
-made : (c : tie.Start) (k : TokenKind) → KindThere (c .args .doc .now) (c .args .at) k
-    → Made k (c .args .doc .now) (c .args .at) (c .args .line)
-made c k e = token-there k (c .args .doc .now) (c .args .at) (c .args .line) (c .pre) e
+-- the kind by the byte there, and a token of it
+abbrev There : tie.Start → TokenKind → Type 0
+There c k = KindThere (c .args .doc .now) (c .args .at) k
+
+abbrev Made : tie.Start → TokenKind → Token → Type 0
+Made c k t = t ≡ tokenBy k (c .args .at) (c .args .line) (drop (c .args .at) (c .args .doc .now))
+
+-- on one line
+plain : (c : tie.Start) (k : TokenKind) (t : Token) → There c k → Made c k t → holdsLf k ≡ false
+    → entryOf t (t .line) ≡ entryAt (c .args .at) (c .args .line) (drop (c .args .at) (c .args .doc .now))
+plain c k t e m f =
+    let is = c .args in
+    ap (λ (u : Token). entryOf t (u .line)) m ∙ entry-plain k (is .doc .now) (is .at) (is .line) (c .pre .0) e t m f
+
+-- three marks at the place, or not
+literal-three : (c : tie.Then1) → There (c .before .before .before .before .before) MlLiteralString
+unfolding kindBy wschar
+literal-three c = rw (c .before .before .match .keys13, sym (c .before .is-triple .ensures) ∙ c .if1 .taken)
+
+basic-three : (c : tie.Then2) → There (c .before .before .before .before .before) MlBasicString
+unfolding kindBy wschar
+basic-three c = rw (c .before .before .match .keys14, sym (c .before .is-triple2 .ensures) ∙ c .if2 .taken)
 
 shared-slice-read-b : tie.Need-shared-slice-read-b
 shared-slice-read-b c = search needs
@@ -24,38 +52,74 @@ shared-slice-read-b c = search needs
 lex-ascii-char-requires : tie.Need-lex-ascii-char-requires
 lex-ascii-char-requires c κs = search needs
 
+same-line-requires : tie.Need-same-line-requires
+same-line-requires c κs = search needs
+
 lex-ascii-char-requires-2 : tie.Need-lex-ascii-char-requires-2
 lex-ascii-char-requires-2 c κs = search needs
+
+same-line-requires-2 : tie.Need-same-line-requires-2
+same-line-requires-2 c κs = search needs
 
 lex-ascii-char-requires-3 : tie.Need-lex-ascii-char-requires-3
 lex-ascii-char-requires-3 c κs = search needs
 
+same-line-requires-3 : tie.Need-same-line-requires-3
+same-line-requires-3 c κs = search needs
+
 lex-ascii-char-requires-4 : tie.Need-lex-ascii-char-requires-4
 lex-ascii-char-requires-4 c κs = search needs
+
+same-line-requires-4 : tie.Need-same-line-requires-4
+same-line-requires-4 c κs = search needs
 
 lex-ascii-char-requires-5 : tie.Need-lex-ascii-char-requires-5
 lex-ascii-char-requires-5 c κs = search needs
 
+same-line-requires-5 : tie.Need-same-line-requires-5
+same-line-requires-5 c κs = search needs
+
 lex-ascii-char-requires-6 : tie.Need-lex-ascii-char-requires-6
 lex-ascii-char-requires-6 c κs = search needs
+
+same-line-requires-6 : tie.Need-same-line-requires-6
+same-line-requires-6 c κs = search needs
 
 lex-ascii-char-requires-7 : tie.Need-lex-ascii-char-requires-7
 lex-ascii-char-requires-7 c κs = search needs
 
+same-line-requires-7 : tie.Need-same-line-requires-7
+same-line-requires-7 c κs = search needs
+
 lex-whitespace-requires : tie.Need-lex-whitespace-requires
 lex-whitespace-requires c κs = search needs
+
+same-line-requires-8 : tie.Need-same-line-requires-8
+same-line-requires-8 c κs = search needs
 
 lex-whitespace-requires-2 : tie.Need-lex-whitespace-requires-2
 lex-whitespace-requires-2 c κs = search needs
 
+same-line-requires-9 : tie.Need-same-line-requires-9
+same-line-requires-9 c κs = search needs
+
 lex-comment-requires : tie.Need-lex-comment-requires
 lex-comment-requires c κs = search needs
 
+same-line-requires-10 : tie.Need-same-line-requires-10
+same-line-requires-10 c κs = search needs
+
 lex-crlf-requires : tie.Need-lex-crlf-requires
-lex-crlf-requires c κs = search needs
+lex-crlf-requires c κs = (omega arith, omega arith, c .match .keys11)
 
 lex-ascii-char-requires-8 : tie.Need-lex-ascii-char-requires-8
 lex-ascii-char-requires-8 c κs = search needs
+
+add-entry-of : tie.Need-add-entry-of
+add-entry-of c = omega arith
+
+entry-of-requires : tie.Need-entry-of-requires
+entry-of-requires c κs = search needs
 
 is-triple-requires : tie.Need-is-triple-requires
 is-triple-requires c κs = search needs
@@ -65,8 +129,18 @@ lex-ml-literal-string-requires c κs =
     let is = c .before .before .before .before .before .args in
     triple-fits-at 39 (is .doc .now) (is .at) (omega arith) (sym (c .before .is-triple .ensures) ∙ c .if1 .taken)
 
+over-lines-requires : tie.Need-over-lines-requires
+over-lines-requires c κs =
+    let start = c .before .before .before .before .before .before in
+    let is = start .args in
+    entry-stands MlLiteralString (is .doc .now) (is .at) (is .line) (start .pre .0) (literal-three (c .before)) _
+    (c .lex-ml-literal-string .ensures) (start .pre .1)
+
 lex-literal-string-requires : tie.Need-lex-literal-string-requires
 lex-literal-string-requires c κs = search needs
+
+same-line-requires-11 : tie.Need-same-line-requires-11
+same-line-requires-11 c κs = search needs
 
 is-triple-requires-2 : tie.Need-is-triple-requires-2
 is-triple-requires-2 c κs = search needs
@@ -76,119 +150,134 @@ lex-ml-basic-string-requires c κs =
     let is = c .before .before .before .before .before .args in
     triple-fits-at 34 (is .doc .now) (is .at) (omega arith) (sym (c .before .is-triple2 .ensures) ∙ c .if2 .taken)
 
+over-lines-requires-2 : tie.Need-over-lines-requires-2
+over-lines-requires-2 c κs =
+    let start = c .before .before .before .before .before .before in
+    let is = start .args in
+    entry-stands MlBasicString (is .doc .now) (is .at) (is .line) (start .pre .0) (basic-three (c .before)) _
+    (c .lex-ml-basic-string .ensures) (start .pre .1)
+
 lex-basic-string-requires : tie.Need-lex-basic-string-requires
 lex-basic-string-requires c κs = search needs
+
+same-line-requires-12 : tie.Need-same-line-requires-12
+same-line-requires-12 c κs = search needs
 
 lex-atom-requires : tie.Need-lex-atom-requires
 lex-atom-requires c κs = search needs
 
+same-line-requires-13 : tie.Need-same-line-requires-13
+same-line-requires-13 c κs = search needs
+
 returns : tie.Need-returns
 unfolding kindBy extent
 returns c =
-    let start = c .before .before .before .before in
-    c .lex-ascii-char .ensures ∙ made start Dot (rw (c .before .match .keys1))
+    c .same-line .ensures
+    ∙ plain (c .before .before .before .before .before) Dot _ (rw (c .before .before .match .keys1)) (c .before .lex-ascii-char .ensures) refl
 
 returns-2 : tie.Need-returns-2
 unfolding kindBy extent
 returns-2 c =
-    let start = c .before .before .before .before in
-    c .lex-ascii-char2 .ensures ∙ made start Equals (rw (c .before .match .keys2))
+    c .same-line2 .ensures
+    ∙ plain (c .before .before .before .before .before) Equals _ (rw (c .before .before .match .keys2)) (c .before .lex-ascii-char2 .ensures) refl
 
 returns-3 : tie.Need-returns-3
 unfolding kindBy extent
 returns-3 c =
-    let start = c .before .before .before .before in
-    c .lex-ascii-char3 .ensures ∙ made start Comma (rw (c .before .match .keys3))
+    c .same-line3 .ensures
+    ∙ plain (c .before .before .before .before .before) Comma _ (rw (c .before .before .match .keys3)) (c .before .lex-ascii-char3 .ensures) refl
 
 returns-4 : tie.Need-returns-4
 unfolding kindBy extent
 returns-4 c =
-    let start = c .before .before .before .before in
-    c .lex-ascii-char4 .ensures ∙ made start LeftSquareBracket (rw (c .before .match .keys4))
+    c .same-line4 .ensures
+    ∙ plain (c .before .before .before .before .before) LeftSquareBracket _ (rw (c .before .before .match .keys4)) (c .before .lex-ascii-char4 .ensures) refl
 
 returns-5 : tie.Need-returns-5
 unfolding kindBy extent
 returns-5 c =
-    let start = c .before .before .before .before in
-    c .lex-ascii-char5 .ensures ∙ made start RightSquareBracket (rw (c .before .match .keys5))
+    c .same-line5 .ensures
+    ∙ plain (c .before .before .before .before .before) RightSquareBracket _ (rw (c .before .before .match .keys5)) (c .before .lex-ascii-char5 .ensures) refl
 
 returns-6 : tie.Need-returns-6
 unfolding kindBy extent
 returns-6 c =
-    let start = c .before .before .before .before in
-    c .lex-ascii-char6 .ensures ∙ made start LeftCurlyBracket (rw (c .before .match .keys6))
+    c .same-line6 .ensures
+    ∙ plain (c .before .before .before .before .before) LeftCurlyBracket _ (rw (c .before .before .match .keys6)) (c .before .lex-ascii-char6 .ensures) refl
 
 returns-7 : tie.Need-returns-7
 unfolding kindBy extent
 returns-7 c =
-    let start = c .before .before .before .before in
-    c .lex-ascii-char7 .ensures ∙ made start RightCurlyBracket (rw (c .before .match .keys7))
+    c .same-line7 .ensures
+    ∙ plain (c .before .before .before .before .before) RightCurlyBracket _ (rw (c .before .before .match .keys7)) (c .before .lex-ascii-char7 .ensures) refl
 
 returns-8 : tie.Need-returns-8
 unfolding kindBy wschar
 returns-8 c =
-    let start = c .before .before .before .before in
-    c .lex-whitespace .ensures ∙ made start Whitespace (rw (c .before .match .keys8))
+    c .same-line8 .ensures
+    ∙ plain (c .before .before .before .before .before) Whitespace _ (rw (c .before .before .match .keys8)) (c .before .lex-whitespace .ensures) refl
 
 returns-9 : tie.Need-returns-9
 unfolding kindBy wschar
 returns-9 c =
-    let start = c .before .before .before .before in
-    c .lex-whitespace2 .ensures ∙ made start Whitespace (rw (c .before .match .keys9))
+    c .same-line9 .ensures
+    ∙ plain (c .before .before .before .before .before) Whitespace _ (rw (c .before .before .match .keys9)) (c .before .lex-whitespace2 .ensures) refl
 
 returns-10 : tie.Need-returns-10
 unfolding kindBy wschar
 returns-10 c =
-    let start = c .before .before .before .before in
-    c .lex-comment .ensures ∙ made start Comment (rw (c .before .match .keys10))
+    c .same-line10 .ensures
+    ∙ plain (c .before .before .before .before .before) Comment _ (rw (c .before .before .match .keys10)) (c .before .lex-comment .ensures) refl
 
 returns-11 : tie.Need-returns-11
-unfolding kindBy wschar
-returns-11 c =
-    let start = c .before .before .before .before in
-    c .lex-crlf .ensures ∙ made start Newline (rw (c .before .match .keys11))
+returns-11 c = c .lex-crlf .ensures
 
 returns-12 : tie.Need-returns-12
 unfolding kindBy wschar extent
 returns-12 c =
-    let start = c .before .before .before .before in
-    c .lex-ascii-char8 .ensures ∙ end-is (simp (newlineTail-at, c .before .match .keys12))
-    ∙ made start Newline (rw (c .before .match .keys12))
+    let start = c .before .before .before .before .before in
+    let is = start .args in
+    let lf = c .before .before .match .keys12 in
+    let one : newlineTail (drop (is .at) (is .doc .now)) ≡ 0 = simp (newlineTail-at, lf) in
+    let made : Made start Newline (c .before .lex-ascii-char8 .result) = c .before .lex-ascii-char8 .ensures ∙ end-is (rw one) in
+    c .entry-of .ensures
+    ∙ entry-lf Newline (is .doc .now) (is .at) (is .line) (start .pre .0) (rw lf) _ made refl
+    (is .at) (omega arith) lf
 
 returns-13 : tie.Need-returns-13
-unfolding kindBy wschar
 returns-13 c =
-    let start = c .before .before .before .before .before .before in
-    let three = sym (c .before .before .is-triple .ensures) ∙ c .before .if1 .taken in
-    c .lex-ml-literal-string .ensures ∙ made start MlLiteralString (rw (c .before .before .before .match .keys13, three))
+    let start = c .before .before .before .before .before .before .before in
+    let is = start .args in
+    c .over-lines .ensures
+    ∙ entry-over MlLiteralString (is .doc .now) (is .at) (is .line) (start .pre .0) (literal-three (c .before .before)) _ (c .before .lex-ml-literal-string .ensures)
 
 returns-14 : tie.Need-returns-14
 unfolding kindBy wschar
 returns-14 c =
-    let start = c .before .before .before .before .before .before in
-    let fewer = sym (c .before .before .is-triple .ensures) ∙ c .before .if1 .left in
-    c .lex-literal-string .ensures ∙ made start LiteralString (rw (c .before .before .before .match .keys13, fewer))
+    let fewer = sym (c .before .before .before .is-triple .ensures) ∙ c .before .before .if1 .left in
+    c .same-line11 .ensures
+    ∙ plain (c .before .before .before .before .before .before .before) LiteralString _ (rw (c .before .before .before .before .match .keys13, fewer)) (c .before .lex-literal-string .ensures) refl
 
 returns-15 : tie.Need-returns-15
-unfolding kindBy wschar
 returns-15 c =
-    let start = c .before .before .before .before .before .before in
-    let three = sym (c .before .before .is-triple2 .ensures) ∙ c .before .if2 .taken in
-    c .lex-ml-basic-string .ensures ∙ made start MlBasicString (rw (c .before .before .before .match .keys14, three))
+    let start = c .before .before .before .before .before .before .before in
+    let is = start .args in
+    c .over-lines2 .ensures
+    ∙ entry-over MlBasicString (is .doc .now) (is .at) (is .line) (start .pre .0) (basic-three (c .before .before)) _ (c .before .lex-ml-basic-string .ensures)
 
 returns-16 : tie.Need-returns-16
 unfolding kindBy wschar
 returns-16 c =
-    let start = c .before .before .before .before .before .before in
-    let fewer = sym (c .before .before .is-triple2 .ensures) ∙ c .before .if2 .left in
-    c .lex-basic-string .ensures ∙ made start BasicString (rw (c .before .before .before .match .keys14, fewer))
+    let fewer = sym (c .before .before .before .is-triple2 .ensures) ∙ c .before .before .if2 .left in
+    c .same-line12 .ensures
+    ∙ plain (c .before .before .before .before .before .before .before) BasicString _ (rw (c .before .before .before .before .match .keys14, fewer)) (c .before .lex-basic-string .ensures) refl
 
 returns-17 : tie.Need-returns-17
 unfolding kindBy wschar
 returns-17 c =
-    let start = c .before .before .before .before in
-    let r = c .before .match .rest in
-    c .lex-atom .ensures ∙ made start Atom (simp (
+    let r = c .before .before .match .rest in
+    c .same-line13 .ensures
+    ∙ plain (c .before .before .before .before .before) Atom _ (simp (
       ne-eqb _ _ (r .1),
       ne-eqb _ _ (r .0 .1),
       ne-eqb _ _ (r .0 .0 .1),
@@ -203,7 +292,7 @@ returns-17 c =
       ne-eqb _ _ (r .0 .0 .0 .0 .0 .0 .0 .0 .0 .0 .0 .1),
       ne-eqb _ _ (r .0 .0 .0 .0 .0 .0 .0 .0 .0 .0 .0 .0 .1),
       ne-eqb _ _ (r .0 .0 .0 .0 .0 .0 .0 .0 .0 .0 .0 .0 .0 .1),
-    ))
+    )) (c .before .lex-atom .ensures) refl
 
 pub process-token-spec : {M : Type 1} → statement M
 process-token-spec =
@@ -211,24 +300,41 @@ process-token-spec =
     (tie.spec
     shared-slice-read-b
     lex-ascii-char-requires
+    same-line-requires
     lex-ascii-char-requires-2
+    same-line-requires-2
     lex-ascii-char-requires-3
+    same-line-requires-3
     lex-ascii-char-requires-4
+    same-line-requires-4
     lex-ascii-char-requires-5
+    same-line-requires-5
     lex-ascii-char-requires-6
+    same-line-requires-6
     lex-ascii-char-requires-7
+    same-line-requires-7
     lex-whitespace-requires
+    same-line-requires-8
     lex-whitespace-requires-2
+    same-line-requires-9
     lex-comment-requires
+    same-line-requires-10
     lex-crlf-requires
     lex-ascii-char-requires-8
+    add-entry-of
+    entry-of-requires
     is-triple-requires
     lex-ml-literal-string-requires
+    over-lines-requires
     lex-literal-string-requires
+    same-line-requires-11
     is-triple-requires-2
     lex-ml-basic-string-requires
+    over-lines-requires-2
     lex-basic-string-requires
+    same-line-requires-12
     lex-atom-requires
+    same-line-requires-13
     returns
     returns-2
     returns-3

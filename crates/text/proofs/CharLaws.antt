@@ -1,0 +1,52 @@
+-- A character that stands whole before the reader: the table's row and the bytes behind the first tell its length.
+-- Assumes nothing.
+use Prim.Native.Nat.{ℕ, _+_, _≤_, _<_}
+use mathlib.Core.Path.{_≡_, refl, sym, ap, subst}
+use mathlib.Core.List.{List}
+use native.Mathlib.Omega.{arith}
+use lib.ListN.{length, getD, drop}
+use Rattle.text.specs.declared.utf8.Lead.{Lead}
+use Rattle.text.specs.Lead.{row, leadOf, Among, Asked, Whole, BegunAt}
+use Rattle.text.specs.Utf8Read.{charLen, validPrefix, Along}
+use Rattle.text.proofs.LeadLaws.{all-begun, row-is}
+use Rattle.text.proofs.BegunLaws.{begun-1}
+use Rattle.text.proofs.ReadLaws.{valid-step}
+
+-- the second byte is as the row asks
+pub asked : (a n low high b : ℕ) → row n low high ≡ leadOf a → Among low high b → Asked a n b
+asked a n low high b e m = (ap (λ (l : Lead). l .0) (sym e), subst (λ (l : Lead). Among (l .1) (l .2) b) e m)
+
+module _ (s : List ℕ) (start i : ℕ) where
+  abbrev a : ℕ
+  a = getD s i 0
+
+  -- the character of n bytes leads on
+  on : (n : ℕ) → 0 < n → i + n ≤ length s → leadOf a .0 ≡ n → BegunAt s i (leadOf a) n → Along s start i → Along s start (i + n)
+  on n p h e begun along =
+      let here : leadOf a .0 ≡ charLen (drop i s) = all-begun s i (leadOf a) refl n begun (omega arith) in
+      let step = valid-step s i n p (omega arith) in
+      (omega arith, omega arith, omega (arith, along, step))
+
+  one-byte : a < 0x80 → leadOf a .0 ≡ 1
+  unfolding leadOf
+  one-byte l = ap (λ (x : Lead). x .0) (sym (row-is (row 1 0 0) 0 0x80 tt a (omega arith) l))
+
+  pub along-ascii : i < length s → a < 0x80 → Along s start i → Along s start (i + 1)
+  along-ascii h l along =
+      let one = one-byte l in
+      on 1 (omega arith) (omega arith) one (begun-1 (omega arith) (λ k m n. omega arith)) along
+
+  pub along-whole : i + 4 ≤ length s → (n : ℕ)
+      → Whole a (getD s (i + 1) 0) (getD s (i + 2) 0) (getD s (i + 3) 0) n → Along s start i → Along s start (i + n)
+  along-whole h n w along =
+      let few = w .some in
+      let len = w .asked .0 in
+      on n (omega arith) (omega arith) len (record {
+        some = omega arith;
+        second = λ k. (omega arith, w .asked .1);
+        third = λ k. (omega arith, w .third k);
+        fourth = λ k. (omega arith, w .fourth k);
+        not-second = λ e. absurd (omega arith);
+        not-third = λ e k. absurd (omega arith);
+        not-fourth = λ e k. absurd (omega arith);
+      }) along
