@@ -5,6 +5,7 @@ pub mod LeadLaws
 pub mod OnesLaws
 pub mod BegunLaws
 pub mod CharLaws
+pub mod WordLaws
 pub mod FaultLaws
 pub mod CutLaws
 pub mod AnswerLaws

@@ -2,7 +2,7 @@
 // Rules: specs/Utf8.antt, Answers.antt, and what the answers mean, CheckMeans.antt and Faults.antt.
 ghost use mathlib.Core.Path.{_≡_};
 ghost use mathlib.Core.Bool.{true, false};
-ghost use Prim.Native.Nat.{_+_, _%_, _<_, _≤_};
+ghost use Prim.Native.Nat.{_+_, _*_, _^_, _%_, _<_, _≤_};
 ghost use lib.ListN.{length, drop};
 ghost use Rattle.classes.specs.Runs.{run};
 ghost use Rattle.classes.proofs.RunLaws.{Block, SameEnd};
@@ -59,41 +59,39 @@ fn passed(s: &[u8], at: usize) -> usize
 }
 
 // Over whole characters as long as four bytes are there to be read, so that none is asked for that is not there; up to
-// four in a row of ASCII, which `ascii_run` is quicker over.
+// eight in a row of ASCII, which `ascii_run` is quicker over.
 fn chars_run(s: &[u8], start: usize) -> usize
     requires { ⌜ start ≤ length (now s) ⌝ }
     ensures { λ r. ⌜ Along (now (s .entry)) start r ⌝ }
 {
     let mut i = start;
-    while 4 <= s.len() - i {
+    if s.len() < 4 {
+        return i;
+    }
+    let last = s.len() - 4;
+    while i <= last {
         let a = s[i];
         if a < 0x80 {
-            if is_ascii_next(s, i) {
+            if is_ascii_word(s, i) {
                 return i;
             }
             i += 1;
         } else {
             let n = whole(a, s[i + 1], s[i + 2], s[i + 3]);
+            // Each length is added by itself, as a constant: so the next character waits for no sum.
             if n == 0 {
                 return i;
             }
-            i += n;
+            if n == 2 {
+                i += 2;
+            } else if n == 3 {
+                i += 3;
+            } else {
+                i += 4;
+            }
         }
     }
     i
-}
-
-// Whether the three bytes behind i are ASCII.
-fn is_ascii_next(s: &[u8], i: usize) -> bool
-    requires { ⌜ i + 4 ≤ length (now s) ⌝ }
-{
-    if 0x80 <= s[i + 1] {
-        return false;
-    }
-    if 0x80 <= s[i + 2] {
-        return false;
-    }
-    s[i + 3] < 0x80
 }
 
 // The length of the character that four bytes begin with, beyond ASCII: the count of leading ones; 0 where none begins
@@ -162,13 +160,18 @@ fn is_second_of_four(a: u8, b: u8) -> bool
     false
 }
 
-// The place of the first byte from `start` on that is not ASCII, or the end.
+// The place of the first byte from `start` on that is not ASCII, or the end. Most runs between other characters are
+// short: only behind 32 bytes are blocks tried.
 fn ascii_run(s: &[u8], start: usize) -> usize
     requires { ⌜ start ≤ length (now s) ⌝ }
     ensures { λ r. ⌜ r ≡ start + run ascii (drop start (now (s .entry))) ⌝ }
 {
-    let wide = ascii_blocks(s, start, 64);
-    let mut i = ascii_blocks(s, wide, 8);
+    let near = ascii_words(s, start, 4);
+    let mut i = near;
+    if near == start + 32 {
+        let wide = ascii_blocks(s, near, 64);
+        i = ascii_words(s, wide, 8);
+    }
     while i < s.len() {
         if 0x80 <= s[i] {
             return i;
@@ -176,6 +179,43 @@ fn ascii_run(s: &[u8], start: usize) -> usize
         i += 1;
     }
     i
+}
+
+// Words of eight ASCII bytes, passed over, as many as `most` at the most.
+fn ascii_words(s: &[u8], start: usize, most: usize) -> usize
+    requires { ⌜ start ≤ length (now s) ⌝ }
+    ensures { λ r. ⌜ SameEnd (run ascii) (now (s .entry)) start r ⌝ }
+{
+    let mut i = start;
+    let mut n = 0;
+    while n < most {
+        if !is_ascii_word(s, i) {
+            return i;
+        }
+        i += 8;
+        n += 1;
+    }
+    i
+}
+
+// Whether eight bytes from i on are there, and are ASCII: no high bit is on in the number that they make together,
+// which the compiler reads at once.
+fn is_ascii_word(s: &[u8], i: usize) -> bool
+    requires { ⌜ i ≤ length (now s) ⌝ }
+    ensures { λ r. ⌜ (r ≡ true → (i + 8 ≤ length (now (s .entry))) × Block ascii (now (s .entry)) i 8) ⌝ }
+{
+    if s.len() - i < 8 {
+        return false;
+    }
+    let first = pair(s[i], s[i + 1]) | (pair(s[i + 2], s[i + 3]) << 16);
+    let second = pair(s[i + 4], s[i + 5]) | (pair(s[i + 6], s[i + 7]) << 16);
+    (first | (second << 32)) & 0x8080_8080_8080_8080 == 0
+}
+
+fn pair(a: u8, b: u8) -> u64
+    ensures { λ r. ⌜ r ≡ b * 2 ^ 8 + a ⌝ }
+{
+    (a as u64) | ((b as u64) << 8)
 }
 
 // Blocks of n ASCII bytes, passed over.

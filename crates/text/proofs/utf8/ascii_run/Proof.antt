@@ -1,6 +1,7 @@
--- `ascii_run` is right because neither a block nor a byte of ASCII moves the end of the run.
+-- `ascii_run` is right because neither a word, nor a block, nor a byte of ASCII moves the end of the run.
 -- Assumes nothing.
 use Prim.Native.Nat.{_-_}
+use mathlib.Core.Logic.{⊎-elim}
 use native.Mathlib.Omega.{arith}
 use borrow.Author.Tests.{lt-ltb, le-ltb}
 use lib.ListN.{length}
@@ -11,28 +12,35 @@ use Rattle.text.proofs.utf8.ascii_run.Statement.{statement}
 use Rattle.text.proofs.utf8.ascii_run.Tie as tie
 
 abbrev Inv-loop : tie.InvT-loop
-Inv-loop s start wide i₀ i = SameEnd (run ascii) s start i
+Inv-loop s start near i₀ i = SameEnd (run ascii) s start i
 
 abbrev μ-loop : tie.MeasureT-loop
-μ-loop s start wide i₀ i = length s - i
+μ-loop s start near i₀ i = length s - i
+
+ascii-words-requires : tie.Need-ascii-words-requires Inv-loop μ-loop
+ascii-words-requires c κs = omega arith
+
+add-if1 : tie.Need-add-if1 Inv-loop μ-loop
+add-if1 c = omega arith
 
 ascii-blocks-requires : tie.Need-ascii-blocks-requires Inv-loop μ-loop
 ascii-blocks-requires c κs = omega arith
 
-ascii-blocks-requires-2 : tie.Need-ascii-blocks-requires-2 Inv-loop μ-loop
-ascii-blocks-requires-2 c κs = omega arith
+ascii-words-requires-2 : tie.Need-ascii-words-requires-2 Inv-loop μ-loop
+ascii-words-requires-2 c κs = omega arith
 
 loop-holds : tie.Need-loop-holds Inv-loop μ-loop
-loop-holds c = omega arith
+loop-holds c =
+    ⊎-elim (λ w. rw (w .3) (omega (arith, w .1 .ensures, w .2 .ensures))) (λ w. rw (w .1) (omega arith)) (c .if1 .came)
 
-shared-slice-read-if1 : tie.Need-shared-slice-read-if1 Inv-loop μ-loop
-shared-slice-read-if1 c = omega arith
+shared-slice-read-if2 : tie.Need-shared-slice-read-if2 Inv-loop μ-loop
+shared-slice-read-if2 c = omega arith
 
 returns : tie.Need-returns Inv-loop μ-loop
 returns c =
     let a = c .before .before .before .before .before .before .before .args in
     let at = c .before .before .before .loop in
-    let none-left = run-stop ascii (a .s .now) (at .i) (omega arith) (le-ltb _ _ (c .if1 .taken)) in
+    let none-left = run-stop ascii (a .s .now) (at .i) (omega arith) (le-ltb _ _ (c .if2 .taken)) in
     same-end-reached ascii (a .s .now) (a .start) (at .i) none-left (at .inv)
 
 add-i : tie.Need-add-i Inv-loop μ-loop
@@ -43,9 +51,9 @@ loop-less c = omega arith
 
 loop-again : tie.Need-loop-again Inv-loop μ-loop
 loop-again c =
-    let a = c .before .before .before .before .before .before .before .args in
-    let at = c .before .before .before .loop in
-    same-end-byte ascii (a .s .now) (a .start) (at .i) (omega arith) (lt-ltb _ _ (c .if1 .left)) (at .inv)
+    let a = c .before .before .before .before .before .before .before .before .args in
+    let at = c .before .before .before .before .loop in
+    same-end-byte ascii (a .s .now) (a .start) (at .i) (omega arith) (lt-ltb _ _ (c .before .if2 .left)) (at .inv)
 
 returns-2 : tie.Need-returns-2 Inv-loop μ-loop
 returns-2 c =
@@ -59,10 +67,12 @@ ascii-run-spec =
     (tie.spec
     Inv-loop
     μ-loop
+    ascii-words-requires
+    add-if1
     ascii-blocks-requires
-    ascii-blocks-requires-2
+    ascii-words-requires-2
     loop-holds
-    shared-slice-read-if1
+    shared-slice-read-if2
     returns
     add-i
     loop-less

@@ -7,41 +7,31 @@ use Rattle.text.proofs.CharLaws.{asked}
 use Rattle.text.proofs.OnesLaws.{four-f0, four-mid, four-f4}
 use Rattle.text.proofs.utf8.is_second_of_four.Statement.{statement}
 use Rattle.text.proofs.utf8.is_second_of_four.Tie as tie
-use Rattle.text.proofs.utf8.is_second_of_four.Reads as reads
-use Rattle.text.proofs.utf8.is_second_of_four.Lts as lts
-use Rattle.text.proofs.utf8.is_among.Reads as is-among-reads
 
--- src/utf8.rt:154:9
 is-among-requires : tie.Need-is-among-requires
 is-among-requires c κs = search needs
 
--- src/utf8.rt:154:9
 returns : tie.Need-returns
 returns c =
     let a = c .before .before .args .a in
     λ t. asked a 4 0x90 0xBF _ (four-f0 a (omega arith) (c .before .before .pre) (c .before .if1 .taken)) (c .is-among .ensures .0 t)
 
--- src/utf8.rt:157:9
 is-among-requires-2 : tie.Need-is-among-requires-2
 is-among-requires-2 c κs = search needs
 
--- src/utf8.rt:157:9
 returns-2 : tie.Need-returns-2
 returns-2 c =
     let a = c .before .before .before .args .a in
     λ t. asked a 4 0x80 0xBF _ (four-mid a (omega arith) (c .before .before .before .pre) (c .before .before .if1 .left) (c .before .if2 .taken)) (c .is-among2 .ensures .0 t)
 
--- src/utf8.rt:160:9
 is-among-requires-3 : tie.Need-is-among-requires-3
 is-among-requires-3 c κs = search needs
 
--- src/utf8.rt:160:9
 returns-3 : tie.Need-returns-3
 returns-3 c =
     let a = c .before .before .before .before .args .a in
     λ t. asked a 4 0x80 0x8F _ (four-f4 a (omega arith) (c .before .before .before .before .pre) (c .before .before .before .if1 .left) (c .before .before .if2 .left) (c .before .if3 .taken)) (c .is-among3 .ensures .0 t)
 
--- src/utf8.rt:149:1
 returns-4 : tie.Need-returns-4
 returns-4 c = λ t. absurd (false≢true t)
 

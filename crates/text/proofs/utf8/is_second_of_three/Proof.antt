@@ -6,35 +6,26 @@ use Rattle.text.proofs.CharLaws.{asked}
 use Rattle.text.proofs.OnesLaws.{three-e0, three-ed, three-rest}
 use Rattle.text.proofs.utf8.is_second_of_three.Statement.{statement}
 use Rattle.text.proofs.utf8.is_second_of_three.Tie as tie
-use Rattle.text.proofs.utf8.is_second_of_three.Reads as reads
-use Rattle.text.proofs.utf8.is_second_of_three.Lts as lts
-use Rattle.text.proofs.utf8.is_among.Reads as is-among-reads
 
--- src/utf8.rt:141:9
 is-among-requires : tie.Need-is-among-requires
 is-among-requires c κs = search needs
 
--- src/utf8.rt:141:9
 returns : tie.Need-returns
 returns c =
     let a = c .before .before .args .a in
     λ t. asked a 3 0xA0 0xBF _ (three-e0 a (omega arith) (c .before .before .pre) (c .before .if1 .taken)) (c .is-among .ensures .0 t)
 
--- src/utf8.rt:144:9
 is-among-requires-2 : tie.Need-is-among-requires-2
 is-among-requires-2 c κs = search needs
 
--- src/utf8.rt:144:9
 returns-2 : tie.Need-returns-2
 returns-2 c =
     let a = c .before .before .before .args .a in
     λ t. asked a 3 0x80 0x9F _ (three-ed a (omega arith) (c .before .before .before .pre) (c .before .before .if1 .left) (c .before .if2 .taken)) (c .is-among2 .ensures .0 t)
 
--- src/utf8.rt:146:5
 is-among-requires-3 : tie.Need-is-among-requires-3
 is-among-requires-3 c κs = search needs
 
--- src/utf8.rt:136:1
 returns-3 : tie.Need-returns-3
 returns-3 c =
     let a = c .before .before .before .args .a in

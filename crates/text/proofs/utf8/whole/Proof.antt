@@ -9,29 +9,19 @@ use Rattle.text.proofs.CharLaws.{asked}
 use Rattle.text.proofs.OnesLaws.{two-ones}
 use Rattle.text.proofs.utf8.whole.Statement.{statement}
 use Rattle.text.proofs.utf8.whole.Tie as tie
-use Rattle.text.proofs.utf8.whole.Reads as reads
-use Rattle.text.proofs.utf8.whole.Lts as lts
-use Rattle.text.proofs.utf8.is_among.Reads as is-among-reads
-use Rattle.text.proofs.utf8.is_second_of_four.Reads as is-second-of-four-reads
-use Rattle.text.proofs.utf8.is_second_of_three.Reads as is-second-of-three-reads
 
--- src/utf8.rt:105:16
 cast-ones : tie.Need-cast-ones
 cast-ones c = omega (arith, leading-le 8 (255 - c .args .a))
 
--- src/utf8.rt:108:13
 returns : tie.Need-returns
 returns c = search needs
 
--- src/utf8.rt:110:13
 is-among-requires : tie.Need-is-among-requires
 is-among-requires c κs = search needs
 
--- src/utf8.rt:111:13
 returns-2 : tie.Need-returns-2
 returns-2 c = search needs
 
--- src/utf8.rt:113:9
 returns-3 : tie.Need-returns-3
 returns-3 c =
     let a = c .before .before .before .before .args .a in
@@ -42,23 +32,18 @@ returns-3 c =
       fourth = λ k. absurd (omega arith);
     }
 
--- src/utf8.rt:116:13
 is-second-of-three-requires : tie.Need-is-second-of-three-requires
 is-second-of-three-requires c κs = search needs
 
--- src/utf8.rt:117:13
 returns-4 : tie.Need-returns-4
 returns-4 c = search needs
 
--- src/utf8.rt:119:13
 is-among-requires-2 : tie.Need-is-among-requires-2
 is-among-requires-2 c κs = search needs
 
--- src/utf8.rt:120:13
 returns-5 : tie.Need-returns-5
 returns-5 c = search needs
 
--- src/utf8.rt:122:9
 returns-6 : tie.Need-returns-6
 returns-6 c =
     λ p. record {
@@ -68,31 +53,24 @@ returns-6 c =
       fourth = λ k. absurd (omega arith);
     }
 
--- src/utf8.rt:124:9
 is-second-of-four-requires : tie.Need-is-second-of-four-requires
 is-second-of-four-requires c κs = omega arith
 
--- src/utf8.rt:125:9
 returns-7 : tie.Need-returns-7
 returns-7 c = search needs
 
--- src/utf8.rt:127:9
 is-among-requires-3 : tie.Need-is-among-requires-3
 is-among-requires-3 c κs = search needs
 
--- src/utf8.rt:128:9
 returns-8 : tie.Need-returns-8
 returns-8 c = search needs
 
--- src/utf8.rt:130:9
 is-among-requires-4 : tie.Need-is-among-requires-4
 is-among-requires-4 c κs = search needs
 
--- src/utf8.rt:131:9
 returns-9 : tie.Need-returns-9
 returns-9 c = search needs
 
--- src/utf8.rt:101:1
 returns-10 : tie.Need-returns-10
 returns-10 c =
     λ p. record {
