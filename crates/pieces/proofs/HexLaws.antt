@@ -2,7 +2,7 @@
 -- Assumes nothing.
 use Prim.Native.Nat.{ℕ, _+_, _*_, _^_, _≤_, _<_}
 use mathlib.Core.Path.{_≡_, refl, sym, ap, _∙_}
-use mathlib.Core.Bool.{true, false, not, _||_}
+use mathlib.Core.Bool.{Bool, true, false, cond, not, _||_}
 use mathlib.Core.List.{List}
 use native.Mathlib.Nat.{pow-suc, pow-le-pow-right}
 use native.Mathlib.Numerals.{add-one}
@@ -17,6 +17,7 @@ use Rattle.classes.proofs.RunLaws.{run-step, there, run-halts}
 use Rattle.strings.specs.Escapes.{hexValue, hexFrom}
 use Rattle.strings.proofs.EscapeLaws.{hex-more}
 use Rattle.strings.proofs.AsciiLaws.{hexdig-low}
+use Rattle.pieces.specs.Scan.{HexRead}
 use Rattle.pieces.proofs.ScanLaws.{hexdig-above}
 
 value-test : (b : ℕ) → b < 0x80 → true ≡ (not (hexdig b) || ltb (hexValue b) 16)
@@ -25,6 +26,22 @@ value-test b h = class-is true (λ b. not (hexdig b) || ltb (hexValue b) 16) 0 0
 
 pub value-small : (b : ℕ) → hexdig b ≡ true → hexValue b < 16
 value-small b e = ltb-true _ _ (sym (rw e at (value-test b (hexdig-low b e))))
+
+-- what `hex_value` says of a byte tells whether it is a digit
+module _ (b d : ℕ) (is : d ≡ cond (hexdig b) (hexValue b) 16) where
+  pub value-none : 15 < d → hexdig b ≡ false
+  value-none h = go (hexdig b) refl is
+    where
+      go : (t : Bool) → hexdig b ≡ t → d ≡ cond t (hexValue b) 16 → hexdig b ≡ false
+      go true e f = absurd (omega (arith, value-small b e))
+      go false e f = e
+
+  pub value-one : d ≤ 15 → (hexdig b ≡ true) × (d ≡ hexValue b)
+  value-one h = go (hexdig b) refl is
+    where
+      go : (t : Bool) → hexdig b ≡ t → d ≡ cond t (hexValue b) 16 → (hexdig b ≡ true) × (d ≡ hexValue b)
+      go true e f = (e, f)
+      go false e f = absurd (omega arith)
 
 -- i digits are read, and v is their number
 pub record Digits (n : ℕ) (s : List ℕ) (i v : ℕ) : Type 0 where
@@ -53,11 +70,22 @@ module _ (n : ℕ) (s : List ℕ) (i v : ℕ) (d : Digits n s i v) where
       }
 
   -- no digit is here
-  pub digits-few : hexdig (getD s i 0) ≡ false → i ≡ run hexdig s
-  digits-few e = omega (arith, d .found, run-halts hexdig s i e)
+  pub digits-few : i < n → hexdig (getD s i 0) ≡ false → HexRead n s (record { found = i; value = v })
+  digits-few h e =
+      record {
+        within = omega arith;
+        few = λ l. omega (arith, d .found, run-halts hexdig s i e);
+        enough = λ l. absurd (omega arith);
+        number = λ l. absurd (omega arith);
+      }
 
   -- all are read
-  pub digits-all : n ≤ i → (n ≤ run hexdig s) × (v ≡ hexFrom 0 (take n s))
+  pub digits-all : n ≤ i → HexRead n s (record { found = i; value = v })
   digits-all h =
       let e : i ≡ n = omega (arith, d .within) in
-      (omega (arith, d .found), d .value ∙ ap (λ (k : ℕ). hexFrom 0 (take k s)) e)
+      record {
+        within = d .within;
+        few = λ l. absurd (omega arith);
+        enough = λ l. omega (arith, d .found);
+        number = λ l. d .value ∙ ap (λ (k : ℕ). hexFrom 0 (take k s)) e;
+      }

@@ -1,4 +1,5 @@
 pub mod ScanLaws
 pub mod HexLaws
+pub mod EscapeAtLaws
 pub mod PlaceLaws
 pub mod OneAnswer

@@ -1,23 +1,24 @@
 -- The byte sets as the code tests them, and the bytes that a block may hold.
 -- Assumes nothing.
-use Prim.Native.Nat.{ℕ, _+_, _%_, _≤_, _<_}
+use Prim.Native.Nat.{ℕ, zero, suc, _+_, _%_, _≤_, _<_}
 use mathlib.Core.Path.{_≡_, refl, sym, ap, _∙_}
 use mathlib.Core.Logic.{_⊎_, inl, inr, ⊎-elim}
-use mathlib.Core.Bool.{Bool, true, false, not, _||_, false≢true}
+use mathlib.Core.Bool.{Bool, true, false, cond, not, _||_, false≢true}
 use mathlib.Core.List.{List, [], _∷_}
 use native.Mathlib.Decide.{decLt}
 use native.Mathlib.Omega.{arith}
-use lib.ListN.{length, drop, getD}
+use lib.ListN.{take}
 use borrow.Author.Tests.{ne-eqb}
-use Rattle.classes.specs.Classes.{wschar, literalChar, mllChar, basicUnescaped, mlbUnescaped, hexdig}
+use Rattle.classes.specs.Classes.{wschar, literalChar, mllChar, basicUnescaped, mlbUnescaped, unquotedChar, hexdig}
 use Rattle.classes.specs.Runs.{run}
-use Rattle.classes.proofs.ByteTable.{class-is, rest-is}
-use Rattle.classes.proofs.RunLaws.{run-step, run-stop, run-end}
+use Rattle.classes.proofs.ByteTable.{classes-agree, class-is, rest-is}
+use Rattle.strings.specs.declared.Edition.{Edition}
 use Rattle.strings.specs.declared.Encoding.{Encoding}
 use Rattle.strings.specs.declared.Encoding.the-variants.{LiteralString, BasicString, MlLiteralString, MlBasicString, UnquotedKey}
 use Rattle.strings.specs.Encodings.{mllPlain, mlbPlain, basicInvalid, mlbInvalid, plain}
 use Rattle.strings.specs.Bodies.{skips}
-use Rattle.pieces.specs.Scan.{Wide, stopsOf}
+use Rattle.pieces.specs.declared.scan.Mask.{Mask}
+use Rattle.pieces.specs.Scan.{maskOf, marked, Wide, stopsOf}
 
 -- ---- a byte that is none of the single ones
 
@@ -30,10 +31,6 @@ or-not true = refl
 or-not false = refl
 
 module _ (b : ℕ) where
-  pub mll-only : (b ≡ 0x27 → ⊥) → (b ≡ 0x0A → ⊥) → mllChar b ≡ mllPlain b
-  unfolding mllPlain
-  mll-only q l = rw (ne-eqb b 0x27 q, ne-eqb b 0x0A l) (sym (or-neither (mllChar b)))
-
   pub mlb-only : (b ≡ 0x22 → ⊥) → (b ≡ 0x0A → ⊥) → mlbUnescaped b ≡ mlbPlain b
   unfolding mlbPlain
   mlb-only q l = rw (ne-eqb b 0x22 q, ne-eqb b 0x0A l) (sym (or-neither (mlbUnescaped b)))
@@ -84,6 +81,56 @@ clear-plain (BasicString n) v b w h i x f s d l k = sym (basic-clear b h d f s l
 clear-plain MlLiteralString v b w h i x f s d l k = sym (mll-clear b h d (over-lines b w i x l k))
 clear-plain (MlBasicString n) v b w h i x f s d l k = sym (mlb-clear b h d f (over-lines b w i x l k))
 clear-plain UnquotedKey v b w h i x f s d l k = absurd v
+
+-- ---- the masks
+
+marked-literal : (b : ℕ) → b < 256 → marked (maskOf LiteralString) b ≡ literalChar b
+unfolding literalChar
+marked-literal b h = classes-agree (marked (maskOf LiteralString)) literalChar 0 256 tt b (omega arith) h
+
+marked-mll : (b : ℕ) → b < 256 → marked (maskOf MlLiteralString) b ≡ mllPlain b
+unfolding mllPlain mllChar
+marked-mll b h = classes-agree (marked (maskOf MlLiteralString)) mllPlain 0 256 tt b (omega arith) h
+
+marked-basic : (v : Edition) (b : ℕ) → b < 256 → marked (maskOf (BasicString v)) b ≡ basicUnescaped b
+unfolding basicUnescaped
+marked-basic v b h = classes-agree (marked (maskOf (BasicString v))) basicUnescaped 0 256 tt b (omega arith) h
+
+marked-mlb : (v : Edition) (b : ℕ) → b < 256 → marked (maskOf (MlBasicString v)) b ≡ mlbPlain b
+unfolding mlbPlain mlbUnescaped
+marked-mlb v b h = classes-agree (marked (maskOf (MlBasicString v))) mlbPlain 0 256 tt b (omega arith) h
+
+marked-key : (b : ℕ) → b < 256 → marked (maskOf UnquotedKey) b ≡ unquotedChar b
+unfolding unquotedChar
+marked-key b h = classes-agree (marked (maskOf UnquotedKey)) unquotedChar 0 256 tt b (omega arith) h
+
+marked-plain : (e : Encoding) (b : ℕ) → b < 256 → marked (maskOf e) b ≡ plain e b
+marked-plain LiteralString = marked-literal
+marked-plain MlLiteralString = marked-mll
+marked-plain (BasicString v) = marked-basic v
+marked-plain (MlBasicString v) = marked-mlb v
+marked-plain UnquotedKey = marked-key
+
+-- what is read off the mask of an encoding
+pub mask-tells : (e : Encoding) (m : Mask) (b : ℕ) (r : Bool) → b < 256 → m ≡ maskOf e → r ≡ marked m b → plain e b ≡ r
+mask-tells e m b r h f t = sym (marked-plain e b h) ∙ ap (λ (m : Mask). marked m b) (sym f) ∙ sym t
+
+-- ---- a run, of which n bytes count at most
+
+abbrev FrontRun : ℕ → ℕ → ℕ → Type 0
+FrontRun n whole front = ((whole < n) × (front ≡ whole)) ⊎ ((n ≤ whole) × (front ≡ n))
+
+pub front-run : (p : ℕ → Bool) (n : ℕ) (s : List ℕ) → FrontRun n (run p s) (run p (take n s))
+unfolding run
+front-run p zero s = inr (omega arith, refl)
+front-run p (suc n) [] = inl (omega arith, refl)
+front-run p (suc n) (b ∷ s) = go (p b) (front-run p n s)
+  where
+    go : (t : Bool) → FrontRun n (run p s) (run p (take n s))
+        → FrontRun (suc n) (cond t (suc (run p s)) 0) (cond t (suc (run p (take n s))) 0)
+    go true (inl f) = inl (omega arith, omega arith)
+    go true (inr f) = inr (omega arith, omega arith)
+    go false f = inl (omega arith, refl)
 
 -- a hex digit is at least 0
 pub hexdig-above : (b : ℕ) → hexdig b ≡ true → 0x30 ≤ b

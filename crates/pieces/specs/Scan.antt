@@ -1,22 +1,47 @@
 -- What the scans of this crate's code say. Not to be believed: no promise of a public function cites it.
 -- Assumes nothing.
-use Prim.Native.Nat.{ℕ}
+use Prim.Native.Nat.{ℕ, _-_, _/_, _^_, _≤_, _<_}
 use mathlib.Core.Path.{_≡_}
-use mathlib.Core.Bool.{Bool, false}
-use Rattle.classes.specs.Classes.{wschar}
+use mathlib.Core.Bool.{Bool, true, false, cond}
+use mathlib.Core.List.{List}
+use lib.Bits.{bitAnd}
+use lib.Dec.{eqb, ltb}
+use lib.ListN.{take}
+use Rattle.classes.specs.Classes.{wschar, hexdig}
+use Rattle.classes.specs.Runs.{run}
 use Rattle.strings.specs.declared.Encoding.{Encoding}
 use Rattle.strings.specs.declared.Encoding.the-variants.{LiteralString, BasicString, MlLiteralString, MlBasicString, UnquotedKey}
-use Rattle.strings.specs.Encodings.{plain, basicInvalid, mlbInvalid}
+use Rattle.strings.specs.Encodings.{basicInvalid, mlbInvalid}
+use Rattle.strings.specs.Escapes.{hexFrom}
+use Rattle.pieces.specs.declared.scan.Mask.{Mask}
 use Rattle.pieces.specs.declared.scan.Set.{Set}
-use Rattle.pieces.specs.declared.scan.Set.the-variants.{Plain, BasicInvalid, MlbInvalid, Blank}
+use Rattle.pieces.specs.declared.scan.Set.the-variants.{BasicInvalid, MlbInvalid, Blank}
 use Rattle.pieces.specs.declared.scan.Stops.{Stops}
+use Rattle.pieces.specs.declared.string.Hex.{Hex}
 
 -- the sets by name
 abbrev pub setOf : Set → ℕ → Bool
-setOf (Plain e) = plain e
 setOf BasicInvalid = basicInvalid
 setOf MlbInvalid = mlbInvalid
 setOf Blank = wschar
+
+-- the bytes that stand for themselves, as bits: those below 40, those from 40 to 7F, and all from 80 on
+abbrev mask : ℕ → ℕ → Bool → Mask
+mask low mid high = record { low = low; mid = mid; high = high }
+
+abbrev pub maskOf : Encoding → Mask
+maskOf LiteralString = mask 0xFFFFFF7F00000200 0x7FFFFFFFFFFFFFFF true
+maskOf (BasicString v) = mask 0xFFFFFFFB00000200 0x7FFFFFFFEFFFFFFF true
+maskOf MlLiteralString = mask 0xFFFFFFFF00000600 0x7FFFFFFFFFFFFFFF true
+maskOf (MlBasicString v) = mask 0xFFFFFFFF00000600 0x7FFFFFFFEFFFFFFF true
+maskOf UnquotedKey = mask 0x03FF200000000000 0x07FFFFFE87FFFFFE false
+
+-- the bit of a byte: `marked-plain` in proofs/ScanLaws.antt shows that it says `plain`
+abbrev pub marked : Mask → ℕ → Bool
+marked m b =
+    cond (ltb b 64) (eqb (bitAnd (m .low / 2 ^ b) 1) 1)
+    (cond (ltb b 128) (eqb (bitAnd (m .mid / 2 ^ (b - 64)) 1) 1)
+    (m .high))
 
 -- the encodings that are scanned in blocks: all but the key
 abbrev pub Wide : Encoding → Type 0
@@ -44,3 +69,10 @@ pub record NoneSet (first second delete low mid : Bool) : Type 0 where
   pub delete-off : delete ≡ false
   pub low-off : low ≡ false
   pub mid-off : mid ≡ false
+
+-- the digits that s begins with, of which n are asked for: where fewer are found, no more are there; else their number is at hand
+pub record HexRead (n : ℕ) (s : List ℕ) (h : Hex) : Type 0 where
+  pub within : h .found ≤ n
+  pub few : h .found < n → h .found ≡ run hexdig s
+  pub enough : n ≤ h .found → n ≤ run hexdig s
+  pub number : n ≤ h .found → h .value ≡ hexFrom 0 (take n s)

@@ -1,6 +1,8 @@
 // The piece at a place of a body, by the five decoders of string.rt. Rules: Bodies.antt and
 // Escapes.antt of crate `strings`.
 ghost use mathlib.Core.Path.{_≡_};
+ghost use Rattle.classes.specs.Runs.{run};
+ghost use Rattle.strings.specs.Encodings.{plain};
 ghost use Rattle.pieces.specs.Places.{pieceAt};
 
 mod piece;
@@ -8,12 +10,20 @@ mod scan;
 mod string;
 
 use crate::piece::copy_piece;
+pub use crate::scan::plain_few;
+pub use crate::string::Escape;
+use crate::string::basic_unescaped;
 use crate::string::decode_basic_string;
 use crate::string::decode_literal_string;
 use crate::string::decode_ml_basic_string;
 use crate::string::decode_ml_literal_string;
 use crate::string::decode_unquoted_key;
+pub use crate::string::escape_at;
+use crate::string::literal_chars;
+use crate::string::mlb_unescaped;
+use crate::string::mll_chars;
 pub use crate::string::strip_start_newline;
+use crate::string::unquoted_chars;
 use strings::Encoding;
 use strings::Piece;
 use text::LIMIT;
@@ -38,5 +48,18 @@ pub fn piece_at(e: Encoding, dropping: bool, s: &[u8], at: usize) -> Piece
         Encoding::BasicString(v) => decode_basic_string(v, s, at),
         Encoding::MlBasicString(v) => decode_ml_basic_string(v, dropping, s, at),
         Encoding::UnquotedKey => decode_unquoted_key(s, at),
+    }
+}
+
+// How many bytes in front stand for themselves.
+pub fn plain_run(e: Encoding, s: &[u8]) -> usize
+    ensures { λ r. ⌜ r ≡ run (plain e) (now (s .entry)) ⌝ }
+{
+    match e {
+        Encoding::LiteralString => literal_chars(s),
+        Encoding::MlLiteralString => mll_chars(s),
+        Encoding::BasicString(v) => basic_unescaped(v, s),
+        Encoding::MlBasicString(v) => mlb_unescaped(v, s),
+        Encoding::UnquotedKey => unquoted_chars(s),
     }
 }

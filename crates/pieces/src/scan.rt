@@ -3,16 +3,13 @@
 ghost use mathlib.Core.Path.{_≡_};
 ghost use mathlib.Core.Bool.{true};
 ghost use Prim.Native.Nat.{_+_, _<_, _≤_};
-ghost use lib.ListN.{length, drop, getD};
+ghost use lib.ListN.{length, take, drop, getD};
 ghost use Rattle.classes.specs.Runs.{run};
 ghost use Rattle.classes.proofs.RunLaws.{Block, SameEnd};
-ghost use Rattle.strings.specs.Encodings.{mllPlain, mlbPlain, basicInvalid, mlbInvalid, plain};
-ghost use Rattle.pieces.specs.Scan.{setOf, Wide, stopsOf, NoneSet};
+ghost use Rattle.strings.specs.Encodings.{mlbPlain, basicInvalid, mlbInvalid, plain};
+ghost use Rattle.pieces.specs.Scan.{setOf, maskOf, marked, Wide, stopsOf, NoneSet};
 use classes::is_basic_unescaped;
-use classes::is_literal_char;
 use classes::is_mlb_unescaped;
-use classes::is_mll_char;
-use classes::is_unquoted_char;
 use classes::is_wschar;
 use std::num::wrapping_sub_u8;
 use strings::Encoding;
@@ -24,34 +21,12 @@ pub(crate) fn peek(s: &[u8], i: usize) -> u8
     if i < s.len() { s[i] } else { 0 }
 }
 
-fn is_mll_plain(b: u8) -> bool
-    ensures { λ r. ⌜ r ≡ mllPlain b ⌝ }
-{
-    match b {
-        b'\'' | b'\n' => true,
-        _ => is_mll_char(b),
-    }
-}
-
 fn is_mlb_plain(b: u8) -> bool
     ensures { λ r. ⌜ r ≡ mlbPlain b ⌝ }
 {
     match b {
         b'"' | b'\n' => true,
         _ => is_mlb_unescaped(b),
-    }
-}
-
-// Does the byte stand for itself?
-fn is_plain(e: Encoding, b: u8) -> bool
-    ensures { λ r. ⌜ r ≡ plain e b ⌝ }
-{
-    match e {
-        Encoding::LiteralString => is_literal_char(b),
-        Encoding::BasicString(_) => is_basic_unescaped(b),
-        Encoding::MlLiteralString => is_mll_plain(b),
-        Encoding::MlBasicString(_) => is_mlb_plain(b),
-        Encoding::UnquotedKey => is_unquoted_char(b),
     }
 }
 
@@ -73,9 +48,8 @@ fn is_mlb_invalid(b: u8) -> bool
     }
 }
 
-// The byte sets that are scanned.
+// The byte sets that are scanned one by one.
 pub(crate) enum Set {
-    Plain(Encoding),
     BasicInvalid,
     MlbInvalid,
     Blank,
@@ -85,7 +59,6 @@ fn is_in(set: Set, b: u8) -> bool
     ensures { λ r. ⌜ r ≡ setOf set b ⌝ }
 {
     match set {
-        Set::Plain(e) => is_plain(e, b),
         Set::BasicInvalid => is_basic_invalid(b),
         Set::MlbInvalid => is_mlb_invalid(b),
         Set::Blank => is_wschar(b),
@@ -105,6 +78,99 @@ pub(crate) fn run_from(set: Set, s: &[u8], start: usize) -> usize
         i += 1;
     }
     i
+}
+
+// The bytes that stand for themselves: a bit for each below 40, a bit for each from 40 to 7F, and whether all from 80 on
+// do.
+pub(crate) struct Mask {
+    pub low: u64,
+    pub mid: u64,
+    pub high: bool,
+}
+
+fn mask_of(e: Encoding) -> Mask
+    ensures { λ r. ⌜ r ≡ maskOf e ⌝ }
+{
+    match e {
+        Encoding::LiteralString => Mask {
+            low: 0xFFFF_FF7F_0000_0200,
+            mid: 0x7FFF_FFFF_FFFF_FFFF,
+            high: true,
+        },
+        Encoding::BasicString(_) => Mask {
+            low: 0xFFFF_FFFB_0000_0200,
+            mid: 0x7FFF_FFFF_EFFF_FFFF,
+            high: true,
+        },
+        Encoding::MlLiteralString => Mask {
+            low: 0xFFFF_FFFF_0000_0600,
+            mid: 0x7FFF_FFFF_FFFF_FFFF,
+            high: true,
+        },
+        Encoding::MlBasicString(_) => Mask {
+            low: 0xFFFF_FFFF_0000_0600,
+            mid: 0x7FFF_FFFF_EFFF_FFFF,
+            high: true,
+        },
+        Encoding::UnquotedKey => Mask {
+            low: 0x03FF_2000_0000_0000,
+            mid: 0x07FF_FFFE_87FF_FFFE,
+            high: false,
+        },
+    }
+}
+
+fn wide(b: u8) -> u64
+    ensures { λ r. ⌜ r ≡ b ⌝ }
+{
+    b as u64
+}
+
+// Does the mask have the byte?
+fn is_marked(mask: Mask, b: u8) -> bool
+    ensures { λ r. ⌜ r ≡ marked mask b ⌝ }
+{
+    if b < 64 {
+        return (mask.low >> wide(b)) & 1 == 1;
+    }
+    if b < 128 {
+        return (mask.mid >> wide(b - 64)) & 1 == 1;
+    }
+    mask.high
+}
+
+// The place of the first byte from `start` on that does not stand for itself, or the end: one by one.
+pub(crate) fn plain_rest(e: Encoding, s: &[u8], start: usize) -> usize
+    requires { ⌜ start ≤ length (now s) ⌝ }
+    ensures { λ r. ⌜ r ≡ start + run (plain e) (drop start (now (s .entry))) ⌝ }
+{
+    let mask = mask_of(e);
+    let mut i = start;
+    while i < s.len() {
+        if !is_marked(mask, s[i]) {
+            return i;
+        }
+        i += 1;
+    }
+    i
+}
+
+// How many bytes in front stand for themselves, of which eight count at most.
+pub fn plain_few(e: Encoding, s: &[u8]) -> usize
+    ensures { λ r. ⌜ r ≡ run (plain e) (take 8 (now (s .entry))) ⌝ }
+{
+    let mask = mask_of(e);
+    let mut i = 0;
+    while i < 8 {
+        if i == s.len() {
+            return i;
+        }
+        if !is_marked(mask, s[i]) {
+            return i;
+        }
+        i += 1;
+    }
+    8
 }
 
 // Blocks of n bytes that stand for themselves, passed over. Each caller names its encoding, so that

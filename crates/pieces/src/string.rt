@@ -2,23 +2,27 @@
 // its body; the loops of crate `decoder` walk the pieces. Rules: Bodies.antt and Escapes.antt of crate
 // `strings`. s is the body from the place `at` of the text on.
 ghost use mathlib.Core.Path.{_≡_};
+ghost use mathlib.Core.Bool.{cond};
 ghost use Prim.Native.Nat.{_+_, _<_, _≤_, _^_};
 ghost use lib.ListN.{length};
-ghost use Rattle.classes.specs.Classes.{literalChar, basicUnescaped};
+ghost use Rattle.classes.specs.Classes.{literalChar, basicUnescaped, unquotedChar, hexdig};
 ghost use Rattle.classes.specs.Runs.{run};
 ghost use Rattle.strings.specs.Encodings.{mllPlain, mlbPlain, basicInvalid, mlbInvalid};
 ghost use Rattle.strings.specs.Escapes.{newEscape, simpleEscape, newHexLength, hexLength, hexValue, hexPiece, escapePiece};
 ghost use Rattle.strings.specs.Bodies.{crError, literalPiece, mlLiteralPiece, basicPiece, skips, escapedNl, escapedMore, mlbContent, mlBasicPiece, keyPiece};
 ghost use Rattle.strings.specs.Marks.{newlineLen};
+ghost use Rattle.pieces.specs.GoodEscapes.{noEscape, goodHex, goodEscape, escapeAt};
+ghost use Rattle.pieces.specs.Scan.{HexRead};
 use crate::piece::char_piece;
 use crate::piece::copy_piece;
 use crate::piece::drop_piece;
 use crate::scan::Set;
 use crate::scan::peek;
 use crate::scan::plain_blocks;
+use crate::scan::plain_rest;
 use crate::scan::run_from;
-use classes::is_hexdig;
 use classes::is_wschar;
+use std::num::wrapping_sub_u8;
 use strings::Edition;
 use strings::Encoding;
 use strings::Piece;
@@ -37,12 +41,12 @@ pub(crate) fn decode_literal_string(s: &[u8], at: usize) -> Piece
 }
 
 // literal-char = %x09 / %x20-26 / %x28-7E / non-ascii
-fn literal_chars(s: &[u8]) -> usize
+pub(crate) fn literal_chars(s: &[u8]) -> usize
     ensures { λ r. ⌜ r ≡ run literalChar (now (s .entry)) ⌝ }
 {
     let wide = plain_blocks(Encoding::LiteralString, s, 0, 16);
     let i = plain_blocks(Encoding::LiteralString, s, wide, 8);
-    run_from(Set::Plain(Encoding::LiteralString), s, i)
+    plain_rest(Encoding::LiteralString, s, i)
 }
 
 // ml-literal-body = *mll-content *( mll-quotes 1*mll-content ) [ mll-quotes ]
@@ -61,12 +65,12 @@ pub(crate) fn decode_ml_literal_string(s: &[u8], at: usize) -> Piece
 }
 
 // mll-char, with mll-quotes and LF
-fn mll_chars(s: &[u8]) -> usize
+pub(crate) fn mll_chars(s: &[u8]) -> usize
     ensures { λ r. ⌜ r ≡ run mllPlain (now (s .entry)) ⌝ }
 {
     let wide = plain_blocks(Encoding::MlLiteralString, s, 0, 16);
     let i = plain_blocks(Encoding::MlLiteralString, s, wide, 8);
-    run_from(Set::Plain(Encoding::MlLiteralString), s, i)
+    plain_rest(Encoding::MlLiteralString, s, i)
 }
 
 // The error of a CR, by the byte behind it.
@@ -81,30 +85,92 @@ pub(crate) fn decode_basic_string(v: Edition, s: &[u8], at: usize) -> Piece
     requires { ⌜ (0 < length (now s)) × (at + length (now s) < 2 ^ 62) ⌝ }
     ensures { λ r. ⌜ r ≡ basicPiece v at (now (s .entry)) ⌝ }
 {
+    if s[0] == b'\\' {
+        return escape_seq_char(v, &s[1..], at);
+    }
     let n = basic_unescaped(v, s);
     if 0 < n {
         return copy_piece(n, 0, at, at);
-    }
-    if s[0] == b'\\' {
-        return escape_seq_char(v, &s[1..], at);
     }
     let k = basic_invalid(s);
     copy_piece(k, 7, at, at + k)
 }
 
 // basic-unescaped = wschar / %x21 / %x23-5B / %x5D-7E / non-ascii
-fn basic_unescaped(v: Edition, s: &[u8]) -> usize
+pub(crate) fn basic_unescaped(v: Edition, s: &[u8]) -> usize
     ensures { λ r. ⌜ r ≡ run basicUnescaped (now (s .entry)) ⌝ }
 {
     let wide = plain_blocks(Encoding::BasicString(v), s, 0, 16);
     let i = plain_blocks(Encoding::BasicString(v), s, wide, 8);
-    run_from(Set::Plain(Encoding::BasicString(v)), s, i)
+    plain_rest(Encoding::BasicString(v), s, i)
 }
 
 fn basic_invalid(s: &[u8]) -> usize
     ensures { λ r. ⌜ r ≡ run basicInvalid (now (s .entry)) ⌝ }
 {
     run_from(Set::BasicInvalid, s, 0)
+}
+
+// An escape that stands for a character: how many bytes it has, its backslash among them, and the character. No bytes
+// where it stands for none.
+pub struct Escape {
+    pub take: usize,
+    pub char: u32,
+}
+
+fn no_escape() -> Escape
+    ensures { λ r. ⌜ r ≡ noEscape ⌝ }
+{
+    Escape { take: 0, char: 0 }
+}
+
+// The escape in front of s, where the encoding has escapes and one that stands for a character is there.
+pub fn escape_at(e: Encoding, s: &[u8]) -> Escape
+    ensures { λ r. ⌜ r ≡ escapeAt e (now (s .entry)) ⌝ }
+{
+    if peek(s, 0) != b'\\' {
+        return no_escape();
+    }
+    match e {
+        Encoding::BasicString(v) => good_escape(v, &s[1..]),
+        Encoding::MlBasicString(v) => good_escape(v, &s[1..]),
+        _ => no_escape(),
+    }
+}
+
+// The same of the edition, behind the backslash.
+fn good_escape(v: Edition, s: &[u8]) -> Escape
+    ensures { λ r. ⌜ r ≡ goodEscape v (now (s .entry)) ⌝ }
+{
+    let b = peek(s, 0);
+    let c = simple_escape(v, b);
+    if 0 < c {
+        return Escape { take: 2, char: c };
+    }
+    let digits = hex_length(v, b);
+    if 0 < digits {
+        return good_hex(&s[1..], digits);
+    }
+    no_escape()
+}
+
+// An escape whose digits s begins with.
+fn good_hex(s: &[u8], digits: usize) -> Escape
+    requires { ⌜ digits ≤ 8 ⌝ }
+    ensures { λ r. ⌜ r ≡ goodHex digits (now (s .entry)) ⌝ }
+{
+    let hex = hex_digits(s, digits);
+    let value = hex.value;
+    if hex.found < digits {
+        return no_escape();
+    }
+    if is_scalar(value) {
+        return Escape {
+            take: 2 + digits,
+            char: value,
+        };
+    }
+    no_escape()
 }
 
 // escape-seq-char of the edition, behind a backslash at `at`
@@ -176,15 +242,11 @@ fn hexescape(s: &[u8], digits: usize, at: usize) -> Piece
     requires { ⌜ (digits ≤ 8) × (at < 2 ^ 62) ⌝ }
     ensures { λ r. ⌜ r ≡ hexPiece digits at (now (s .entry)) ⌝ }
 {
-    let mut i = 0;
-    let mut value: u32 = 0;
-    while i < digits {
-        let b = peek(s, i);
-        if !is_hexdig(b) {
-            return char_piece(2 + i, 0xFFFD, 9, at + (2 + i));
-        }
-        value = value * 16 + hex_value(b);
-        i += 1;
+    let hex = hex_digits(s, digits);
+    let i = hex.found;
+    let value = hex.value;
+    if i < digits {
+        return char_piece(2 + i, 0xFFFD, 9, at + (2 + i));
     }
     if is_scalar(value) {
         return char_piece(2 + digits, value, 0, 0);
@@ -192,16 +254,42 @@ fn hexescape(s: &[u8], digits: usize, at: usize) -> Piece
     char_piece(2 + digits, 0xFFFD, 10, at + 2)
 }
 
-// The value of a hex digit.
-fn hex_value(b: u8) -> u32
-    requires { ⌜ 0x30 ≤ b ⌝ }
-    ensures { λ r. ⌜ r ≡ hexValue b ⌝ }
+// The digits that s begins with, up to as many as are asked for: how many, and their value.
+struct Hex {
+    found: usize,
+    value: u32,
+}
+
+fn hex_digits(s: &[u8], digits: usize) -> Hex
+    requires { ⌜ digits ≤ 8 ⌝ }
+    ensures { λ r. ⌜ HexRead digits (now (s .entry)) r ⌝ }
 {
-    match b {
-        0..=0x40 => (b - 0x30) as u32,
-        0x41..=0x60 => (b - 0x37) as u32,
-        _ => (b - 0x57) as u32,
+    let mut i = 0;
+    let mut value: u32 = 0;
+    while i < digits {
+        let d = hex_value(peek(s, i));
+        if 15 < d {
+            return Hex { found: i, value };
+        }
+        value = value * 16 + d;
+        i += 1;
     }
+    Hex { found: i, value }
+}
+
+// The value of a hex digit; of any other byte 16.
+fn hex_value(b: u8) -> u32
+    ensures { λ r. ⌜ r ≡ cond (hexdig b) (hexValue b) 16 ⌝ }
+{
+    let d = wrapping_sub_u8(b, 0x30);
+    if d < 10 {
+        return d as u32;
+    }
+    let l = wrapping_sub_u8(b | 0x20, 0x61);
+    if l < 6 {
+        return (l + 10) as u32;
+    }
+    16
 }
 
 // How many bytes of s are a newline to be dropped behind an opening.
@@ -304,12 +392,12 @@ fn mlb_escaped_more(s: &[u8], at: usize) -> Piece
 }
 
 // mlb-unescaped, with mlb-quotes and LF
-fn mlb_unescaped(v: Edition, s: &[u8]) -> usize
+pub(crate) fn mlb_unescaped(v: Edition, s: &[u8]) -> usize
     ensures { λ r. ⌜ r ≡ run mlbPlain (now (s .entry)) ⌝ }
 {
     let wide = plain_blocks(Encoding::MlBasicString(v), s, 0, 16);
     let i = plain_blocks(Encoding::MlBasicString(v), s, wide, 8);
-    run_from(Set::Plain(Encoding::MlBasicString(v)), s, i)
+    plain_rest(Encoding::MlBasicString(v), s, i)
 }
 
 fn mlb_invalid(s: &[u8]) -> usize
@@ -323,9 +411,16 @@ pub(crate) fn decode_unquoted_key(s: &[u8], at: usize) -> Piece
     requires { ⌜ 0 < length (now s) ⌝ }
     ensures { λ r. ⌜ r ≡ keyPiece at (now (s .entry)) ⌝ }
 {
-    let n = run_from(Set::Plain(Encoding::UnquotedKey), s, 0);
+    let n = unquoted_chars(s);
     if 0 < n {
         return copy_piece(n, 0, at, at);
     }
     copy_piece(1, 15, at, at)
+}
+
+// ALPHA / DIGIT / %x2D / %x5F
+pub(crate) fn unquoted_chars(s: &[u8]) -> usize
+    ensures { λ r. ⌜ r ≡ run unquotedChar (now (s .entry)) ⌝ }
+{
+    plain_rest(Encoding::UnquotedKey, s, 0)
 }

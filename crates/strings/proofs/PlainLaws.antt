@@ -48,7 +48,7 @@ run-all p [] f = refl
 run-all p (b ∷ s) f = rw (f 0 (omega arith)) (ap suc (run-all p s (λ k h. f (suc k) (omega arith))))
 
 -- a plain byte begins a piece that takes the whole run as it stands
-plain-piece : (e : Encoding) (at : ℕ) (s : List ℕ) → plain e (getD s 0 0) ≡ true → pieceOf e false at s ≡ copyPiece (run (plain e) s) 0 at at
+pub plain-piece : (e : Encoding) (at : ℕ) (s : List ℕ) → plain e (getD s 0 0) ≡ true → pieceOf e false at s ≡ copyPiece (run (plain e) s) 0 at at
 unfolding literalPiece mlLiteralPiece basicPiece mlBasicPiece mlbContent keyPiece
 plain-piece LiteralString at s h = rw h
 plain-piece MlLiteralString at s h = rw h

@@ -4,12 +4,6 @@ use borrow.Author.Needs.{needs}
 use Rattle.pieces.proofs.scan.is_in.Statement.{statement}
 use Rattle.pieces.proofs.scan.is_in.Tie as tie
 
-enum-known-set : tie.Need-enum-known-set
-enum-known-set c = search needs
-
-is-plain-requires : tie.Need-is-plain-requires
-is-plain-requires c κs = search needs
-
 enum-told : tie.Need-enum-told
 enum-told c = search needs
 
@@ -29,23 +23,18 @@ is-wschar-requires : tie.Need-is-wschar-requires
 is-wschar-requires c κs = search needs
 
 returns : tie.Need-returns
-returns c = rw (c .before .before .set .given .1) (c .is-plain .ensures)
+returns c = rw (c .before .enum-told .given .1) (c .is-basic-invalid .ensures)
 
 returns-2 : tie.Need-returns-2
-returns-2 c = rw (c .before .enum-told .given .1) (c .is-basic-invalid .ensures)
+returns-2 c = rw (c .before .enum-told2 .given .1) (c .is-mlb-invalid .ensures)
 
 returns-3 : tie.Need-returns-3
-returns-3 c = rw (c .before .enum-told2 .given .1) (c .is-mlb-invalid .ensures)
-
-returns-4 : tie.Need-returns-4
-returns-4 c = rw (c .before .enum-told3 .given .1) (c .is-wschar .ensures)
+returns-3 c = rw (c .before .enum-told3 .given .1) (c .is-wschar .ensures)
 
 pub is-in-spec : {M : Type 1} → statement M
 is-in-spec =
     tie.close
     (tie.spec
-    enum-known-set
-    is-plain-requires
     enum-told
     is-basic-invalid-requires
     enum-told-2
@@ -54,5 +43,4 @@ is-in-spec =
     is-wschar-requires
     returns
     returns-2
-    returns-3
-    returns-4)
+    returns-3)

@@ -1,17 +1,15 @@
 -- `decode_unquoted_key` is right because a run that is empty begins with a byte that is not allowed.
 -- Assumes nothing.
-use mathlib.Core.Path.{_≡_, _∙_}
-use native.Mathlib.Omega.{arith}
+use mathlib.Core.Path.{_∙_}
 use borrow.Author.Needs.{needs}
 use Rattle.classes.specs.Classes.{unquotedChar}
-use Rattle.classes.specs.Runs.{run}
 use Rattle.strings.specs.Bodies.{keyPiece}
 use Rattle.classes.proofs.RunLaws.{run-none, run-first}
 use Rattle.pieces.proofs.string.decode_unquoted_key.Statement.{statement}
 use Rattle.pieces.proofs.string.decode_unquoted_key.Tie as tie
 
-run-from-requires : tie.Need-run-from-requires
-run-from-requires c κs = search needs
+unquoted-chars-requires : tie.Need-unquoted-chars-requires
+unquoted-chars-requires c κs = search needs
 
 copy-piece-requires : tie.Need-copy-piece-requires
 copy-piece-requires c κs = search needs
@@ -20,7 +18,7 @@ returns : tie.Need-returns
 unfolding keyPiece
 returns c =
     let s = c .before .before .before .before .args .s .now in
-    let n : c .before .before .run-from .result ≡ run unquotedChar s = omega (arith, c .before .before .run-from .ensures) in
+    let n = c .before .before .unquoted-chars .ensures in
     c .copy-piece .ensures ∙ rw (run-first unquotedChar s (c .before .before .before .before .pre) _ n (c .before .if1 .taken), ← n)
 
 copy-piece-requires-2 : tie.Need-copy-piece-requires-2
@@ -30,10 +28,10 @@ returns-2 : tie.Need-returns-2
 unfolding keyPiece
 returns-2 c =
     let s = c .before .before .before .before .args .s .now in
-    let n : c .before .before .run-from .result ≡ run unquotedChar s = omega (arith, c .before .before .run-from .ensures) in
+    let n = c .before .before .unquoted-chars .ensures in
     c .copy-piece2 .ensures ∙ rw (run-none unquotedChar s (c .before .before .before .before .pre) _ n (c .before .if1 .left))
 
 pub decode-unquoted-key-spec : {M : Type 1} → statement M
 decode-unquoted-key-spec =
     tie.close
-    (tie.spec run-from-requires copy-piece-requires returns copy-piece-requires-2 returns-2)
+    (tie.spec unquoted-chars-requires copy-piece-requires returns copy-piece-requires-2 returns-2)

@@ -1,0 +1,192 @@
+-- The escape that is read off in front of a body: its cases, and that the rule's piece there is this one. And the rule's piece
+-- where a run of bytes that stand for themselves is short.
+-- Assumes nothing.
+use Prim.Native.Nat.{ℕ, _+_, _≤_, _<_}
+use mathlib.Core.Path.{_≡_, refl, sym, ap, _∙_}
+use mathlib.Core.Logic.{⊎-elim}
+use mathlib.Core.Bool.{Bool, true, false, _&&_, _||_}
+use mathlib.Core.List.{List}
+use native.Mathlib.Omega.{arith}
+use lib.Dec.{T, eqb, leb}
+use lib.ListN.{take, drop, getD}
+use lib.Seq.{getD-drop}
+use borrow.Author.Tests.{eq-eqb, ne-eqb, eqb-true, lt-ltb, le-ltb, leb-true, le-leb, lt-leb}
+use Rattle.classes.specs.Classes.{wschar, basicUnescaped, mlbUnescaped, hexdig}
+use Rattle.classes.specs.Runs.{run}
+use Rattle.classes.proofs.ByteTable.{allFrom, same, class-is}
+use Rattle.classes.proofs.Conds.{cond-case, by-lt, by-eq, both-left, both-right, or-inv}
+use Rattle.classes.proofs.RunLaws.{run-le, run-first}
+use Rattle.text.specs.Utf8Read.{isScalar}
+use Rattle.strings.specs.declared.Edition.{Edition}
+use Rattle.strings.specs.declared.Edition.the-variants.{Toml10, Toml11}
+use Rattle.strings.specs.declared.Encoding.{Encoding}
+use Rattle.strings.specs.declared.Encoding.the-variants.{LiteralString, BasicString, MlLiteralString, MlBasicString, UnquotedKey}
+use Rattle.strings.specs.Encodings.{mlbPlain, plain}
+use Rattle.strings.specs.Pieces.{copyPiece, charPiece}
+use Rattle.strings.specs.Escapes.{simpleEscape, hexLength, hexFrom, escapePiece}
+use Rattle.strings.specs.Bodies.{basicPiece, skips, mlbContent, mlBasicPiece, pieceOf}
+use Rattle.strings.proofs.EscapeLaws.{simple-ascii, hex-letter, hex-char, escape-hex, escape-simple}
+use Rattle.strings.proofs.PlainLaws.{plain-piece}
+use Rattle.pieces.specs.declared.string.Escape.{Escape}
+use Rattle.pieces.specs.GoodEscapes.{escapeTo, noEscape, goodHex, goodEscape, escapeIn, escapeAt}
+use Rattle.pieces.proofs.ScanLaws.{front-run}
+
+-- ---- escapes, case by case
+
+-- n digits
+module _ (n : ℕ) (s : List ℕ) where
+  pub good-few : (k : ℕ) → k ≡ run hexdig s → k < n → noEscape ≡ goodHex n s
+  unfolding goodHex
+  good-few k e h =
+      let l : run hexdig s < n = omega arith in
+      rw (lt-leb _ _ l)
+
+  pub good-char : (v : ℕ) → n ≤ run hexdig s → v ≡ hexFrom 0 (take n s) → isScalar v ≡ true → escapeTo (2 + n) v ≡ goodHex n s
+  unfolding goodHex
+  good-char v h e t = rw (le-leb _ _ h, ← e, t)
+
+  pub good-no-char : (v : ℕ) → n ≤ run hexdig s → v ≡ hexFrom 0 (take n s) → isScalar v ≡ false → noEscape ≡ goodHex n s
+  unfolding goodHex
+  good-no-char v h e t = rw (le-leb _ _ h, ← e, t)
+
+-- behind the backslash: c is the letter's character, n how many digits it asks for
+module _ (v : Edition) (s : List ℕ) (c : ℕ) (is : c ≡ simpleEscape v (getD s 0 0)) where
+  pub good-simple : 0 < c → escapeTo 2 c ≡ goodEscape v s
+  unfolding goodEscape
+  good-simple h = rw (← is, lt-ltb _ _ h)
+
+  module _ (zero : c ≤ 0) (n : ℕ) (asked : n ≡ hexLength v (getD s 0 0)) where
+    pub good-digits : 0 < n → goodHex n (drop 1 s) ≡ goodEscape v s
+    unfolding goodEscape
+    good-digits h = rw (← is, le-ltb _ _ zero, ← asked, lt-ltb _ _ h)
+
+    pub good-neither : n ≤ 0 → noEscape ≡ goodEscape v s
+    unfolding goodEscape
+    good-neither h = rw (← is, le-ltb _ _ zero, ← asked, le-ltb _ _ h)
+
+-- in front
+module _ (e : Encoding) (s : List ℕ) where
+  pub escape-here : getD s 0 0 ≡ 0x5C → escapeIn e s ≡ escapeAt e s
+  unfolding escapeAt
+  escape-here h = rw (eq-eqb _ 0x5C h)
+
+  pub escape-absent : (getD s 0 0 ≡ 0x5C → ⊥) → noEscape ≡ escapeAt e s
+  unfolding escapeAt
+  escape-absent h = rw (ne-eqb _ 0x5C h)
+
+-- ---- the piece at a backslash
+
+basic-stops : basicUnescaped 0x5C ≡ false
+unfolding basicUnescaped
+basic-stops = refl
+
+mlb-stops : mlbPlain 0x5C ≡ false
+unfolding mlbPlain mlbUnescaped
+mlb-stops = refl
+
+not-skipped : skips 0x5C ≡ false
+unfolding skips wschar
+not-skipped = refl
+
+and-false : (x : Bool) → (x && false) ≡ false
+and-false true = refl
+and-false false = refl
+
+module _ (v : Edition) (at : ℕ) (s : List ℕ) (backslash : getD s 0 0 ≡ 0x5C) where
+  pub basic-escape : escapePiece v at (drop 1 s) ≡ basicPiece v at s
+  unfolding basicPiece
+  basic-escape = rw (backslash, basic-stops)
+
+  ml-basic-escape : (d : Bool) → skips (getD s 1 0) ≡ false → escapePiece v at (drop 1 s) ≡ mlBasicPiece v d at s
+  unfolding mlBasicPiece mlbContent
+  ml-basic-escape d h = rw (backslash, not-skipped, and-false d, mlb-stops, h)
+
+-- ---- an escape that is found is the rule's
+
+-- a letter that has a character asks for no digits
+one-kind : (v : Edition) → T (allFrom (λ b. same true (eqb (simpleEscape v b) 0 || eqb (hexLength v b) 0)) 0 0x80)
+unfolding simpleEscape hexLength
+one-kind Toml10 = tt
+one-kind Toml11 = tt
+
+no-digits : (v : Edition) (b : ℕ) → 0 < simpleEscape v b → hexLength v b ≤ 0
+no-digits v b h =
+    let test = class-is true (λ b. eqb (simpleEscape v b) 0 || eqb (hexLength v b) 0) 0 0x80 (one-kind v) b (omega arith)
+    (simple-ascii v b h .1) in
+    or-inv (eqb (simpleEscape v b) 0) (eqb (hexLength v b) 0) (sym test)
+    (λ e. omega (arith, eqb-true (simpleEscape v b) 0 e)) (λ e. omega (arith, eqb-true (hexLength v b) 0 e))
+
+letter-kept : (b : ℕ) → 0x22 ≤ b → skips b ≡ false
+unfolding skips wschar
+letter-kept b h =
+    rw (
+      ne-eqb b 0x20 (λ e. omega arith),
+      ne-eqb b 0x09 (λ e. omega arith),
+      ne-eqb b 0x0A (λ e. omega arith),
+      ne-eqb b 0x0D (λ e. omega arith),
+    )
+
+-- behind the backslash: its letter is none that a line-ending escape drops, and its piece is the rule's
+record Found (v : Edition) (at : ℕ) (s : List ℕ) (x : Escape) : Type 0 where
+  letter : 0x22 ≤ getD s 0 0
+  piece : charPiece (x .take) (x .char) 0 0 ≡ escapePiece v at s
+
+module _ (v : Edition) (at : ℕ) (s : List ℕ) where
+  abbrev IfFound : Escape → Type 0
+  IfFound x = 0 < x .take → Found v at s x
+
+  good-hex-found : 0 < hexLength v (getD s 0 0) → IfFound (goodHex (hexLength v (getD s 0 0)) (drop 1 s))
+  unfolding goodHex
+  good-hex-found h =
+      let n = hexLength v (getD s 0 0) in
+      let c = hexFrom 0 (take n (drop 1 s)) in
+      let enough = leb n (run hexdig (drop 1 s)) in
+      cond-case IfFound (enough && isScalar c)
+      (λ t z.
+      let all = leb-true _ _ (both-left enough (isScalar c) t) in
+      record {
+        letter = hex-letter v (getD s 0 0) h .0;
+        piece = hex-char n at (drop 1 s) c all refl (both-right enough (isScalar c) t) ∙ escape-hex v at s n refl h;
+      })
+      (λ t z. absurd (omega arith))
+
+  good-found : IfFound (goodEscape v s)
+  unfolding goodEscape
+  good-found =
+      let b = getD s 0 0 in
+      by-lt IfFound 0 (simpleEscape v b)
+      (λ h z.
+      record {
+        letter = simple-ascii v b h .0;
+        piece = escape-simple v at s (hexLength v b) (simpleEscape v b) refl (no-digits v b h) refl h;
+      })
+      λ h. by-lt IfFound 0 (hexLength v b) good-hex-found (λ l z. absurd (omega arith))
+
+module _ (d : Bool) (at : ℕ) (s : List ℕ) (backslash : getD s 0 0 ≡ 0x5C) where
+  piece-in : (e : Encoding) → 0 < escapeIn e s .take → pieceOf e d at s ≡ charPiece (escapeIn e s .take) (escapeIn e s .char) 0 0
+  unfolding escapeIn
+  piece-in LiteralString h = absurd (omega arith)
+  piece-in MlLiteralString h = absurd (omega arith)
+  piece-in (BasicString v) h = sym (good-found v at (drop 1 s) h .piece ∙ basic-escape v at s backslash)
+  piece-in (MlBasicString v) h =
+      let found = good-found v at (drop 1 s) h in
+      let letter : 0x22 ≤ getD s 1 0 = rw getD-drop at (found .letter) in
+      sym (found .piece ∙ ml-basic-escape v at s backslash d (letter-kept _ letter))
+  piece-in UnquotedKey h = absurd (omega arith)
+
+pub escape-piece : (e : Encoding) (d : Bool) (at : ℕ) (s : List ℕ) → 0 < escapeAt e s .take
+    → pieceOf e d at s ≡ charPiece (escapeAt e s .take) (escapeAt e s .char) 0 0
+unfolding escapeAt
+escape-piece e d at s =
+    by-eq (λ (x : Escape). 0 < x .take → pieceOf e d at s ≡ charPiece (x .take) (x .char) 0 0) (getD s 0 0) 0x5C
+    (λ b. piece-in d at s b e)
+    (λ b h. absurd (omega arith))
+
+-- ---- a short run of plain bytes is the rule's piece
+
+pub few-piece : (e : Encoding) (at : ℕ) (s : List ℕ) (n : ℕ) → n ≡ run (plain e) (take 8 s) → 0 < n → n < 8
+    → pieceOf e false at s ≡ copyPiece n 0 at at
+few-piece e at s n is some few =
+    let all : n ≡ run (plain e) s = ⊎-elim (λ w. omega arith) (λ w. omega arith) (front-run (plain e) 8 s) in
+    let first = run-first (plain e) s (omega (arith, run-le (plain e) s)) n all some in
+    plain-piece e at s first ∙ ap (λ (k : ℕ). copyPiece k 0 at at) (sym all)
