@@ -12,6 +12,8 @@ ghost use Rattle.strings.specs.declared.Choice.the-variants.{Known};
 ghost use Rattle.strings.specs.Decoding.{bytesOf, errorsOf, bytesBy, errorsBy, decodedBy, decodeIn, decodeOf, after};
 ghost use Rattle.strings.specs.Decoding.{decodedNumber, decodedValue, decodedErrors, decodedLength, decodeRefusal, decodeReturned, decodeNoted};
 ghost use Rattle.strings.proofs.PlainLaws.{Named};
+ghost use Rattle.strings.specs.Marks.{endsOf};
+ghost use Rattle.strings.proofs.KeyLaws.{KeyCopied};
 ghost use Rattle.strings.proofs.StoreLaws.{Stored};
 
 mod marks;
@@ -22,14 +24,18 @@ use crate::marks::ends_of;
 use crate::marks::mark_error;
 use crate::plain::copy_plain;
 use crate::write::Counts;
+use crate::write::copy_in;
 use crate::write::count;
 use crate::write::miss;
 use crate::write::missed;
 use crate::write::write;
+use pieces::plain_run;
 use strings::Choice;
 pub use strings::Decoded;
 use strings::Edition;
 use strings::Encoding;
+use strings::Ends;
+use text::LIMIT;
 use text::Refusal;
 use text::Utf8Check;
 use text::check_utf8;
@@ -122,11 +128,41 @@ fn decode_checked(
     ensures records { λ r.
         ⌜ now (errors .exit) ≡ after r (errorsBy (choiceBy edition kind) (now (text .entry))) (now (errors .entry)) ⌝ }
 {
+    if kind == TokenKind::ATOM {
+        let n = copy_key(edition, text, output);
+        if 0 < n {
+            return Decoded::Written {
+                bytes: n,
+                errors: 0,
+            };
+        }
+    }
     let check = check_utf8(text);
     match check {
         Utf8Check::Refused(r) => Decoded::Refused(r),
         Utf8Check::Valid => decode_by(choice_by(edition, kind), text, output, errors),
     }
+}
+
+// Copies a key that is plain to the front of the output, and says its length. Of any other text, and where there is no room
+// or no such edition, nothing is copied: 0.
+fn copy_key(edition: usize, text: &[u8], output: &mut [u8]) -> usize
+    ensures { λ r. ⌜ KeyCopied edition (now (text .entry)) (now (output .entry)) r (now (output .exit)) ⌝ }
+{
+    let n = text.len();
+    if !is_edition(edition) {
+        return 0;
+    }
+    if LIMIT < n {
+        return 0;
+    }
+    if output.len() < n {
+        return 0;
+    }
+    if plain_run(Encoding::UnquotedKey, text) < n {
+        return 0;
+    }
+    copy_in(text, n, output, 0)
 }
 
 // Which encoding the two numbers ask for. A kind is asked for before an edition.
@@ -184,8 +220,9 @@ fn decode_as(e: Encoding, text: &[u8], output: &mut [u8], errors: &mut [[usize; 
     ensures output { λ r. ⌜ now (output .exit) ≡ after r (bytesOf e (now (text .entry))) (now (output .entry)) ⌝ }
     ensures records { λ r. ⌜ now (errors .exit) ≡ after r (errorsOf e (now (text .entry))) (now (errors .entry)) ⌝ }
 {
+    let d = ends_of(e, text);
     if !is_roomy(text.len(), output.len(), errors.len()) {
-        let need = needed(e, text);
+        let need = needed(e, d, text);
         if output.len() < need.bytes {
             return Decoded::Refused(Refusal::ShortOutput { needed: need.bytes });
         }
@@ -195,7 +232,7 @@ fn decode_as(e: Encoding, text: &[u8], output: &mut [u8], errors: &mut [[usize; 
             });
         }
     }
-    let done = fill(e, text, output, errors);
+    let done = fill(e, d, text, output, errors);
     Decoded::Written {
         bytes: done.bytes,
         errors: done.errors,
@@ -213,13 +250,12 @@ fn is_roomy(n: usize, o: usize, m: usize) -> bool
     n + 2 <= m
 }
 
-// How many bytes and errors the text has.
-fn needed(e: Encoding, text: &[u8]) -> Counts
-    requires { ⌜ length (now text) ≤ limit ⌝ }
+// How many bytes and errors a text has whose marks are known.
+fn needed(e: Encoding, d: Ends, text: &[u8]) -> Counts
+    requires { ⌜ (length (now text) ≤ limit) × (d ≡ endsOf e (now text)) ⌝ }
     ensures bytes { λ r. ⌜ r .bytes ≡ length (bytesOf e (now (text .entry))) ⌝ }
     ensures errors { λ r. ⌜ r .errors ≡ length (errorsOf e (now (text .entry))) ⌝ }
 {
-    let d = ends_of(e, text);
     let a = d.start;
     let z = d.end;
     let c = count(e, &text[a..z], a);
@@ -229,9 +265,11 @@ fn needed(e: Encoding, text: &[u8]) -> Counts
     }
 }
 
-// Writes them to the front of the lent memory.
-fn fill(e: Encoding, text: &[u8], output: &mut [u8], errors: &mut [[usize; 3]]) -> Counts
+// Writes them to the front of the lent memory. What stands for itself in front of the body, which most often is all of it,
+// is copied at once.
+fn fill(e: Encoding, d: Ends, text: &[u8], output: &mut [u8], errors: &mut [[usize; 3]]) -> Counts
     requires { ⌜ (length (now text) ≤ limit)
+        × (d ≡ endsOf e (now text))
         × (length (bytesOf e (now text)) ≤ length (now output))
         × (length (errorsOf e (now text)) ≤ length (now errors)) ⌝ }
     ensures output { λ r.
@@ -239,11 +277,13 @@ fn fill(e: Encoding, text: &[u8], output: &mut [u8], errors: &mut [[usize; 3]]) 
     ensures records { λ r.
         ⌜ Stored (now (errors .entry)) 0 (errorsOf e (now (text .entry))) (r .errors) (now (errors .exit)) ⌝ }
 {
-    let d = ends_of(e, text);
     let a = d.start;
     let z = d.end;
     let number = mark_error(e);
     let m = miss(d.opened, number, 0, errors, 0);
     let m2 = miss(d.closed, number, text.len(), errors, m);
-    write(e, &text[a..z], a, output, errors, m2)
+    let plain = plain_run(e, &text[a..z]);
+    let o = copy_in(&text[a..z], plain, output, 0);
+    let i = a + plain;
+    write(e, &text[i..z], i, output, o, errors, m2)
 }

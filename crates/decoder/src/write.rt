@@ -13,7 +13,10 @@ ghost use Rattle.strings.specs.Decoding.{missing};
 ghost use Rattle.strings.proofs.Fine.{FineAt};
 ghost use Rattle.strings.proofs.StoreLaws.{Stored};
 ghost use Rattle.strings.proofs.LoopLaws.{bytes, errors};
+ghost use Rattle.decoder.specs.Few.{FewAt};
+use pieces::escape_at;
 use pieces::piece_at;
+use pieces::plain_few;
 use strings::Encoding;
 use strings::Given;
 use strings::Piece;
@@ -39,12 +42,32 @@ fn width(p: Piece, s: &[u8]) -> usize
 }
 
 // Copies the first n bytes of s to place o.
-fn copy_in(s: &[u8], n: usize, output: &mut [u8], o: usize) -> usize
+pub(crate) fn copy_in(s: &[u8], n: usize, output: &mut [u8], o: usize) -> usize
     requires { ⌜ (n ≤ length (now s)) × (o + n ≤ length (now output)) ⌝ }
     ensures { λ r. ⌜ Stored (now (output .entry)) o (take n (now (s .entry))) r (now (output .exit)) ⌝ }
 {
+    if n <= 16 {
+        return copy_few(s, n, output, o);
+    }
     let mut j = 0;
     while j < n {
+        output[o + j] = s[j];
+        j += 1;
+    }
+    o + n
+}
+
+// The same of sixteen bytes at most, one by one: a loop that the compiler unrolls, where it would make the other one fit
+// for many bytes, which few would pay for.
+fn copy_few(s: &[u8], n: usize, output: &mut [u8], o: usize) -> usize
+    requires { ⌜ (n ≤ 16) × (n ≤ length (now s)) × (o + n ≤ length (now output)) ⌝ }
+    ensures { λ r. ⌜ Stored (now (output .entry)) o (take n (now (s .entry))) r (now (output .exit)) ⌝ }
+{
+    let mut j = 0;
+    while j < 16 {
+        if j == n {
+            return o + n;
+        }
         output[o + j] = s[j];
         j += 1;
     }
@@ -69,10 +92,14 @@ fn put_char(c: u32, output: &mut [u8], o: usize) -> usize
     requires { ⌜ Scalar c × (o + length (encodeScalar c) ≤ length (now output)) ⌝ }
     ensures { λ r. ⌜ Stored (now (output .entry)) o (encodeScalar c) r (now (output .exit)) ⌝ }
 {
+    if c < 0x80 {
+        output[o] = c as u8;
+        return o + 1;
+    }
     let e = encode(c);
     let n = e.len;
     let bytes = e.bytes;
-    copy_in(&bytes, n, output, o)
+    copy_few(&bytes, n, output, o)
 }
 
 // How many errors the piece has.
@@ -154,37 +181,64 @@ pub(crate) fn count(e: Encoding, s: &[u8], base: usize) -> Counts
     }
 }
 
-// Writes what they give to the front of the output, and their errors to the records from m0 on.
+// Writes what they give to the output from o0 on, and their errors to the records from m0 on. A short run of bytes that
+// stand for themselves and an escape that stands for a character are the common pieces, and written without one being made.
 pub(crate) fn write(
     e: Encoding,
     s: &[u8],
     base: usize,
     output: &mut [u8],
+    o0: usize,
     records: &mut [[usize; 3]],
     m0: usize,
 ) -> Counts
     requires { ⌜ (base + length (now s) ≤ limit)
-        × (length (bytes (pieceOf e) (now s) base) ≤ length (now output))
+        × (o0 + length (bytes (pieceOf e) (now s) base) ≤ length (now output))
         × (m0 + length (errors (pieceOf e) (now s) base) ≤ length (now records)) ⌝ }
     ensures output { λ r.
-        ⌜ Stored (now (output .entry)) 0 (bytes (pieceOf e) (now (s .entry)) base) (r .bytes) (now (output .exit)) ⌝ }
+        ⌜ Stored (now (output .entry)) o0 (bytes (pieceOf e) (now (s .entry)) base) (r .bytes) (now (output .exit)) ⌝ }
     ensures records { λ r.
         ⌜ Stored (now (records .entry)) m0 (errors (pieceOf e) (now (s .entry)) base) (r .errors) (now (records .exit)) ⌝ }
 {
     let mut i = 0;
     let mut d = false;
-    let mut o = 0;
+    let mut o = o0;
     let mut m = m0;
     while i < s.len() {
         let t = &s[i..];
-        let p = piece_at(e, d, t, base + i);
-        o = emit(p, t, output, o);
-        m = note(p, records, m);
-        i += p.take;
-        d = p.dropping;
+        let n = few_at(e, d, t);
+        if 0 < n {
+            o = copy_few(t, n, output, o);
+            i += n;
+            d = false;
+        } else {
+            let escape = escape_at(e, t);
+            if 0 < escape.take {
+                o = put_char(escape.char, output, o);
+                i += escape.take;
+                d = false;
+            } else {
+                let p = piece_at(e, d, t, base + i);
+                o = emit(p, t, output, o);
+                m = note(p, records, m);
+                i += p.take;
+                d = p.dropping;
+            }
+        }
     }
     Counts {
         bytes: o,
         errors: m,
     }
+}
+
+// How many bytes in front of s are a run that stands for itself, where it is shorter than eight; 0 for any other piece.
+fn few_at(e: Encoding, dropping: bool, s: &[u8]) -> usize
+    ensures { λ r. ⌜ (0 < r → FewAt e dropping (now (s .entry)) r) ⌝ }
+{
+    if dropping {
+        return 0;
+    }
+    let n = plain_few(e, s);
+    if n < 8 { n } else { 0 }
 }

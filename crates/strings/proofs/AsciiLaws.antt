@@ -11,7 +11,7 @@ use lib.Dec.{eqb, leb}
 use lib.ListN.{length, take, drop, getD, take-append-drop, length-append}
 use lib.Seq.{take-add}
 use borrow.Author.Tests.{eqb-true, leb-true, le-leb}
-use Rattle.classes.specs.Classes.{among, wschar, basicUnescaped, mlbUnescaped, hexdig}
+use Rattle.classes.specs.Classes.{among, wschar, basicUnescaped, mlbUnescaped, hexdig, unquotedChar}
 use Rattle.classes.specs.Runs.{run}
 use Rattle.classes.proofs.Conds.{not-both, both-right, or-left, or-right, or-inv}
 use Rattle.text.specs.Utf8.{Scalar, encodeScalar, Utf8}
@@ -70,6 +70,15 @@ unfolding hexdig
 hexdig-low b e =
     or-inv (among 0x30 0x39 b) _ e (among-low 0x30 0x39 b (omega arith))
     (λ f. or-inv (among 0x41 0x46 b) _ f (among-low 0x41 0x46 b (omega arith)) (among-low 0x61 0x66 b (omega arith)))
+
+pub unquoted-low : Low unquotedChar
+unfolding unquotedChar
+unquoted-low b e =
+    or-inv (among 0x41 0x5A b || among 0x61 0x7A b) _ e
+    (λ f. or-inv (among 0x41 0x5A b) _ f (among-low 0x41 0x5A b (omega arith)) (among-low 0x61 0x7A b (omega arith)))
+    (λ f.
+    or-inv (among 0x30 0x39 b) _ f (among-low 0x30 0x39 b (omega arith))
+    (λ g. or-inv (eqb b 0x2D) _ g (one-low b 0x2D (omega arith)) (one-low b 0x5F (omega arith))))
 
 pub skips-low : Low skips
 unfolding skips

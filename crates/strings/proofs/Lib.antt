@@ -7,9 +7,11 @@ pub mod MarkLaws
 pub mod LoopLaws
 pub mod DecodeLaws
 pub mod PlainLaws
+pub mod FrontLaws
 pub mod NumberLaws
 pub mod Bounds
 pub mod AsciiLaws
+pub mod KeyLaws
 pub mod Utf8Laws
 pub mod EditionLaws
 pub mod AnswerLaws

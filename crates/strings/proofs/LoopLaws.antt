@@ -70,23 +70,23 @@ module _ {P : Pieces} {s : List ℕ} {base : ℕ} where
       let e = rw (drop-of-length-le s h) at (v .errors-sum) in
       (omega (arith, b), omega (arith, e), omega (arith, v .few, v .within))
 
--- ---- writing: what is left, stored from o and m on, makes the whole; m₀ records were there before
+-- ---- writing: what is left, stored from o and m on, makes the whole; o₀ bytes and m₀ records were there before
 
-pub record Writing (P : Pieces) (s : List ℕ) (base : ℕ) (out₀ : List ℕ) (errs₀ : List (List ℕ)) (m₀ : ℕ)
+pub record Writing (P : Pieces) (s : List ℕ) (base : ℕ) (out₀ : List ℕ) (o₀ : ℕ) (errs₀ : List (List ℕ)) (m₀ : ℕ)
     (out : List ℕ) (errs : List (List ℕ)) (i : ℕ) (d : Bool) (o m : ℕ) : Type 0 where
   pub within : i ≤ length s
   pub out-long : length out ≡ length out₀
   pub errs-long : length errs ≡ length errs₀
-  pub out-room : length (bytes P s base) ≤ length out₀
+  pub out-room : o₀ + length (bytes P s base) ≤ length out₀
   pub errs-room : m₀ + length (errors P s base) ≤ length errs₀
-  pub out-sum : o + length (bytesFrom P s base i d) ≡ length (bytes P s base)
+  pub out-sum : o + length (bytesFrom P s base i d) ≡ o₀ + length (bytes P s base)
   pub errs-sum : m + length (errorsFrom P s base i d) ≡ m₀ + length (errors P s base)
-  pub out-is : sets out o (bytesFrom P s base i d) ≡ sets out₀ 0 (bytes P s base)
+  pub out-is : sets out o (bytesFrom P s base i d) ≡ sets out₀ o₀ (bytes P s base)
   pub errs-is : sets errs m (errorsFrom P s base i d) ≡ sets errs₀ m₀ (errors P s base)
 
-pub write-start : (P : Pieces) (s : List ℕ) (base : ℕ) {out₀ : List ℕ} {errs₀ : List (List ℕ)} {m₀ : ℕ}
-    → length (bytes P s base) ≤ length out₀ → m₀ + length (errors P s base) ≤ length errs₀
-    → Writing P s base out₀ errs₀ m₀ out₀ errs₀ 0 false 0 m₀
+pub write-start : (P : Pieces) (s : List ℕ) (base : ℕ) {out₀ : List ℕ} {o₀ : ℕ} {errs₀ : List (List ℕ)} {m₀ : ℕ}
+    → o₀ + length (bytes P s base) ≤ length out₀ → m₀ + length (errors P s base) ≤ length errs₀
+    → Writing P s base out₀ o₀ errs₀ m₀ out₀ errs₀ 0 false o₀ m₀
 write-start P s base a b =
     record {
       within = omega arith;
@@ -94,16 +94,16 @@ write-start P s base a b =
       errs-long = refl;
       out-room = a;
       errs-room = b;
-      out-sum = rw (add-zero, zero-add);
+      out-sum = rw add-zero;
       errs-sum = rw add-zero;
       out-is = rw add-zero;
       errs-is = rw add-zero;
     }
 
-module _ {P : Pieces} {s : List ℕ} {base : ℕ} {out₀ : List ℕ} {errs₀ : List (List ℕ)} {m₀ : ℕ} where
+module _ {P : Pieces} {s : List ℕ} {base : ℕ} {out₀ : List ℕ} {o₀ : ℕ} {errs₀ : List (List ℕ)} {m₀ : ℕ} where
   -- there is room for what the piece gives, and for its error
   pub write-room : Fine P → {out : List ℕ} {errs : List (List ℕ)} {i : ℕ} {d : Bool} {o m : ℕ} {p : Piece} → Turn P s base i d p
-      → Writing P s base out₀ errs₀ m₀ out errs i d o m
+      → Writing P s base out₀ o₀ errs₀ m₀ out errs i d o m
       → (o + length (gives p (rest s i)) ≤ length out) × (m + length (notes p) ≤ length errs)
   write-room fine t v =
       let b = simp length-append at (ap length (turn-said fine t gives)) in
@@ -113,9 +113,9 @@ module _ {P : Pieces} {s : List ℕ} {base : ℕ} {out₀ : List ℕ} {errs₀ :
       )
 
   pub write-turn : Fine P → {out out′ : List ℕ} {errs errs′ : List (List ℕ)} {i : ℕ} {d : Bool} {o m o′ m′ : ℕ} {p : Piece}
-      → Turn P s base i d p → Writing P s base out₀ errs₀ m₀ out errs i d o m
+      → Turn P s base i d p → Writing P s base out₀ o₀ errs₀ m₀ out errs i d o m
       → Stored out o (gives p (rest s i)) o′ out′ → Stored errs m (notes p) m′ errs′
-      → Writing P s base out₀ errs₀ m₀ out′ errs′ (i + p .take) (p .dropping) o′ m′
+      → Writing P s base out₀ o₀ errs₀ m₀ out′ errs′ (i + p .take) (p .dropping) o′ m′
   write-turn fine {out} {errs = errs} {i = i} {o = o} {m = m} {p = p} t v bytes-in errors-in =
       let tb = turn-said fine t gives in
       let tr = turn-said fine t notesAt in
@@ -134,8 +134,8 @@ module _ {P : Pieces} {s : List ℕ} {base : ℕ} {out₀ : List ℕ} {errs₀ :
       }
 
   pub write-end : {out : List ℕ} {errs : List (List ℕ)} {i : ℕ} {d : Bool} {o m : ℕ} → length s ≤ i
-      → Writing P s base out₀ errs₀ m₀ out errs i d o m
-      → Stored out₀ 0 (bytes P s base) o out × Stored errs₀ m₀ (errors P s base) m errs
+      → Writing P s base out₀ o₀ errs₀ m₀ out errs i d o m
+      → Stored out₀ o₀ (bytes P s base) o out × Stored errs₀ m₀ (errors P s base) m errs
   write-end h v =
       let a = rw (drop-of-length-le s h) at (v .out-sum) in
       let b = rw (drop-of-length-le s h) at (v .errs-sum) in (

@@ -233,12 +233,12 @@ unfolding basicUnescaped
 clear-basic b c =
     sym (rest-is true basicUnescaped (0x22 ∷ 0x5C ∷ []) 32 95 tt b (⊎-elim (c .no-first) (c .no-second)) (c .low) (omega (arith, c .high)))
 
--- what a plain text of the kind decodes to
-pub record Decodes (t : List ℕ) (edition kind n : ℕ) : Type 0 where
+-- what a plain text of the kind decodes to: its body
+pub record Decodes (t : List ℕ) (edition kind : ℕ) (body : List ℕ) : Type 0 where
   pub valid : Valid ≡ checkOf t
   pub encoding : Encoding
   pub chosen : choiceBy edition kind ≡ Known encoding
-  pub bytes : bytesOf encoding t ≡ middle n t
+  pub bytes : bytesOf encoding t ≡ body
   pub errors : errorsOf encoding t ≡ []
 
 chosen-literal : (edition kind : ℕ) → Named edition → kind ≡ 39 → choiceBy edition kind ≡ Known LiteralString
@@ -252,7 +252,7 @@ chosen-basic edition kind (inl e) k = (Toml10, simp (e, k))
 chosen-basic edition kind (inr e) k = (Toml11, simp (e, k))
 
 module _ (t : List ℕ) (edition kind n : ℕ) (named : Named edition) (size : n + 2 ≡ length t) where
-  pub plain-decodes : Plain kind t → Decodes t edition kind n
+  pub plain-decodes : Plain kind t → Decodes t edition kind (middle n t)
   plain-decodes (inl (k, line)) =
       let r = line-text 0x27 0x27 (omega arith) t line LiteralString refl clear-literal n size in
       record { valid = line-valid 0x27 0x27 (omega arith) t line; encoding = LiteralString; chosen = chosen-literal edition kind named k; bytes = r .0; errors = r .1 }
@@ -262,23 +262,23 @@ module _ (t : List ℕ) (edition kind n : ℕ) (named : Named edition) (size : n
       record { valid = line-valid 0x22 0x5C (omega arith) t line; encoding = BasicString (c .0); chosen = c .1; bytes = r .0; errors = r .1 }
 
 -- so the call answers, whatever the error records, where the output has room
-module _ {t : List ℕ} {edition kind n : ℕ} (size : n + 2 ≡ length t) (d : Decodes t edition kind n) where
-  middle-long : length (middle n t) ≡ n
-  middle-long = length-take-le n (drop 1 t) (omega (arith, length-drop 1 t))
-
+module _ {t : List ℕ} {edition kind n : ℕ} {body : List ℕ} (size : length body ≡ n) (d : Decodes t edition kind body) where
   pub plain-answer : (o e : ℕ) → n ≤ o → Written n 0 ≡ decodeIn t edition kind o e
   plain-answer o e room =
       let k = d .encoding in
-      let n-is : n ≡ length (bytesOf k t) = sym (ap length (d .bytes) ∙ middle-long) in
+      let n-is : n ≡ length (bytesOf k t) = sym (ap length (d .bytes) ∙ size) in
       let m-is : 0 ≡ length (errorsOf k t) = sym (ap length (d .errors)) in
       fitted-written (bytesOf k t) (errorsOf k t) o e n 0 n-is m-is room (omega arith)
       ∙ rw (d .chosen) at (decode-valid t edition kind o e (d .valid))
 
-  pub plain-output : (out old : List ℕ) → out ≡ middle n t ++ drop n old → out ≡ after (Written n 0) (bytesBy (choiceBy edition kind) t) old
-  plain-output out old h = rw (d .chosen, d .bytes, middle-long) h
+  pub plain-output : (out old : List ℕ) → out ≡ body ++ drop n old → out ≡ after (Written n 0) (bytesBy (choiceBy edition kind) t) old
+  plain-output out old h = rw (d .chosen, d .bytes, size) h
 
   pub plain-records : (old : List (List ℕ)) → old ≡ after (Written n 0) (errorsBy (choiceBy edition kind) t) old
   plain-records old = rw (d .chosen, d .errors)
+
+pub middle-long : (n : ℕ) (t : List ℕ) → n + 2 ≡ length t → length (middle n t) ≡ n
+middle-long n t size = length-take-le n (drop 1 t) (omega (arith, length-drop 1 t))
 
 -- ---- what is copied of it
 

@@ -5,7 +5,7 @@ use mathlib.Core.Path.{refl}
 use mathlib.Core.Logic.{inl}
 use lib.ListN.{length}
 use Rattle.strings.proofs.NumberLaws.{decoded}
-use Rattle.strings.proofs.PlainLaws.{copied-some, copied-none, plain-decodes, plain-answer, plain-output, plain-records}
+use Rattle.strings.proofs.PlainLaws.{copied-some, copied-none, plain-decodes, middle-long, plain-answer, plain-output, plain-records}
 use Rattle.decoder.proofs.decode.Statement.{statement}
 use Rattle.decoder.proofs.decode.Tie as tie
 
@@ -20,10 +20,11 @@ returns c =
     let a = c .before .before .before .before .before .before .before .args in
     let k = copied-some (c .before .before .before .copy-plain .ensures) (c .if1 .taken) in
     let d = plain-decodes (a .text .now) 10 (a .kind) _ (inl refl) (k .1) (k .0) in
+    let size = middle-long _ (a .text .now) (k .1) in
     let o = length (a .output .now) in
     let e = length (a .errors .now) in
-    let answer = plain-answer (k .1) d o e (k .2) in
-    decoded (a .text .now) 10 (a .kind) o e _ answer (plain-output (k .1) d _ _ (k .3)) (plain-records (k .1) d (a .errors .now))
+    let answer = plain-answer size d o e (k .2) in
+    decoded (a .text .now) 10 (a .kind) o e _ answer (plain-output size d _ _ (k .3)) (plain-records size d (a .errors .now))
 
 decode-checked-requires : tie.Need-decode-checked-requires
 decode-checked-requires c κs = search needs

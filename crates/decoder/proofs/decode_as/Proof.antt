@@ -16,17 +16,20 @@ use Rattle.decoder.proofs.decode_as.Tie as tie
 
 -- there is room for all of it: no text needs more, or it was counted
 room : (c : tie.Joined1)
-    → let a = c .before .before .before .before .args in
+    → let a = c .before .before .before .before .before .args in
     (length (bytesOf (a .e) (a .text .now)) ≤ length (a .output .now))
     × (length (errorsOf (a .e) (a .text .now)) ≤ length (a .errors .now))
 room c =
-    let a = c .before .before .before .before .args in
+    let a = c .before .before .before .before .before .args in
     ⊎-elim
     (λ w. (omega (arith, w .1 .ensures .0, w .3 .left), omega (arith, w .1 .ensures .1, w .5 .left)))
     (λ w.
     let h = c .before .is-roomy .ensures (not-false _ (w .left)) in
     (omega (arith, bytes-most (a .e) (a .text .now), h .0), omega (arith, errors-few (a .e) (a .text .now), h .1)))
     (c .if1 .came)
+
+ends-of-requires : tie.Need-ends-of-requires
+ends-of-requires c κs = search needs
 
 is-roomy-requires : tie.Need-is-roomy-requires
 is-roomy-requires c κs = search needs
@@ -36,7 +39,7 @@ needed-requires c κs = search needs
 
 returns : tie.Need-returns
 returns c =
-    let a = c .before .before .before .before .before .before .before .args in
+    let a = c .before .before .before .before .before .before .before .before .args in
     let n = c .before .before .needed in
     let bs = bytesOf (a .e) (a .text .now) in
     let es = errorsOf (a .e) (a .text .now) in
@@ -44,7 +47,7 @@ returns c =
 
 returns-2 : tie.Need-returns-2
 returns-2 c =
-    let a = c .before .before .before .before .before .before .before .before .before .args in
+    let a = c .before .before .before .before .before .before .before .before .before .before .args in
     let n = c .before .before .before .before .needed in
     let bs = bytesOf (a .e) (a .text .now) in
     let es = errorsOf (a .e) (a .text .now) in
@@ -54,7 +57,7 @@ returns-2 c =
 fill-requires : tie.Need-fill-requires
 fill-requires c κs =
     let r = room (c .before .before) in
-    (c .before .before .before .before .before .before .pre, r .0, r .1)
+    (c .before .before .before .before .before .before .before .pre, c .before .before .before .before .ends-of .ensures, r .0, r .1)
 
 same-length : tie.Need-same-length
 same-length c = search needs
@@ -64,7 +67,7 @@ same-length-2 c = search needs
 
 returns-3 : tie.Need-returns-3
 returns-3 c =
-    let a = c .before .before .before .before .before .before .before .before .before .before .args in
+    let a = c .before .before .before .before .before .before .before .before .before .before .before .args in
     let output = c .before .before .before .fill .ensures .0 in
     let records = c .before .before .before .fill .ensures .1 in
     let r = room (c .before .before .before .before .before .before) in
@@ -79,6 +82,7 @@ pub decode-as-spec : {M : Type 1} → statement M
 decode-as-spec =
     tie.close
     (tie.spec
+    ends-of-requires
     is-roomy-requires
     needed-requires
     returns

@@ -1,12 +1,35 @@
--- `decode_checked` is right because it asks in the order of the refusals: the check, then kind and edition, then the lent memory.
+-- `decode_checked` is right because a plain key decodes to itself, and of any other text it asks in the order of the refusals:
+-- the check, then kind and edition, then the lent memory.
 -- Assumes nothing.
-use mathlib.Core.Path.{refl, sym, _∙_}
+use mathlib.Core.Path.{_≡_, refl, sym, ap, _∙_}
+use mathlib.Core.Logic.{⊎-elim}
 use borrow.Author.Needs.{needs}
 use lib.ListN.{length}
 use Rattle.text.proofs.AnswerLaws.{checked}
 use Rattle.strings.proofs.DecodeLaws.{decode-invalid, decode-valid}
+use Rattle.strings.proofs.PlainLaws.{plain-answer, plain-output, plain-records}
+use Rattle.strings.proofs.KeyLaws.{key-some, key-none, key-decodes}
 use Rattle.decoder.proofs.decode_checked.Statement.{statement}
 use Rattle.decoder.proofs.decode_checked.Tie as tie
+
+-- where no key was copied, the output is as it was
+kept : (c : tie.Joined1) → c .if1 .output ≡ c .before .before .before .args .output .now
+kept c = ⊎-elim (λ w. w .6 ∙ key-none (w .2 .ensures) (w .5 .left)) (λ w. w .1) (c .if1 .came)
+
+copy-key-requires : tie.Need-copy-key-requires
+copy-key-requires c κs = search needs
+
+same-length : tie.Need-same-length
+same-length c = search needs
+
+returns : tie.Need-returns
+returns c =
+    let a = c .before .before .before .before .before .before .before .before .args in
+    let k = key-some (c .before .before .before .copy-key .ensures) (c .if2 .taken) in
+    let d = key-decodes (a .text .now) (k .1) (a .edition) (a .kind) (k .0) (c .before .before .before .before .before .if1 .taken) in
+    let size = sym (k .2) in
+    let answer = plain-answer size d (length (a .output .now)) (length (a .errors .now)) (k .3) in
+    (answer, (plain-output size d _ _ (k .4), plain-records size d (a .errors .now)))
 
 check-utf8-requires : tie.Need-check-utf8-requires
 check-utf8-requires c κs = search needs
@@ -22,47 +45,53 @@ choice-by-requires c κs = search needs
 
 decode-by-requires : tie.Need-decode-by-requires
 decode-by-requires c κs =
-    let t = c .before .before .before .before .before .before .before .before .args .text .now in
-    let checks = c .before .before .before .before .before .check-utf8 .ensures .0 in
-    checked t (sym checks ∙ c .before .before .before .enum-told .given .1) .0
+    let t = c .before .before .before .before .before .before .before .before .before .args .text .now in
+    checked t (sym (c .before .before .before .before .before .check-utf8 .ensures .0) ∙ c .before .before .before .enum-told .given .1) .0
 
-returns : tie.Need-returns
-returns c =
-    let a = c .before .before .before .before .before .before .args in
+same-length-2 : tie.Need-same-length-2
+same-length-2 c = ap length (kept (c .before .before .before .before))
+
+returns-2 : tie.Need-returns-2
+returns-2 c =
+    let a = c .before .before .before .before .before .before .before .args in
     let refused = sym (c .before .check .given .1) ∙ c .before .before .before .check-utf8 .ensures .0 in
     let o = length (a .output .now) in
     let e = length (a .errors .now) in
     let answer = decode-invalid (a .text .now) (a .edition) (a .kind) o e _ refused in
-    (answer, (refl, refl))
+    (answer, (kept (c .before .before .before .before), refl))
 
-same-length : tie.Need-same-length
-same-length c = search needs
+same-length-3 : tie.Need-same-length-3
+same-length-3 c = c .before .before .before .decode-by .kept .1 .1 .0 ∙ ap length (kept (c .before .before .before .before .before .before .before .before .before .before))
 
-same-length-2 : tie.Need-same-length-2
-same-length-2 c = search needs
+same-length-4 : tie.Need-same-length-4
+same-length-4 c = search needs
 
-returns-2 : tie.Need-returns-2
-returns-2 c =
-    let a = c .before .before .before .before .before .before .before .before .before .before .before .before .args in
-    let checks = c .before .before .before .before .before .before .before .before .before .check-utf8 .ensures .0 in
-    let valid = sym (c .before .before .before .before .before .before .before .enum-told .given .1) ∙ checks in
-    let d = c .before .before .before .decode-by in
+returns-3 : tie.Need-returns-3
+returns-3 c =
+    let a = c .before .before .before .before .before .before .before .before .before .before .before .before .before .args in
+    let valid = sym (c .before .before .before .before .before .before .before .enum-told .given .1) ∙ c .before .before .before .before .before .before .before .before .before .check-utf8 .ensures .0 in
+    let d = c .before .before .before .decode-by .ensures in
     let chosen = c .before .before .before .before .before .before .choice-by .ensures in
+    let same = kept (c .before .before .before .before .before .before .before .before .before .before) in
     let o = length (a .output .now) in
     let e = length (a .errors .now) in
-    let answer = rw chosen at (d .ensures .0) ∙ decode-valid (a .text .now) (a .edition) (a .kind) o e valid in
-    (answer, (rw chosen at (d .ensures .1 .0), rw chosen at (d .ensures .1 .1)))
+    let answer = rw (chosen, same) at (d .0) ∙ decode-valid (a .text .now) (a .edition) (a .kind) o e valid in
+    (answer, (rw (chosen, same) at (d .1 .0), rw chosen at (d .1 .1)))
 
 pub decode-checked-spec : {M : Type 1} → statement M
 decode-checked-spec =
     tie.close
     (tie.spec
+    copy-key-requires
+    same-length
+    returns
     check-utf8-requires
     enum-known-check
     enum-told
     choice-by-requires
     decode-by-requires
-    returns
-    same-length
     same-length-2
-    returns-2)
+    returns-2
+    same-length-3
+    same-length-4
+    returns-3)

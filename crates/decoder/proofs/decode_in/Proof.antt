@@ -3,7 +3,7 @@
 use borrow.Author.Needs.{needs}
 use lib.ListN.{length}
 use Rattle.strings.proofs.NumberLaws.{decoded}
-use Rattle.strings.proofs.PlainLaws.{copied-some, copied-none, plain-decodes, plain-answer, plain-output, plain-records}
+use Rattle.strings.proofs.PlainLaws.{copied-some, copied-none, plain-decodes, middle-long, plain-answer, plain-output, plain-records}
 use borrow.Author.Tests.{not-false}
 use Rattle.decoder.proofs.decode_in.Statement.{statement}
 use Rattle.decoder.proofs.decode_in.Tie as tie
@@ -37,10 +37,11 @@ returns-2 c =
     let a = c .before .before .before .before .before .before .before .before .before .args in
     let k = copied-some (c .before .before .before .copy-plain .ensures) (c .if2 .taken) in
     let d = plain-decodes (a .text .now) (a .edition) (a .kind) _ (c .before .before .before .before .before .before .is-edition .ensures (not-false _ (c .before .before .before .before .before .if1 .left))) (k .1) (k .0) in
+    let size = middle-long _ (a .text .now) (k .1) in
     let o = length (a .output .now) in
     let e = length (a .errors .now) in
-    let answer = plain-answer (k .1) d o e (k .2) in
-    decoded (a .text .now) (a .edition) (a .kind) o e _ answer (plain-output (k .1) d _ _ (k .3)) (plain-records (k .1) d (a .errors .now))
+    let answer = plain-answer size d o e (k .2) in
+    decoded (a .text .now) (a .edition) (a .kind) o e _ answer (plain-output size d _ _ (k .3)) (plain-records size d (a .errors .now))
 
 decode-checked-requires-2 : tie.Need-decode-checked-requires-2
 decode-checked-requires-2 c κs = search needs

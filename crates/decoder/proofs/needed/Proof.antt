@@ -14,24 +14,22 @@ use Rattle.decoder.proofs.needed.Statement.{statement}
 use Rattle.decoder.proofs.needed.Tie as tie
 
 -- the body lies within the text
-fit : (c : tie.After-ends-of)
-    → let d = c .ends-of .result in (d .start ≤ d .end) × (d .end ≤ length (c .before .before .args .text .now))
-fit c = ends-fit (c .before .before .args .e) (c .before .before .args .text .now) (c .ends-of .result) (c .ends-of .ensures)
-
-ends-of-requires : tie.Need-ends-of-requires
-ends-of-requires c κs = search needs
+fit : (c : tie.Start) → let d = c .args .d in (d .start ≤ d .end) × (d .end ≤ length (c .args .text .now))
+fit c = ends-fit (c .args .e) (c .args .text .now) (c .args .d) (c .pre .1)
 
 sub-count : tie.Need-sub-count
-sub-count c = fit (c) .0
+sub-count c = fit (c .before) .0
 
 part-count-start : tie.Need-part-count-start
-part-count-start c = fit (c) .0
+part-count-start c = fit (c .before) .0
 
 part-count-end : tie.Need-part-count-end
-part-count-end c = fit (c) .1
+part-count-end c = fit (c .before) .1
 
 count-requires : tie.Need-count-requires
-count-requires c κs = simp (length-take, length-drop) (omega (arith, fit (c .before), c .before .before .before .pre))
+count-requires c κs =
+    let start = c .before .before in
+    simp (length-take, length-drop) (omega (arith, fit start, start .pre))
 
 missed-requires : tie.Need-missed-requires
 missed-requires c κs = search needs
@@ -43,13 +41,14 @@ missed-requires-2 c κs = search needs
 few : (c : tie.After-missed2)
     → c .before .before .count .result .errors + (c .before .missed .result + c .missed2 .result) ≤ limit + 2
 few c =
-    let d = c .before .before .before .before .ends-of .result in
+    let start = c .before .before .before .before .before in
+    let d = start .args .d in
     let body = simp (length-take, length-drop) at (c .before .before .count .ensures .2) in
     omega (
       arith,
       body,
-      fit (c .before .before .before .before),
-      c .before .before .before .before .before .before .pre,
+      fit start,
+      start .pre,
       c .before .missed .ensures 0 0,
       missing-few (d .opened) 0 0,
       c .missed2 .ensures 0 0,
@@ -64,14 +63,16 @@ add-t13 c = omega (arith, few (c .before))
 
 returns : tie.Need-returns
 returns c =
-    let a = c .before .before .before .before .before .before .before .args in
-    let d = c .before .before .before .before .before .ends-of in
+    let start = c .before .before .before .before .before .before in
+    let a = start .args in
+    let d = a .d in
+    let is = start .pre .1 in
     let count = c .before .before .before .count in
     let missed = c .before .before .missed in
     let t = a .text .now in
     let n = markError (a .e) in
-    let all = errors-sum (a .e) t (d .result) (d .ensures) n refl in (
-      count .ensures .0 ∙ sym (ap length (bytes-is (a .e) t (d .result) (d .ensures))),
+    let all = errors-sum (a .e) t d is n refl in (
+      count .ensures .0 ∙ sym (ap length (bytes-is (a .e) t d is)),
       omega (arith, all, count .ensures .1, missed .ensures n 0, c .before .missed2 .ensures n (length t)),
     )
 
@@ -79,7 +80,6 @@ pub needed-spec : {M : Type 1} → statement M
 needed-spec =
     tie.close
     (tie.spec
-    ends-of-requires
     sub-count
     part-count-start
     part-count-end

@@ -1,23 +1,32 @@
 -- `copy_in` is right because what is still to be copied, stored from place o + j on, makes the whole copy.
 -- Assumes nothing.
 use Prim.Native.Nat.{_+_, _-_, _≤_}
-use mathlib.Core.Path.{_≡_, refl, sym, _∙_}
+use mathlib.Core.Path.{refl}
 use native.Mathlib.Omega.{arith}
-use lib.ListN.{length, take, drop, length-set}
-use lib.Seq.{sets, length-take-le}
-use Rattle.strings.proofs.StoreLaws.{copy-none, copy-more, copy-done}
+use borrow.Author.Needs.{needs}
+use Rattle.decoder.proofs.WriteLaws.{Copying, copying-start, copying-turn, copying-end}
 use Rattle.decoder.proofs.write.copy_in.Statement.{statement}
 use Rattle.decoder.proofs.write.copy_in.Tie as tie
 
 abbrev Inv-loop : tie.InvT-loop
-Inv-loop s n output₀ o j₀ output j =
-    (j ≤ n) × (length output ≡ length output₀) × (sets output (o + j) (take (n - j) (drop j s)) ≡ sets output₀ o (take n s))
+Inv-loop s n output₀ o j₀ output j = Copying s n output₀ o output j
 
 abbrev μ-loop : tie.MeasureT-loop
 μ-loop s n output₀ o j₀ output j = n - j
 
+copy-few-requires : tie.Need-copy-few-requires Inv-loop μ-loop
+copy-few-requires c κs = omega arith
+
+same-length : tie.Need-same-length Inv-loop μ-loop
+same-length c = search needs
+
+returns : tie.Need-returns Inv-loop μ-loop
+returns c = c .before .before .copy-few .ensures
+
 loop-holds : tie.Need-loop-holds Inv-loop μ-loop
-loop-holds c = (omega arith, refl, copy-none (c .args .s .now) (c .args .output .now) (c .args .o) (c .args .n))
+loop-holds c =
+    let a = c .before .before .before .args in
+    copying-start (a .s .now) (a .n) (a .output .now) (a .o)
 
 shared-slice-read-output : tie.Need-shared-slice-read-output Inv-loop μ-loop
 shared-slice-read-output c = omega arith
@@ -36,27 +45,21 @@ loop-less c = omega arith
 
 loop-again : tie.Need-loop-again Inv-loop μ-loop
 loop-again c =
+    let a = c .before .before .before .before .before .before .args in
     let l = c .before .before .loop in
-    let a = c .before .before .before .args in (
-      omega arith,
-      simp length-set (l .inv .1),
-      copy-more (a .s .now) (l .output) (a .o) (a .n) (l .j) (omega arith) (omega arith) ∙ l .inv .2,
-    )
+    copying-turn (a .s .now) (a .n) (a .output .now) (a .o) (l .output) (l .j) (omega arith) (omega arith) (l .inv)
 
 add-result : tie.Need-add-result Inv-loop μ-loop
 add-result c = omega arith
 
-same-length : tie.Need-same-length Inv-loop μ-loop
-same-length c = c .before .loop .inv .1
+same-length-2 : tie.Need-same-length-2 Inv-loop μ-loop
+same-length-2 c = c .before .loop .inv .long
 
-returns : tie.Need-returns Inv-loop μ-loop
-returns c =
+returns-2 : tie.Need-returns-2 Inv-loop μ-loop
+returns-2 c =
+    let a = c .before .before .before .before .before .args in
     let l = c .before .loop in
-    let a = c .before .before .args in
-    record {
-      place = rw (length-take-le (a .n) (a .s .now) (c .before .before .pre .0));
-      holds = sym (copy-done (a .s .now) (l .output) (a .o) (a .n) (l .j) (omega arith)) ∙ l .inv .2;
-    }
+    copying-end (a .s .now) (a .n) (a .output .now) (a .o) (l .output) (l .j) _ (omega arith) (omega arith) refl (l .inv)
 
 pub copy-in-spec : {M : Type 1} → statement M
 copy-in-spec =
@@ -64,6 +67,9 @@ copy-in-spec =
     (tie.spec
     Inv-loop
     μ-loop
+    copy-few-requires
+    same-length
+    returns
     loop-holds
     shared-slice-read-output
     add-output
@@ -72,5 +78,5 @@ copy-in-spec =
     loop-less
     loop-again
     add-result
-    same-length
-    returns)
+    same-length-2
+    returns-2)

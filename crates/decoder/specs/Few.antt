@@ -1,0 +1,14 @@
+-- What a helper of the writing loop says. Not to be believed: no promise of a public function cites it.
+-- Assumes nothing.
+use Prim.Native.Nat.{ℕ, _<_}
+use mathlib.Core.Path.{_≡_}
+use mathlib.Core.Bool.{Bool}
+use mathlib.Core.List.{List}
+use Rattle.strings.specs.declared.Encoding.{Encoding}
+use Rattle.strings.specs.Pieces.{copyPiece}
+use Rattle.strings.specs.Bodies.{pieceOf}
+
+-- a run of n bytes, fewer than eight, is the rule's piece in front of s
+pub record FewAt (e : Encoding) (d : Bool) (s : List ℕ) (n : ℕ) : Type 0 where
+  pub short : n < 8
+  pub piece : (at : ℕ) → pieceOf e d at s ≡ copyPiece n 0 at at
