@@ -10,7 +10,7 @@ use Rattle.classes.specs.Classes.{wschar}
 use Rattle.text.specs.Utf8.{encodeScalar, encodes, All}
 use Rattle.text.proofs.EncodeLaws.{encode-length}
 use Rattle.token.specs.declared.TokenKind.{TokenKind}
-use Rattle.lexer.specs.Extents.{lineTail, triple}
+use Rattle.scans.specs.Extents.{lineTail, triple}
 use Rattle.lexer.specs.Table.{kindBy, kindOf, extent, tokenLen}
 use Rattle.strings.specs.declared.Edition.{Edition}
 use Rattle.grammar.specs.Grammar.{LiteralChars, LiteralString, literal-string, BasicUnescaped, EscapeSeqChar, escaped, basic-unescaped, escaped-char, BasicChars, BasicString, basic-string, MlLiteralString, ml-literal-string, MlBasicString, ml-basic-string}

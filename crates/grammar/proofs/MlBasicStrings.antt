@@ -22,7 +22,7 @@ use Rattle.strings.specs.Pieces.{gives, notesAt, collect}
 use Rattle.strings.specs.Bodies.{skips}
 use Rattle.strings.specs.Decoding.{bytesOf, errorsOf}
 use Rattle.strings.proofs.AsciiLaws.{mlb-high}
-use Rattle.lexer.specs.Extents.{mlTail}
+use Rattle.scans.specs.Extents.{mlTail}
 use Rattle.lexing.proofs.ByLength.{by-length}
 use Rattle.grammar.specs.Grammar.{Wschar, x20, x09, Newline, x0A, x0D-0A, OptNewline, EscapeSeqChar, escaped, Ws, MlbUnescaped, mlb-unescaped, escaped-char, WscharNewline, WscharNewlines, mlb-escaped-nl, MlbContent, mlb-char, newline, escaped-nl, MlBasicString, ml-basic-string}
 use Rattle.grammar.specs.Scalars.{ContentNames, MlBasicNames}

@@ -13,8 +13,8 @@ use borrow.Author.Tests.{ne-eqb, eq-eqb}
 use Rattle.text.specs.Utf8.{encodes, All}
 use Rattle.text.proofs.EncodeLaws.{parts, encode-1}
 use Rattle.text.proofs.ReadLaws.{encodes-append}
-use Rattle.lexer.specs.Bytes.{hides}
-use Rattle.lexer.specs.Extents.{lineTail, triple, upToTwo, mlTail}
+use Rattle.scans.specs.Bytes.{hides}
+use Rattle.scans.specs.Extents.{lineTail, triple, upToTwo, mlTail}
 use Rattle.grammar.specs.Grammar.{x20, x09, Newline, x0A, x0D-0A, BasicUnescaped, LiteralChar}
 use Rattle.grammar.specs.Strings.{Apart}
 use Rattle.grammar.proofs.Encoded.{chars-bytes}

@@ -19,7 +19,7 @@ use Rattle.strings.specs.Escapes.{simpleEscape, hexLength, hexValue, hexFrom, h
 use Rattle.strings.specs.Bodies.{literalPiece, mlLiteralPiece, basicPiece, skips, escapedNl, escapedMore, mlbContent, mlBasicPiece}
 use Rattle.strings.specs.Marks.{lineEnds, threes, newlineLen, mlStart, mlClosed, mlEnd, mlEnds}
 use Rattle.strings.specs.Decoding.{bytesOf, errorsOf}
-use Rattle.lexer.specs.Extents.{triple, upToTwo, mlTail}
+use Rattle.scans.specs.Extents.{triple, upToTwo, mlTail}
 use Rattle.lexer.specs.Table.{kindBy, kindOf, extent, tokenLen}
 use Rattle.grammar.specs.Grammar.{Wschar, Ws, Newline, OptNewline, NonAscii, BasicUnescaped, HexDig, HexDigits, EscapeSeqChar, escaped, BasicChar, BasicChars, BasicString, basic-string, MlbUnescaped, MlbChar, WscharNewline, WscharNewlines, mlb-escaped-nl, MlbContent, MlbContents, MlbContents1, MlbQuotes, MlbGroups, OptMlbQuotes, ml-basic-body, ml-basic-string, LiteralChar, LiteralChars, literal-string, MllChar, MllContent, MllContents, MllContents1, MllQuotes, MllGroups, OptMllQuotes, ml-literal-body, ml-literal-string}
 use Rattle.grammar.specs.Prose.{startsNewline, startsBlank}

@@ -23,7 +23,7 @@ use Rattle.strings.specs.Decoding.{bytesOf, errorsOf}
 use Rattle.classes.proofs.Conds.{both-left, both-right}
 use Rattle.strings.proofs.MarkLaws.{ml-is, start-open, closed-is, end-closed}
 use Rattle.strings.proofs.DecodeLaws.{bytes-is, errors-is}
-use Rattle.lexer.specs.Extents.{mlTail}
+use Rattle.scans.specs.Extents.{mlTail}
 use Rattle.grammar.specs.Grammar.{Newline, x0A, x0D-0A, OptNewline, absent, present}
 use Rattle.grammar.specs.Prose.{startsNewline, Trimmed}
 use Rattle.strings.proofs.AnswerLaws.{nil}

@@ -9,11 +9,12 @@ use lib.ListN.{length, getD, take, drop}
 use Rattle.token.specs.declared.TokenKind.{TokenKind}
 use Rattle.token.specs.declared.TokenKind.the-variants.{Newline}
 use Rattle.token.specs.declared.Token.{Token}
-use Rattle.lexer.specs.Extents.{newlineTail}
+use Rattle.token.specs.KindNumbers.{kindNumber}
+use Rattle.scans.specs.Extents.{newlineTail}
 use Rattle.lexer.specs.Lines.{lineFeeds}
-use Rattle.lexer.specs.Table.{tokenLen}
+use Rattle.lexer.specs.Table.{extent, tokenLen}
 use Rattle.lexer.specs.Tokens.{tokenBy, tokenAt, lineAfter}
-use Rattle.lexer.specs.Scans.{Stands, entryOf, entryAt}
+use Rattle.lexer.specs.Scans.{Stands, entryOf, entryFrom, entryAt}
 use Rattle.lexer.proofs.KindLaws.{KindThere, kind-at, token-there}
 use Rattle.lexer.proofs.LineLaws.{holdsLf, token-no-lf, newline-token}
 
@@ -51,3 +52,10 @@ module _ (k : TokenKind) (doc : List ℕ) (at line : ℕ) (h : at < length doc) 
       → entryOf t line ≡ entryAt at line (drop at doc)
   entry-cr n i e f =
       entry-feeds 0 line (newline-token doc at i h (kind-at doc at h ∙ there ∙ n) e .1 f) (omega arith)
+
+-- the same by its numbers: its kind's, its place, its end and its line
+pub entry-numbers : (k : TokenKind) (doc : List ℕ) (at line : ℕ) → at < length doc → KindThere doc at k → holdsLf k ≡ false
+    → (number end : ℕ) → number ≡ kindNumber k → end ≡ at + extent k (drop at doc)
+    → entryFrom number at end line line ≡ entryAt at line (drop at doc)
+entry-numbers k doc at line h there f number end n e =
+    rw (n, e) (entry-plain k doc at line h there (tokenBy k at line (drop at doc)) refl f)

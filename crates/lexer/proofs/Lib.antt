@@ -1,6 +1,3 @@
-pub mod BlockLaws
-pub mod TailLaws
-pub mod MarkLaws
 pub mod KindLaws
 pub mod LineLaws
 pub mod EntryLaws

@@ -14,12 +14,12 @@ use Rattle.classes.proofs.Conds.{cond-case, both-right}
 use Rattle.classes.proofs.RunLaws.{run-le, there}
 use Rattle.token.specs.declared.TokenKind.{TokenKind}
 use Rattle.token.specs.declared.Token.{Token}
-use Rattle.lexer.specs.Bytes.{hides, closes, inComment, inAtom}
-use Rattle.lexer.specs.Extents.{lineTail, triple, upToTwo, mlTail, newlineTail}
+use Rattle.scans.specs.Bytes.{hides, closes, inComment, inAtom}
+use Rattle.scans.specs.Extents.{lineTail, triple, upToTwo, mlTail, newlineTail}
 use Rattle.lexer.specs.Lines.{lineFeeds, lineBehind}
 use Rattle.lexer.specs.Table.{kindOf, extent, tokenLen}
 use Rattle.lexer.specs.Tokens.{tokenAt, eofAt, lineAfter, walk, tokensFrom, hasBom, startOf, tokensOf}
-use Rattle.lexer.proofs.MarkLaws.{triple-fits}
+use Rattle.scans.proofs.MarkLaws.{triple-fits}
 use Rattle.lexer.proofs.KindLaws.{by-kind}
 use Rattle.lexer.proofs.LineLaws.{feeds-none, behind-front, feeds-taken, mark-bytes}
 

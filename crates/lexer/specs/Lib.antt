@@ -1,5 +1,3 @@
-pub mod Bytes
-pub mod Extents
 pub mod Lines
 pub mod Table
 pub mod Tokens

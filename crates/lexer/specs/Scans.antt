@@ -1,13 +1,13 @@
--- What the helpers promise: what a scan looks for and where it ends, which tokens a loop passed and what it stored. None of
--- it is a rule: no promise of a public function cites it.
+-- What the helpers promise: which tokens a loop passed and what it stored. None of it is a rule: no promise of a public
+-- function cites it.
 -- Assumes nothing.
 use Prim.Native.Nat.{ℕ, _+_, _-_, _≤_, _<_}
 use mathlib.Core.Path.{_≡_}
-use mathlib.Core.Bool.{Bool, not, cond, _||_}
+use mathlib.Core.Bool.{cond}
 use mathlib.Core.List.{List, [], _∷_, _++_, map}
 use lib.ListN.{length, take, drop}
 use lib.Seq.{sets}
-use lib.Dec.{ltb, eqb}
+use lib.Dec.{ltb}
 use Rattle.token.specs.declared.Token.{Token}
 use Rattle.token.specs.declared.TokenKind.{TokenKind}
 use Rattle.token.specs.KindNumbers.{kindNumber}
@@ -18,20 +18,6 @@ use Rattle.lexer.specs.Whole.{recordsOf, tokenCount}
 use Rattle.lexer.specs.declared.Entry.{Entry}
 use Rattle.lexer.specs.declared.Passed.{Passed}
 
--- ---- scans
-
--- x is one of three bytes, or none of them
-abbrev pub oneOf : ℕ → ℕ → ℕ → ℕ → Bool
-oneOf a b c x = eqb x a || (eqb x b || eqb x c)
-
-abbrev pub noneOf : ℕ → ℕ → ℕ → ℕ → Bool
-noneOf a b c x = not (oneOf a b c x)
-
--- the byte that hides another in a string with the mark q: a backslash in the basic kinds; else none does, and the mark
--- stands in for it
-abbrev pub escapeOf : ℕ → ℕ
-escapeOf q = cond (eqb q 34) 92 q
-
 -- ---- tokens
 
 -- a token is the one at its place of the document, on a line that does not pass that place plus 1
@@ -40,9 +26,12 @@ pub record Stands (doc : List ℕ) (t : Token) : Type 0 where
   pub here : t ≡ tokenAt (t .span .start) (t .line) (drop (t .span .start) doc)
   pub low : t .line ≤ t .span .start + 1
 
--- a token's record with the line behind the token, and that of the token at a place
+-- a token's record with the line behind the token: by the token, by its numbers, and at a place
 abbrev pub entryOf : Token → ℕ → Entry
 entryOf t line = record { numbers = recordOf t; line = line }
+
+abbrev pub entryFrom : ℕ → ℕ → ℕ → ℕ → ℕ → Entry
+entryFrom number start end line next = record { numbers = number ∷ start ∷ end ∷ line ∷ []; line = next }
 
 abbrev pub entryAt : ℕ → ℕ → List ℕ → Entry
 entryAt at line s = entryOf (tokenAt at line s) (lineAfter line s)

@@ -9,8 +9,8 @@ use Rattle.classes.specs.Classes.{wschar}
 use Rattle.classes.specs.Runs.{run}
 use Rattle.token.specs.declared.TokenKind.{TokenKind}
 use Rattle.token.specs.declared.TokenKind.the-variants.{Dot, Equals, Comma, LeftSquareBracket, RightSquareBracket, LeftCurlyBracket, RightCurlyBracket, Whitespace, Comment, Newline, LiteralString, BasicString, MlLiteralString, MlBasicString, Atom, Eof}
-use Rattle.lexer.specs.Bytes.{eol, inComment, inAtom}
-use Rattle.lexer.specs.Extents.{lineTail, triple, mlTail, newlineTail}
+use Rattle.scans.specs.Bytes.{eol, inComment, inAtom}
+use Rattle.scans.specs.Extents.{lineTail, triple, mlTail, newlineTail}
 
 -- the kind by the first byte, and by whether three of it stand there: three quote marks always open the multi-line kind
 unfoldable pub kindBy : ℕ → Bool → TokenKind

@@ -1,7 +1,6 @@
 // The lexer: a document's tokens one at a time, by a cursor, or all at once, into lent records.
-// Rules: specs/Bytes.antt, Extents.antt, Lines.antt, Table.antt, Tokens.antt, Steps.antt, Whole.antt.
+// Rules: specs/Lines.antt, Table.antt, Tokens.antt, Steps.antt, Whole.antt.
 mod lines;
-mod scan;
 
 ghost use mathlib.Core.Path.{_≡_};
 ghost use Prim.Native.Nat.{_+_, _≤_, _<_};
@@ -14,7 +13,7 @@ ghost use Rattle.lexer.specs.Steps.{cursorOf, startAnswer, startNumber, 
 ghost use Rattle.lexer.specs.Steps.{stepOf, stepNumber, stepValue, stepRefusal, stepReturned};
 ghost use Rattle.lexer.specs.Whole.{tokenCount, lexAnswer, lexMemory};
 ghost use Rattle.lexer.specs.Whole.{lexedNumber, lexedValue, lexedLength, lexRefusal, lexReturned};
-ghost use Rattle.lexer.specs.Scans.{Stands, GoesOn, Numbered, entryOf, entryAt, tokensUntil, lineUntil, store, recordsOver};
+ghost use Rattle.lexer.specs.Scans.{Stands, GoesOn, Numbered, entryOf, entryFrom, entryAt, tokensUntil, lineUntil, store, recordsOver};
 use text::LIMIT;
 use text::Refusal;
 use text::Utf8Check;
@@ -172,18 +171,66 @@ fn token_at(doc: &[u8], at: usize, line: usize) -> Next
     ensures token { λ r. ⌜ r .token ≡ tokenAt at line (drop at (now (doc .entry))) ⌝ }
     ensures line { λ r. ⌜ r .line ≡ lineAfter line (drop at (now (doc .entry))) ⌝ }
 {
-    // Whitespace is about every third token, and soon read: without the loop.
-    if classes::is_wschar(doc[at]) {
-        return Next {
-            token: lex_whitespace(doc, at, line),
-            line,
-        };
-    }
-    let mut one = [[0usize; 4]; 1];
-    let passed = lex_until(doc, at, line, at + 1, &mut one);
-    let record = one[0];
+    let entry = entry_at(doc, at, line);
+    let record = entry.numbers;
     Next {
         token: token_of(kind_of(record[0]), record[1], record[2], record[3]),
+        line: entry.line,
+    }
+}
+
+// Its record, and the line behind it. What is soon read is read here, without the loop of `lex_until`, which sets up
+// more before its first token than such a token costs. The number of a kind of one byte is that byte.
+fn entry_at(doc: &[u8], at: usize, line: usize) -> Entry
+    requires { ⌜ (at < length (now doc)) × (line ≤ at + 1) ⌝ }
+    ensures { λ r. ⌜ r ≡ entryAt at line (drop at (now (doc .entry))) ⌝ }
+{
+    let b = doc[at];
+    match b {
+        b'.' | b'=' | b',' | b'[' | b']' | b'{' | b'}' => entry_from(
+            b as usize,
+            at,
+            at + 1,
+            line,
+            line,
+        ),
+        b'\n' => entry_from(TokenKind::NEWLINE, at, at + 1, line, line + 1),
+        b' ' | b'\t' => entry_from(
+            TokenKind::WHITESPACE,
+            at,
+            scans::wschar_run(doc, at + 1),
+            line,
+            line,
+        ),
+        b'#' | b'\r' | b'\'' | b'"' => entry_by_loop(doc, at, line),
+        _ => entry_from(
+            TokenKind::ATOM,
+            at,
+            scans::atom_rest(doc, at + 1),
+            line,
+            line,
+        ),
+    }
+}
+
+fn entry_from(number: usize, start: usize, end: usize, line: usize, next: usize) -> Entry
+    ensures { λ r. ⌜ r ≡ entryFrom number start end line next ⌝ }
+{
+    Entry {
+        numbers: [number, start, end, line],
+        line: next,
+    }
+}
+
+fn entry_by_loop(doc: &[u8], at: usize, line: usize) -> Entry
+    requires { ⌜ (at < length (now doc)) × (line ≤ at + 1) ⌝ }
+    ensures { λ r. ⌜ r ≡ entryAt at line (drop at (now (doc .entry))) ⌝ }
+{
+    let mut one = [[0usize; 4]; 1];
+    let passed = lex_until(doc, at, line, at + 1, &mut one);
+    let numbers = one[0];
+    Entry {
+        numbers,
         line: passed.line,
     }
 }
@@ -270,7 +317,7 @@ pub fn line_of(doc: &[u8], offset: usize) -> usize
 fn has_bom(doc: &[u8]) -> bool
     ensures { λ r. ⌜ r ≡ hasBom (now (doc .entry)) ⌝ }
 {
-    scan::is_at(doc, 0, 0xEF) && (scan::is_at(doc, 1, 0xBB) && scan::is_at(doc, 2, 0xBF))
+    scans::is_at(doc, 0, 0xEF) && (scans::is_at(doc, 1, 0xBB) && scans::is_at(doc, 2, 0xBF))
 }
 
 fn token_of(kind: TokenKind, start: usize, end: usize, line: usize) -> Token
@@ -300,14 +347,14 @@ fn process_token(doc: &[u8], at: usize, line: usize) -> Entry
         b'\r' => lex_crlf(doc, at, line),
         b'\n' => entry_of(lex_ascii_char(doc, at, line, TokenKind::Newline), line + 1),
         b'\'' => {
-            if scan::is_triple(doc, at, b'\'') {
+            if scans::is_ml_literal(doc, at) {
                 over_lines(doc, lex_ml_literal_string(doc, at, line))
             } else {
                 same_line(lex_literal_string(doc, at, line))
             }
         }
         b'"' => {
-            if scan::is_triple(doc, at, b'"') {
+            if scans::is_ml_basic(doc, at) {
                 over_lines(doc, lex_ml_basic_string(doc, at, line))
             } else {
                 same_line(lex_basic_string(doc, at, line))
@@ -363,7 +410,7 @@ fn lex_whitespace(doc: &[u8], at: usize, line: usize) -> Token
     token_of(
         TokenKind::Whitespace,
         at,
-        scan::wschar_run(doc, at + 1),
+        scans::wschar_run(doc, at + 1),
         line,
     )
 }
@@ -376,7 +423,7 @@ fn lex_comment(doc: &[u8], at: usize, line: usize) -> Token
     token_of(
         TokenKind::Comment,
         at,
-        scan::find_slice(doc, at + 1, b'\r', b'\n', b'\n'),
+        scans::comment_run(doc, at + 1),
         line,
     )
 }
@@ -386,7 +433,7 @@ fn lex_crlf(doc: &[u8], at: usize, line: usize) -> Entry
     requires { ⌜ (at < length (now doc)) × (line ≤ at + 1) × (getD (now doc) at 0 ≡ 13) ⌝ }
     ensures { λ r. ⌜ r ≡ entryAt at line (drop at (now (doc .entry))) ⌝ }
 {
-    if scan::is_at(doc, at + 1, b'\n') {
+    if scans::is_at(doc, at + 1, b'\n') {
         return entry_of(token_of(TokenKind::Newline, at, at + 2, line), line + 1);
     }
     entry_of(token_of(TokenKind::Newline, at, at + 1, line), line)
@@ -400,7 +447,7 @@ fn lex_literal_string(doc: &[u8], at: usize, line: usize) -> Token
     token_of(
         TokenKind::LiteralString,
         at,
-        scan::line_tail(doc, at + Span::MARK, b'\''),
+        scans::literal_tail(doc, at + Span::MARK),
         line,
     )
 }
@@ -413,7 +460,7 @@ fn lex_ml_literal_string(doc: &[u8], at: usize, line: usize) -> Token
     token_of(
         TokenKind::MlLiteralString,
         at,
-        scan::ml_tail(doc, at + Span::ML_MARK, b'\''),
+        scans::ml_literal_tail(doc, at + Span::ML_MARK),
         line,
     )
 }
@@ -426,7 +473,7 @@ fn lex_basic_string(doc: &[u8], at: usize, line: usize) -> Token
     token_of(
         TokenKind::BasicString,
         at,
-        scan::line_tail(doc, at + Span::MARK, b'"'),
+        scans::basic_tail(doc, at + Span::MARK),
         line,
     )
 }
@@ -439,7 +486,7 @@ fn lex_ml_basic_string(doc: &[u8], at: usize, line: usize) -> Token
     token_of(
         TokenKind::MlBasicString,
         at,
-        scan::ml_tail(doc, at + Span::ML_MARK, b'"'),
+        scans::ml_basic_tail(doc, at + Span::ML_MARK),
         line,
     )
 }
@@ -449,5 +496,5 @@ fn lex_atom(doc: &[u8], at: usize, line: usize) -> Token
     requires { ⌜ at < length (now doc) ⌝ }
     ensures { λ r. ⌜ r ≡ tokenBy TokenKind.Atom at line (drop at (now (doc .entry))) ⌝ }
 {
-    token_of(TokenKind::Atom, at, scan::atom_run(doc, at + 1), line)
+    token_of(TokenKind::Atom, at, scans::atom_run(doc, at + 1), line)
 }

@@ -17,8 +17,8 @@ use Rattle.classes.specs.Runs.{run}
 use Rattle.classes.proofs.Conds.{cond-case}
 use Rattle.token.specs.declared.TokenKind.{TokenKind}
 use Rattle.token.specs.declared.TokenKind.the-variants.{Dot, Equals, Comma, LeftSquareBracket, RightSquareBracket, LeftCurlyBracket, RightCurlyBracket, Whitespace, Comment, Newline, LiteralString, BasicString, MlLiteralString, MlBasicString, Atom, Eof}
-use Rattle.lexer.specs.Bytes.{hides, closes, inComment, inAtom}
-use Rattle.lexer.specs.Extents.{lineTail, triple, upToTwo, mlTail, newlineTail}
+use Rattle.scans.specs.Bytes.{hides, closes, inComment, inAtom}
+use Rattle.scans.specs.Extents.{lineTail, triple, upToTwo, mlTail, newlineTail}
 use Rattle.lexer.specs.Table.{kindBy, kindOf, extent, tokenLen}
 use Rattle.lexer.proofs.TokenLaws.{token-long}
 

@@ -10,7 +10,7 @@ use Rattle.strings.specs.Escapes.{simpleEscape, hexLength, hexValue, hexFrom, h
 use Rattle.strings.specs.Bodies.{literalPiece, mlLiteralPiece, basicPiece, skips, escapedNl, escapedMore, mlbContent, mlBasicPiece, keyPiece}
 use Rattle.strings.specs.Marks.{lineEnds, threes, newlineLen, mlStart, mlClosed, trimmed, mlEnd, mlEnds, keyEnds}
 use Rattle.strings.specs.Decoding.{bytesOf, errorsOf}
-use Rattle.lexer.specs.Extents.{lineTail, triple, upToTwo, mlTail, newlineTail}
+use Rattle.scans.specs.Extents.{lineTail, triple, upToTwo, mlTail, newlineTail}
 use Rattle.lexer.specs.Table.{kindBy, kindOf, extent, tokenLen}
 use Rattle.lexer.specs.Tokens.{walk, tokensFrom, startOf, tokensOf}
 use Rattle.lexer.specs.Whole.{recordsOf}

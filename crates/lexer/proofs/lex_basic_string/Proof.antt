@@ -9,19 +9,19 @@ use native.Mathlib.Omega.{arith}
 use Rattle.lexer.proofs.lex_basic_string.Statement.{statement}
 use Rattle.lexer.proofs.lex_basic_string.Tie as tie
 
-add-line-tail : tie.Need-add-line-tail
-add-line-tail c = search needs
+add-basic-tail : tie.Need-add-basic-tail
+add-basic-tail c = search needs
 
-line-tail-requires : tie.Need-line-tail-requires
-line-tail-requires c κs = search needs
+basic-tail-requires : tie.Need-basic-tail-requires
+basic-tail-requires c κs = search needs
 
 token-of-requires : tie.Need-token-of-requires
 token-of-requires c κs = search needs
 
 returns : tie.Need-returns
 unfolding extent
-returns c = c .token-of .ensures ∙ end-is (c .before .line-tail .ensures ∙ simp drop-drop (omega arith))
+returns c = c .token-of .ensures ∙ end-is (c .before .basic-tail .ensures ∙ simp drop-drop (omega arith))
 
 pub lex-basic-string-spec : {M : Type 1} → statement M
 lex-basic-string-spec =
-    tie.close (tie.spec add-line-tail line-tail-requires token-of-requires returns)
+    tie.close (tie.spec add-basic-tail basic-tail-requires token-of-requires returns)

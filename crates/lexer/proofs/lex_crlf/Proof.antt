@@ -6,11 +6,11 @@ use lib.ListN.{drop}
 use borrow.Author.Tests.{eqb-true}
 use Rattle.classes.specs.Classes.{wschar}
 use Rattle.token.specs.declared.TokenKind.the-variants.{Newline}
-use Rattle.lexer.specs.Extents.{newlineTail}
+use Rattle.scans.specs.Extents.{newlineTail}
 use Rattle.lexer.specs.Table.{kindBy, extent}
 use Rattle.lexer.specs.Tokens.{tokenBy}
 use Rattle.lexer.proofs.KindLaws.{KindThere}
-use Rattle.lexer.proofs.MarkLaws.{newlineTail-at}
+use Rattle.scans.proofs.MarkLaws.{newlineTail-at}
 use Rattle.lexer.proofs.EntryLaws.{entry-lf, entry-cr}
 use borrow.Author.Needs.{needs}
 use native.Mathlib.Omega.{arith}

@@ -9,19 +9,19 @@ use native.Mathlib.Omega.{arith}
 use Rattle.lexer.proofs.lex_literal_string.Statement.{statement}
 use Rattle.lexer.proofs.lex_literal_string.Tie as tie
 
-add-line-tail : tie.Need-add-line-tail
-add-line-tail c = search needs
+add-literal-tail : tie.Need-add-literal-tail
+add-literal-tail c = search needs
 
-line-tail-requires : tie.Need-line-tail-requires
-line-tail-requires c κs = search needs
+literal-tail-requires : tie.Need-literal-tail-requires
+literal-tail-requires c κs = search needs
 
 token-of-requires : tie.Need-token-of-requires
 token-of-requires c κs = search needs
 
 returns : tie.Need-returns
 unfolding extent
-returns c = c .token-of .ensures ∙ end-is (c .before .line-tail .ensures ∙ simp drop-drop (omega arith))
+returns c = c .token-of .ensures ∙ end-is (c .before .literal-tail .ensures ∙ simp drop-drop (omega arith))
 
 pub lex-literal-string-spec : {M : Type 1} → statement M
 lex-literal-string-spec =
-    tie.close (tie.spec add-line-tail line-tail-requires token-of-requires returns)
+    tie.close (tie.spec add-literal-tail literal-tail-requires token-of-requires returns)

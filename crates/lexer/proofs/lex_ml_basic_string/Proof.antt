@@ -9,19 +9,19 @@ use native.Mathlib.Omega.{arith}
 use Rattle.lexer.proofs.lex_ml_basic_string.Statement.{statement}
 use Rattle.lexer.proofs.lex_ml_basic_string.Tie as tie
 
-add-ml-tail : tie.Need-add-ml-tail
-add-ml-tail c = search needs
+add-ml-basic-tail : tie.Need-add-ml-basic-tail
+add-ml-basic-tail c = search needs
 
-ml-tail-requires : tie.Need-ml-tail-requires
-ml-tail-requires c κs = search needs
+ml-basic-tail-requires : tie.Need-ml-basic-tail-requires
+ml-basic-tail-requires c κs = search needs
 
 token-of-requires : tie.Need-token-of-requires
 token-of-requires c κs = search needs
 
 returns : tie.Need-returns
 unfolding extent
-returns c = c .token-of .ensures ∙ end-is (c .before .ml-tail .ensures ∙ simp drop-drop (omega arith))
+returns c = c .token-of .ensures ∙ end-is (c .before .ml-basic-tail .ensures ∙ simp drop-drop (omega arith))
 
 pub lex-ml-basic-string-spec : {M : Type 1} → statement M
 lex-ml-basic-string-spec =
-    tie.close (tie.spec add-ml-tail ml-tail-requires token-of-requires returns)
+    tie.close (tie.spec add-ml-basic-tail ml-basic-tail-requires token-of-requires returns)

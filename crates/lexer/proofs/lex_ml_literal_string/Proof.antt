@@ -9,19 +9,19 @@ use native.Mathlib.Omega.{arith}
 use Rattle.lexer.proofs.lex_ml_literal_string.Statement.{statement}
 use Rattle.lexer.proofs.lex_ml_literal_string.Tie as tie
 
-add-ml-tail : tie.Need-add-ml-tail
-add-ml-tail c = search needs
+add-ml-literal-tail : tie.Need-add-ml-literal-tail
+add-ml-literal-tail c = search needs
 
-ml-tail-requires : tie.Need-ml-tail-requires
-ml-tail-requires c κs = search needs
+ml-literal-tail-requires : tie.Need-ml-literal-tail-requires
+ml-literal-tail-requires c κs = search needs
 
 token-of-requires : tie.Need-token-of-requires
 token-of-requires c κs = search needs
 
 returns : tie.Need-returns
 unfolding extent
-returns c = c .token-of .ensures ∙ end-is (c .before .ml-tail .ensures ∙ simp drop-drop (omega arith))
+returns c = c .token-of .ensures ∙ end-is (c .before .ml-literal-tail .ensures ∙ simp drop-drop (omega arith))
 
 pub lex-ml-literal-string-spec : {M : Type 1} → statement M
 lex-ml-literal-string-spec =
-    tie.close (tie.spec add-ml-tail ml-tail-requires token-of-requires returns)
+    tie.close (tie.spec add-ml-literal-tail ml-literal-tail-requires token-of-requires returns)

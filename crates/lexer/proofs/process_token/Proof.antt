@@ -1,7 +1,6 @@
 -- `process_token` is right because its arms are the table's, first byte by first byte, and each function reads that kind's
 -- token; the kinds on one line leave the line as it was, an LF is one more, and in the others the LFs are counted.
 -- Assumes nothing.
-use Prim.Native.Nat.{_+_}
 use mathlib.Core.Path.{_≡_, refl, sym, ap, _∙_}
 use mathlib.Core.Bool.{false}
 use lib.ListN.{drop}
@@ -10,11 +9,11 @@ use Rattle.classes.specs.Classes.{wschar}
 use Rattle.token.specs.declared.Token.{Token}
 use Rattle.token.specs.declared.TokenKind.{TokenKind}
 use Rattle.token.specs.declared.TokenKind.the-variants.{Dot, Equals, Comma, LeftSquareBracket, RightSquareBracket, LeftCurlyBracket, RightCurlyBracket, Whitespace, Comment, Newline, LiteralString, BasicString, MlLiteralString, MlBasicString, Atom}
-use Rattle.lexer.specs.Extents.{newlineTail}
+use Rattle.scans.specs.Extents.{newlineTail}
 use Rattle.lexer.specs.Table.{kindBy, extent}
 use Rattle.lexer.specs.Tokens.{tokenBy}
 use Rattle.lexer.specs.Scans.{entryOf, entryAt}
-use Rattle.lexer.proofs.MarkLaws.{triple-fits-at, newlineTail-at}
+use Rattle.scans.proofs.MarkLaws.{triple-fits-at, newlineTail-at}
 use Rattle.lexer.proofs.KindLaws.{KindThere, end-is}
 use Rattle.lexer.proofs.LineLaws.{holdsLf}
 use Rattle.lexer.proofs.EntryLaws.{entry-plain, entry-stands, entry-over, entry-lf}
@@ -40,11 +39,11 @@ plain c k t e m f =
 -- three marks at the place, or not
 literal-three : (c : tie.Then1) → There (c .before .before .before .before .before) MlLiteralString
 unfolding kindBy wschar
-literal-three c = rw (c .before .before .match .keys13, sym (c .before .is-triple .ensures) ∙ c .if1 .taken)
+literal-three c = rw (c .before .before .match .keys13, sym (c .before .is-ml-literal .ensures) ∙ c .if1 .taken)
 
 basic-three : (c : tie.Then2) → There (c .before .before .before .before .before) MlBasicString
 unfolding kindBy wschar
-basic-three c = rw (c .before .before .match .keys14, sym (c .before .is-triple2 .ensures) ∙ c .if2 .taken)
+basic-three c = rw (c .before .before .match .keys14, sym (c .before .is-ml-basic .ensures) ∙ c .if2 .taken)
 
 shared-slice-read-b : tie.Need-shared-slice-read-b
 shared-slice-read-b c = search needs
@@ -121,13 +120,13 @@ add-entry-of c = omega arith
 entry-of-requires : tie.Need-entry-of-requires
 entry-of-requires c κs = search needs
 
-is-triple-requires : tie.Need-is-triple-requires
-is-triple-requires c κs = search needs
+is-ml-literal-requires : tie.Need-is-ml-literal-requires
+is-ml-literal-requires c κs = search needs
 
 lex-ml-literal-string-requires : tie.Need-lex-ml-literal-string-requires
 lex-ml-literal-string-requires c κs =
     let is = c .before .before .before .before .before .args in
-    triple-fits-at 39 (is .doc .now) (is .at) (omega arith) (sym (c .before .is-triple .ensures) ∙ c .if1 .taken)
+    triple-fits-at 39 (is .doc .now) (is .at) (omega arith) (sym (c .before .is-ml-literal .ensures) ∙ c .if1 .taken)
 
 over-lines-requires : tie.Need-over-lines-requires
 over-lines-requires c κs =
@@ -142,13 +141,13 @@ lex-literal-string-requires c κs = search needs
 same-line-requires-11 : tie.Need-same-line-requires-11
 same-line-requires-11 c κs = search needs
 
-is-triple-requires-2 : tie.Need-is-triple-requires-2
-is-triple-requires-2 c κs = search needs
+is-ml-basic-requires : tie.Need-is-ml-basic-requires
+is-ml-basic-requires c κs = search needs
 
 lex-ml-basic-string-requires : tie.Need-lex-ml-basic-string-requires
 lex-ml-basic-string-requires c κs =
     let is = c .before .before .before .before .before .args in
-    triple-fits-at 34 (is .doc .now) (is .at) (omega arith) (sym (c .before .is-triple2 .ensures) ∙ c .if2 .taken)
+    triple-fits-at 34 (is .doc .now) (is .at) (omega arith) (sym (c .before .is-ml-basic .ensures) ∙ c .if2 .taken)
 
 over-lines-requires-2 : tie.Need-over-lines-requires-2
 over-lines-requires-2 c κs =
@@ -254,7 +253,7 @@ returns-13 c =
 returns-14 : tie.Need-returns-14
 unfolding kindBy wschar
 returns-14 c =
-    let fewer = sym (c .before .before .before .is-triple .ensures) ∙ c .before .before .if1 .left in
+    let fewer = sym (c .before .before .before .is-ml-literal .ensures) ∙ c .before .before .if1 .left in
     c .same-line11 .ensures
     ∙ plain (c .before .before .before .before .before .before .before) LiteralString _ (rw (c .before .before .before .before .match .keys13, fewer)) (c .before .lex-literal-string .ensures) refl
 
@@ -268,7 +267,7 @@ returns-15 c =
 returns-16 : tie.Need-returns-16
 unfolding kindBy wschar
 returns-16 c =
-    let fewer = sym (c .before .before .before .is-triple2 .ensures) ∙ c .before .before .if2 .left in
+    let fewer = sym (c .before .before .before .is-ml-basic .ensures) ∙ c .before .before .if2 .left in
     c .same-line12 .ensures
     ∙ plain (c .before .before .before .before .before .before .before) BasicString _ (rw (c .before .before .before .before .match .keys14, fewer)) (c .before .lex-basic-string .ensures) refl
 
@@ -323,12 +322,12 @@ process-token-spec =
     lex-ascii-char-requires-8
     add-entry-of
     entry-of-requires
-    is-triple-requires
+    is-ml-literal-requires
     lex-ml-literal-string-requires
     over-lines-requires
     lex-literal-string-requires
     same-line-requires-11
-    is-triple-requires-2
+    is-ml-basic-requires
     lex-ml-basic-string-requires
     over-lines-requires-2
     lex-basic-string-requires

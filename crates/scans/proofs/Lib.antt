@@ -1,0 +1,4 @@
+pub mod BlockLaws
+pub mod TailLaws
+pub mod MarkLaws
+pub mod OneAnswer
