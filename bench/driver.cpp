@@ -1,13 +1,18 @@
-// The one driver of bench/run: the same manifests through every phase, in one process.
-//   driver time    bytes a second, and how time grows with size
-//   driver count   each phase once between marks of bench/count.c, for exact instruction counts
-// A table's row is a kind of manifest, in Markdown.
+// The one driver of bench/run: the same documents through every phase, in one process.
+//   driver time [FILE...]    bytes a second, and how time grows with size
+//   driver count [FILE...]   each phase once between marks of bench/count.c, for exact instruction counts
+//   driver calls             single calls on a few bytes between the same marks
+// A table's row is a document, in Markdown: a generated manifest, or a file as it is.
 #include "manifests.hpp"
 #include "toml.h"
 
 #include <algorithm>
 #include <chrono>
+#include <cstdlib>
 #include <cstring>
+#include <filesystem>
+#include <fstream>
+#include <iterator>
 #include <string_view>
 #include <toml++/toml.h>
 #include <unistd.h>
@@ -16,23 +21,26 @@ extern "C" size_t rust_from_utf8(const uint8_t *text, size_t len);
 
 namespace {
 
-// What a phase works on: a document, its string tokens, and memory that always suffices.
+using bench::Document;
+
+// What a phase works on: a document, its tokens to decode, and memory that always suffices.
 struct Work {
     std::string doc;
     std::vector<uint8_t> out;
     std::vector<size_t> records, errors; // four numbers a token, three an error
-    std::vector<toml_token> strings;
-    size_t string_bytes = 0;
+    std::vector<toml_token> encoded;     // its strings, or in their place its Atoms, which are decoded as keys
+    size_t doc_bytes, encoded_bytes = 0, parsed_bytes; // what there is to read: at all, for a decode, for toml++
 
-    explicit Work(std::string text)
-        : doc(std::move(text)), out(doc.size() * 3 / 2), records(4 * (doc.size() + 1)), errors(3 * (doc.size() + 2))
+    explicit Work(const Document &document)
+        : doc(document.text), out(doc.size() * 3 / 2), records(4 * (doc.size() + 1)), errors(3 * (doc.size() + 2)),
+          doc_bytes(doc.size()), parsed_bytes(parses() ? doc.size() : 0)
     {
         size_t tokens = lex();
         for (size_t i = 0; i < tokens; i++) {
             toml_token token = {records[4 * i], records[4 * i + 1], records[4 * i + 2], records[4 * i + 3]};
-            if (toml_encoding(token.kind).encoding != 0) {
-                strings.push_back(token);
-                string_bytes += token.end - token.start;
+            if (document.decodes_keys ? token.kind == TOML_ATOM : toml_encoding(token.kind).encoding != 0) {
+                encoded.push_back(token);
+                encoded_bytes += token.end - token.start;
             }
         }
     }
@@ -44,46 +52,67 @@ struct Work {
     size_t rust_check() { return rust_from_utf8(bytes(), doc.size()); }
     size_t check() { return toml_check_utf8(bytes(), doc.size()).refusal; }
     size_t lex() { return toml_lex(bytes(), doc.size(), rows<4>(records), records.size() / 4).value; }
+    size_t position() { return toml_position(bytes(), doc.size(), doc.size()).column; }
     size_t parse() { return toml::parse(std::string_view(doc)).size(); }
+
+    // toml++ refuses a document that defines a table twice, as the kind "keys" does.
+    bool parses()
+    {
+        try {
+            parse();
+            return true;
+        } catch (const toml::parse_error &) {
+            return false;
+        }
+    }
+
+    // One step a token, Eof the last.
+    size_t walk()
+    {
+        size_t tokens = 0;
+        toml_cursor at = toml_start(bytes(), doc.size()).cursor;
+        while (at.ended == 0) {
+            at = toml_step(bytes(), doc.size(), at.place, at.ended, at.line).cursor;
+            tokens++;
+        }
+        return tokens;
+    }
 
     size_t decode()
     {
         size_t all = 0;
-        for (const auto &s : strings) {
-            all += toml_decode(bytes() + s.start, s.end - s.start, s.kind, out.data(), out.size(), rows<3>(errors), errors.size() / 3)
+        for (const auto &t : encoded) {
+            all += toml_decode(bytes() + t.start, t.end - t.start, t.kind, out.data(), out.size(), rows<3>(errors), errors.size() / 3)
                        .answer.value;
         }
         return all;
     }
 };
 
-// A phase: its name, what it does, and whether it reads the strings only.
+// A phase: its name, what it does, and how many bytes it reads of a document.
 struct Phase {
     const char *name;
     size_t (Work::*run)();
-    bool strings_only;
+    size_t Work::*reads;
 };
 
 const std::vector<Phase> phases = {
-    {"memcpy", &Work::copy, false},
-    {"from_utf8", &Work::rust_check, false},
-    {"UTF-8 check", &Work::check, false},
-    {"lexing", &Work::lex, false},
-    {"decoding", &Work::decode, true},
-    {"toml++ parse", &Work::parse, false},
+    {"memcpy", &Work::copy, &Work::doc_bytes},
+    {"from_utf8", &Work::rust_check, &Work::doc_bytes},
+    {"UTF-8 check", &Work::check, &Work::doc_bytes},
+    {"lexing", &Work::lex, &Work::doc_bytes},
+    {"step", &Work::walk, &Work::doc_bytes},
+    {"position", &Work::position, &Work::doc_bytes},
+    {"decoding", &Work::decode, &Work::encoded_bytes},
+    {"toml++ parse", &Work::parse, &Work::parsed_bytes},
 };
-enum { MEMCPY, FROM_UTF8, CHECK, LEXING, DECODING, PARSE };
+enum { MEMCPY, FROM_UTF8, CHECK, LEXING, STEP, POSITION, DECODING, PARSE };
 
 // What is computed is used.
 volatile size_t sink;
 
 // bench/count.c's MARK
 const long mark = 0x7A7A;
-
-size_t read_by(const Phase &phase, const Work &work)
-{
-    return phase.strings_only ? work.string_bytes : work.doc.size();
-}
 
 // Seconds of one run: the best of several batches, each long enough to measure.
 double seconds(const Phase &phase, Work &work)
@@ -109,7 +138,7 @@ double seconds(const Phase &phase, Work &work)
 
 void header(const std::string &title, const std::vector<std::string> &columns)
 {
-    std::printf("\n%s\n\n| manifest |", title.c_str());
+    std::printf("\n%s\n\n| document |", title.c_str());
     for (const auto &c : columns) {
         std::printf(" %s |", c.c_str());
     }
@@ -135,15 +164,34 @@ std::vector<std::string> phase_names()
 // Nanoseconds a byte of each phase; 0 where it has nothing to read.
 using Costs = std::vector<double>;
 
-Costs costs_of(const bench::Kind &kind, size_t size)
+Costs costs_of(const Document &document)
 {
-    Work work(bench::manifest(kind, size));
+    Work work(document);
     Costs costs;
     for (const auto &phase : phases) {
-        size_t n = read_by(phase, work);
+        size_t n = work.*phase.reads;
         costs.push_back(n == 0 ? 0 : seconds(phase, work) * 1e9 / static_cast<double>(n));
     }
     return costs;
+}
+
+struct Row {
+    std::string name;
+    Costs costs;
+};
+using Table = std::vector<Row>;
+
+// One more round: a cell keeps the best of all, so that a slow moment of the machine spoils one round only.
+void measure(const std::vector<Document> &documents, Table &table)
+{
+    table.resize(documents.size());
+    for (size_t d = 0; d < documents.size(); d++) {
+        Costs costs = costs_of(documents[d]);
+        Costs &known = table[d].costs;
+        known.resize(costs.size(), 1e9);
+        std::transform(known.begin(), known.end(), costs.begin(), known.begin(), [](double a, double b) { return std::min(a, b); });
+        table[d].name = documents[d].name;
+    }
 }
 
 void print_cell(double value, int digits)
@@ -151,82 +199,159 @@ void print_cell(double value, int digits)
     value > 0 ? std::printf(" %.*f |", digits, value) : std::printf(" - |");
 }
 
-void print_speeds(const std::vector<Costs> &by_kind)
+void print_speeds(const std::string &documents, const Table &table)
 {
-    for (size_t k = 0; k < by_kind.size(); k++) {
-        const Costs &c = by_kind[k];
-        std::printf("| %s |", bench::kinds[k].name);
+    auto columns = phase_names();
+    columns.insert(columns.end(), {"check : from_utf8", "lexing : toml++", "memcpy : lexing"});
+    header("MB a second, " + documents + "; the last three columns are ratios of speeds", columns);
+    for (const auto &[name, c] : table) {
+        std::printf("| %s |", name.c_str());
         for (double ns : c) {
             print_cell(ns > 0 ? 1e3 / ns : 0, 0);
         }
-        std::printf(" %.2f | %.1f | %.1f |\n", c[FROM_UTF8] / c[CHECK], c[PARSE] / c[LEXING], c[LEXING] / c[MEMCPY]);
+        print_cell(c[FROM_UTF8] / c[CHECK], 2);
+        print_cell(c[PARSE] / c[LEXING], 1);
+        print_cell(c[LEXING] / c[MEMCPY], 1);
+        std::printf("\n");
     }
 }
 
-// The costs by size and kind: the best of several rounds, so that a slow moment of the machine spoils one round only.
-std::vector<std::vector<Costs>> best_costs()
+void print_growth(const Table &smallest, const Table &largest)
 {
-    std::vector<std::vector<Costs>> best(sizes.size(), std::vector<Costs>(bench::kinds.size()));
-    for (int round = 0; round < 4; round++) {
-        for (size_t s = 0; s < sizes.size(); s++) {
-            for (size_t k = 0; k < bench::kinds.size(); k++) {
-                Costs costs = costs_of(bench::kinds[k], sizes[s]);
-                Costs &known = best[s][k];
-                known.resize(costs.size(), 1e9);
-                std::transform(known.begin(), known.end(), costs.begin(), known.begin(), [](double a, double b) { return std::min(a, b); });
-            }
-        }
-    }
-    return best;
-}
-
-void time_all()
-{
-    const auto by_size = best_costs();
-    for (size_t s = 0; s < sizes.size(); s++) {
-        auto columns = phase_names();
-        columns.insert(columns.end(), {"check : from_utf8", "lexing : toml++", "memcpy : lexing"});
-        header("MB a second, documents of " + size_names[s] + "; the last three columns are ratios of speeds", columns);
-        print_speeds(by_size[s]);
-    }
     header("How time grows: time a byte at 16 MiB over time a byte at 4 KiB; 1.0 is linear", phase_names());
-    for (size_t k = 0; k < bench::kinds.size(); k++) {
-        std::printf("| %s |", bench::kinds[k].name);
+    for (size_t k = 0; k < smallest.size(); k++) {
+        std::printf("| %s |", smallest[k].name.c_str());
         for (size_t p = 0; p < phases.size(); p++) {
-            double small = by_size.front()[k][p], large = by_size.back()[k][p];
+            double small = smallest[k].costs[p], large = largest[k].costs[p];
             print_cell(small > 0 ? large / small : 0, 2);
         }
         std::printf("\n");
     }
 }
 
-// Each phase once to warm up, then once between two marks. Prints what the count, which the plugin writes to
-// standard error in the same order, is of: manifest, phase, bytes.
-void count_all()
+void time_all(const std::vector<Document> &real)
 {
-    for (const auto &kind : bench::kinds) {
-        Work work(bench::manifest(kind, 65536));
+    std::vector<Table> by_size(sizes.size());
+    Table of_real;
+    for (int round = 0; round < 4; round++) {
+        for (size_t s = 0; s < sizes.size(); s++) {
+            measure(bench::manifests(sizes[s]), by_size[s]);
+        }
+        measure(real, of_real);
+    }
+    for (size_t s = 0; s < sizes.size(); s++) {
+        print_speeds("documents of " + size_names[s], by_size[s]);
+    }
+    print_growth(by_size.front(), by_size.back());
+    if (!real.empty()) {
+        print_speeds("real documents, each at its own size", of_real);
+    }
+}
+
+// One run between two marks. Prints what is counted; the count itself is written by the plugin, to standard error and
+// in the same order.
+template <typename Run> void count(const std::string &what, Run run)
+{
+    syscall(mark, 0);
+    sink = run();
+    syscall(mark, 1);
+    std::printf("%s\n", what.c_str());
+}
+
+// Each phase that has anything to read, as document, phase, bytes. It runs once before, to warm up: what toml++ costs
+// depends on what was allocated and freed before.
+void count_all(const std::vector<Document> &real)
+{
+    auto documents = bench::manifests(65536);
+    documents.insert(documents.end(), real.begin(), real.end());
+    for (const auto &document : documents) {
+        Work work(document);
         for (const auto &phase : phases) {
-            sink = (work.*phase.run)();
-            syscall(mark, 0);
-            sink = (work.*phase.run)();
-            syscall(mark, 1);
-            std::printf("%s|%s|%zu\n", kind.name, phase.name, read_by(phase, work));
+            size_t n = work.*phase.reads;
+            if (n > 0) {
+                sink = (work.*phase.run)();
+                count(document.name + "|" + phase.name + "|" + std::to_string(n), [&] { return (work.*phase.run)(); });
+            }
         }
     }
+}
+
+// Memory that always suffices for a call on a few bytes.
+uint8_t few_bytes[16];
+size_t few_records[16][4], few_errors[16][3];
+
+struct Text {
+    std::string bytes;
+    size_t kind;
+};
+
+const std::vector<Text> short_texts = {
+    {"\"-O2\"", TOML_BASIC_STRING},
+    {"'-O2'", TOML_LITERAL_STRING},
+    {"name", TOML_ATOM},
+    {"\"é\"", TOML_BASIC_STRING},
+    {"\"\\n\"", TOML_BASIC_STRING},
+    {"\"\"\"a\"\"\"", TOML_ML_BASIC_STRING},
+    {"'''a'''", TOML_ML_LITERAL_STRING},
+};
+
+void count_decode(const Text &text)
+{
+    const auto *bytes = reinterpret_cast<const uint8_t *>(text.bytes.data());
+    const size_t len = text.bytes.size(), kind = text.kind;
+    count("toml_decode, kind " + std::to_string(kind) + "|`" + text.bytes + "`",
+          [=] { return toml_decode(bytes, len, kind, few_bytes, 16, few_errors, 16).answer.value; });
+}
+
+// Single calls, as call, text. The first count is of two marks with no call between, to be taken off each of the
+// others: what is left is the call, with the few instructions that hand over its arguments and take its answer.
+void count_calls()
+{
+    static const char text[] = "a = \"b\"\n";
+    const auto *doc = reinterpret_cast<const uint8_t *>(text);
+    const size_t len = sizeof text - 1;
+    const std::string on = "|`a = \"b\"` LF";
+    count("nothing|", [] { return 0; });
+    count("toml_check_utf8" + on, [=] { return toml_check_utf8(doc, len).refusal; });
+    count("toml_lex" + on, [=] { return toml_lex(doc, len, few_records, 16).value; });
+    count("toml_start" + on, [=] { return toml_start(doc, len).cursor.place; });
+    count("toml_step, first token" + on, [=] { return toml_step(doc, len, 0, 0, 1).given; });
+    count("toml_position, at the end" + on, [=] { return toml_position(doc, len, len).column; });
+    for (const auto &short_text : short_texts) {
+        count_decode(short_text);
+    }
+}
+
+// A file, under its name without `.toml` and with its size.
+Document file(const std::string &path)
+{
+    std::ifstream input(path, std::ios::binary);
+    std::string text((std::istreambuf_iterator<char>(input)), std::istreambuf_iterator<char>());
+    if (text.empty() || text.size() > TOML_LIMIT) {
+        std::fprintf(stderr, "%s: missing, empty or too long\n", path.c_str());
+        std::exit(1);
+    }
+    return {std::filesystem::path(path).stem().string() + ", " + std::to_string(text.size() / 1024) + " KiB", text};
 }
 
 } // namespace
 
 int main(int argc, char **argv)
 {
-    if (argc == 2 && std::strcmp(argv[1], "time") == 0) {
+    const std::string mode = argc > 1 ? argv[1] : "";
+    std::vector<Document> real;
+    for (int i = 2; i < argc; i++) {
+        real.push_back(file(argv[i]));
+    }
+    if (mode == "time") {
         std::printf("toml++ %d.%d.%d\n", TOML_LIB_MAJOR, TOML_LIB_MINOR, TOML_LIB_PATCH);
-        time_all();
-    } else if (argc == 2 && std::strcmp(argv[1], "count") == 0) {
-        count_all();
+        time_all(real);
+    } else if (mode == "count") {
+        count_all(real);
+    } else if (mode == "calls") {
+        count_calls();
     } else {
-        std::fprintf(stderr, "driver time | driver count\n");
+        std::fprintf(stderr, "driver time [FILE...] | driver count [FILE...] | driver calls\n");
         return 2;
     }
     return 0;
