@@ -7,7 +7,7 @@ ghost use lib.ListN.{length};
 ghost use Rattle.text.specs.Refusals.{limit};
 ghost use Rattle.text.specs.Answers.{checkFault};
 ghost use Rattle.text.specs.declared.utf8.Utf8Check.the-variants.{Valid};
-ghost use Rattle.strings.specs.Encodings.{choiceIn, unnamed, choiceBy, choiceOf};
+ghost use Rattle.strings.specs.Encodings.{choiceBy, choiceOf};
 ghost use Rattle.strings.specs.declared.Choice.the-variants.{Known};
 ghost use Rattle.strings.specs.Decoding.{bytesOf, errorsOf, bytesBy, errorsBy, decodedBy, decodeIn, decodeOf, after};
 ghost use Rattle.strings.specs.Decoding.{decodedNumber, decodedValue, decodedErrors, decodedLength, decodeRefusal, decodeReturned, decodeNoted};
@@ -16,20 +16,19 @@ ghost use Rattle.strings.specs.Marks.{endsOf};
 ghost use Rattle.strings.proofs.KeyLaws.{KeyCopied};
 ghost use Rattle.strings.proofs.StoreLaws.{Stored};
 
-mod marks;
-mod plain;
 mod write;
 
-use crate::marks::ends_of;
-use crate::marks::mark_error;
-use crate::plain::copy_plain;
 use crate::write::Counts;
 use crate::write::copy_in;
 use crate::write::count;
 use crate::write::miss;
 use crate::write::missed;
 use crate::write::write;
+use marks::choice_by;
+use marks::ends_of;
+use marks::mark_error;
 use pieces::plain_run;
+use plain::copy_plain;
 use strings::Choice;
 pub use strings::Decoded;
 use strings::Edition;
@@ -163,40 +162,6 @@ fn copy_key(edition: usize, text: &[u8], output: &mut [u8]) -> usize
         return 0;
     }
     copy_in(text, n, output, 0)
-}
-
-// Which encoding the two numbers ask for. A kind is asked for before an edition.
-fn choice_by(edition: usize, kind: usize) -> Choice
-    ensures { λ r. ⌜ r ≡ choiceBy edition kind ⌝ }
-{
-    match edition {
-        Edition::TOML_10 => choice_in(Edition::Toml10, kind),
-        Edition::TOML_11 => choice_in(Edition::Toml11, kind),
-        _ => no_edition(edition, choice_in(Edition::Toml10, kind)),
-    }
-}
-
-fn no_edition(edition: usize, choice: Choice) -> Choice
-    ensures { λ r. ⌜ r ≡ unnamed edition choice ⌝ }
-{
-    match choice {
-        Choice::Known(_) => Choice::Unknown(Refusal::NoEdition { number: edition }),
-        Choice::Unknown(r) => Choice::Unknown(r),
-    }
-}
-
-// Which encoding the kind's number asks for in an edition.
-fn choice_in(v: Edition, kind: usize) -> Choice
-    ensures { λ r. ⌜ r ≡ choiceIn v kind ⌝ }
-{
-    match kind {
-        TokenKind::LITERAL_STRING => Choice::Known(Encoding::LiteralString),
-        TokenKind::BASIC_STRING => Choice::Known(Encoding::BasicString(v)),
-        TokenKind::ML_LITERAL_STRING => Choice::Known(Encoding::MlLiteralString),
-        TokenKind::ML_BASIC_STRING => Choice::Known(Encoding::MlBasicString(v)),
-        TokenKind::ATOM => Choice::Known(Encoding::UnquotedKey),
-        _ => Choice::Unknown(Refusal::NoKind { number: kind }),
-    }
 }
 
 fn decode_by(choice: Choice, text: &[u8], output: &mut [u8], errors: &mut [[usize; 3]]) -> Decoded
