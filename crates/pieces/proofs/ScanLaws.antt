@@ -8,10 +8,13 @@ use mathlib.Core.List.{List, [], _∷_}
 use native.Mathlib.Decide.{decLt}
 use native.Mathlib.Omega.{arith}
 use lib.ListN.{take}
-use borrow.Author.Tests.{ne-eqb}
+use lib.Bits.{bitXor, xor-zero-r}
+use lib.Dec.{eqb, leb, ltb}
+use borrow.Author.Tests.{ne-eqb, eqb-true, leb-true, le-ltb}
 use Rattle.classes.specs.Classes.{wschar, literalChar, mllChar, basicUnescaped, mlbUnescaped, unquotedChar, hexdig}
 use Rattle.classes.specs.Runs.{run}
-use Rattle.classes.proofs.ByteTable.{classes-agree, class-is, rest-is}
+use Rattle.classes.proofs.ByteTable.{classes-agree, class-is, keys-are, rest-is}
+use Rattle.classes.proofs.Conds.{not-both, or-inv}
 use Rattle.strings.specs.declared.Edition.{Edition}
 use Rattle.strings.specs.declared.Encoding.{Encoding}
 use Rattle.strings.specs.declared.Encoding.the-variants.{LiteralString, BasicString, MlLiteralString, MlBasicString, UnquotedKey}
@@ -50,13 +53,16 @@ module _ (b : ℕ) where
 -- ---- a byte that no test of a block finds is plain
 
 module _ (b : ℕ) (byte : b < 256) (del : b ≡ 0x7F → ⊥) where
-  literal-clear : (b ≡ 0x27 → ⊥) → 0x20 ≤ b → true ≡ literalChar b
+  -- the tab, or no control
+  literal-clear : (b ≡ 0x27 → ⊥) → ((0x20 ≤ b) ⊎ (b ≡ 9)) → true ≡ literalChar b
   unfolding literalChar
-  literal-clear q l = rest-is true literalChar (0x27 ∷ 0x7F ∷ []) 32 224 tt b (⊎-elim q del) l byte
+  literal-clear q (inl l) = rest-is true literalChar (0x27 ∷ 0x7F ∷ []) 32 224 tt b (⊎-elim q del) l byte
+  literal-clear q (inr e) = keys-are true literalChar (9 ∷ []) tt {b = b} e
 
-  basic-clear : (b ≡ 0x22 → ⊥) → (b ≡ 0x5C → ⊥) → 0x20 ≤ b → true ≡ basicUnescaped b
+  basic-clear : (b ≡ 0x22 → ⊥) → (b ≡ 0x5C → ⊥) → ((0x20 ≤ b) ⊎ (b ≡ 9)) → true ≡ basicUnescaped b
   unfolding basicUnescaped
-  basic-clear q s l = rest-is true basicUnescaped (0x22 ∷ 0x5C ∷ 0x7F ∷ []) 32 224 tt b (⊎-elim q (⊎-elim s del)) l byte
+  basic-clear q s (inl l) = rest-is true basicUnescaped (0x22 ∷ 0x5C ∷ 0x7F ∷ []) 32 224 tt b (⊎-elim q (⊎-elim s del)) l byte
+  basic-clear q s (inr e) = keys-are true basicUnescaped (9 ∷ []) tt {b = b} e
 
   -- the tab, the LF, or no control
   mll-clear : ((0x20 ≤ b) ⊎ ((9 ≤ b) × (b < 11))) → true ≡ mllPlain b
@@ -69,15 +75,30 @@ module _ (b : ℕ) (byte : b < 256) (del : b ≡ 0x7F → ⊥) where
   mlb-clear s (inl l) = rest-is true mlbPlain (0x5C ∷ 0x7F ∷ []) 32 224 tt b (⊎-elim s del) l byte
   mlb-clear s (inr (l, h)) = class-is true mlbPlain 9 2 tt b l h
 
--- neither below 9 nor among the 21 from 0B on; w is b - 0B, wrapped
-over-lines : (b w : ℕ) → w < 256 → (w + 11) % 256 ≡ b → 9 ≤ b → 21 ≤ w → (0x20 ≤ b) ⊎ ((9 ≤ b) × (b < 11))
-over-lines b w h e l k = elim (decLt b 11) [ yes m ↦ inr (l, m) | no m ↦ inl (omega arith) ]
+-- not among the 31 from 1 on once the tab's bits are turned; w is what b becomes less 1, wrapped
+turned : (b : ℕ) → b < 256 → true ≡ ((leb 0x20 b || eqb b 9) || ltb ((bitXor b 9 + 255) % 256) 31)
+turned b h = class-is true (λ n. (leb 0x20 n || eqb n 9) || ltb ((bitXor n 9 + 255) % 256) 31) 0 256 tt b (omega arith) h
 
-pub clear-plain : (e : Encoding) → Wide e → (b w : ℕ) → b < 256 → w < 256 → (w + 11) % 256 ≡ b
+in-line : (b w : ℕ) → b < 256 → w < 256 → (w + 1) % 256 ≡ bitXor b 9 → 31 ≤ w → (0x20 ≤ b) ⊎ (b ≡ 9)
+in-line b w h i e k =
+    let x : bitXor b 9 < 256 = omega arith in
+    let same : (bitXor b 9 + 255) % 256 ≡ w = omega arith in
+    let no = le-ltb w 31 k in
+    or-inv (leb 0x20 b || eqb b 9) _ (sym (turned b h))
+    (λ t. or-inv (leb 0x20 b) _ t (λ l. inl (leb-true _ _ l)) (λ l. inr (eqb-true _ _ l)))
+    (λ t. not-both t (rw same no))
+
+-- neither below 9 nor among the 21 from 0B on; w is b - 0B, wrapped
+over-lines : (b w : ℕ) → w < 256 → (w + 11) % 256 ≡ bitXor b 0 → 9 ≤ b → 21 ≤ w → (0x20 ≤ b) ⊎ ((9 ≤ b) × (b < 11))
+over-lines b w h e l k =
+    let same : (w + 11) % 256 ≡ b = e ∙ xor-zero-r b in
+    elim (decLt b 11) [ yes m ↦ inr (l, m) | no m ↦ inl (omega arith) ]
+
+pub clear-plain : (e : Encoding) → Wide e → (b w : ℕ) → b < 256 → w < 256 → (w + stopsOf e .from) % 256 ≡ bitXor b (stopsOf e .flip)
     → (b ≡ stopsOf e .first → ⊥) → (b ≡ stopsOf e .second → ⊥) → (b ≡ 0x7F → ⊥) → stopsOf e .low ≤ b → stopsOf e .span ≤ w
     → plain e b ≡ true
-clear-plain LiteralString v b w h i x f s d l k = sym (literal-clear b h d f l)
-clear-plain (BasicString n) v b w h i x f s d l k = sym (basic-clear b h d f s l)
+clear-plain LiteralString v b w h i x f s d l k = sym (literal-clear b h d f (in-line b w h i x k))
+clear-plain (BasicString n) v b w h i x f s d l k = sym (basic-clear b h d f s (in-line b w h i x k))
 clear-plain MlLiteralString v b w h i x f s d l k = sym (mll-clear b h d (over-lines b w i x l k))
 clear-plain (MlBasicString n) v b w h i x f s d l k = sym (mlb-clear b h d f (over-lines b w i x l k))
 clear-plain UnquotedKey v b w h i x f s d l k = absurd v

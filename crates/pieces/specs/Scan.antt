@@ -51,16 +51,16 @@ Wide MlLiteralString = Unit {0}
 Wide (MlBasicString v) = Unit {0}
 Wide UnquotedKey = ⊥
 
-abbrev stops : ℕ → ℕ → ℕ → ℕ → Stops
-stops a z l k = record { first = a; second = z; low = l; span = k }
+abbrev stops : ℕ → ℕ → ℕ → ℕ → ℕ → ℕ → Stops
+stops a z l x f k = record { first = a; second = z; low = l; flip = x; from = f; span = k }
 
 -- what a block is given up at
 abbrev pub stopsOf : Encoding → Stops
-stopsOf LiteralString = stops 0x27 0x27 0x20 0
-stopsOf (BasicString v) = stops 0x22 0x5C 0x20 0
-stopsOf MlLiteralString = stops 0x7F 0x7F 0x09 21
-stopsOf (MlBasicString v) = stops 0x5C 0x5C 0x09 21
-stopsOf UnquotedKey = stops 0x7F 0x7F 0x20 0
+stopsOf LiteralString = stops 0x27 0x27 0 9 1 31
+stopsOf (BasicString v) = stops 0x22 0x5C 0 9 1 31
+stopsOf MlLiteralString = stops 0x7F 0x7F 9 0 11 21
+stopsOf (MlBasicString v) = stops 0x5C 0x5C 9 0 11 21
+stopsOf UnquotedKey = stops 0x7F 0x7F 0 9 1 31
 
 -- the flags of a block
 pub record NoneSet (first second delete low mid : Bool) : Type 0 where

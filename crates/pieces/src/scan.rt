@@ -189,16 +189,18 @@ pub(crate) fn plain_blocks(e: Encoding, s: &[u8], start: usize, n: usize) -> usi
     i
 }
 
-// What a block is given up at, besides DEL: two bytes, the bytes below `low`, and `span` of them
-// from 0B on.
+// What a block is given up at, besides DEL: two bytes, the bytes below `low`, and those of which, with the bits of `flip`
+// turned, `span` begin at `from`. With the tab's bits turned the tab is 0 and the other controls 1 to 1F.
 pub(crate) struct Stops {
     pub first: u8,
     pub second: u8,
     pub low: u8,
+    pub flip: u8,
+    pub from: u8,
     pub span: u8,
 }
 
-// In a line a tab ends the blocks too, though it is plain; over lines the tab and the LF do not.
+// In a line the controls but the tab; over lines those but the tab and the LF.
 fn stops_of(e: Encoding) -> Stops
     ensures { λ r. ⌜ r ≡ stopsOf e ⌝ }
 {
@@ -206,32 +208,42 @@ fn stops_of(e: Encoding) -> Stops
         Encoding::LiteralString => Stops {
             first: b'\'',
             second: b'\'',
-            low: 0x20,
-            span: 0,
+            low: 0x00,
+            flip: 0x09,
+            from: 0x01,
+            span: 31,
         },
         Encoding::BasicString(_) => Stops {
             first: b'"',
             second: b'\\',
-            low: 0x20,
-            span: 0,
+            low: 0x00,
+            flip: 0x09,
+            from: 0x01,
+            span: 31,
         },
         Encoding::MlLiteralString => Stops {
             first: 0x7F,
             second: 0x7F,
             low: 0x09,
+            flip: 0x00,
+            from: 0x0B,
             span: 21,
         },
         Encoding::MlBasicString(_) => Stops {
             first: b'\\',
             second: b'\\',
             low: 0x09,
+            flip: 0x00,
+            from: 0x0B,
             span: 21,
         },
         Encoding::UnquotedKey => Stops {
             first: 0x7F,
             second: 0x7F,
-            low: 0x20,
-            span: 0,
+            low: 0x00,
+            flip: 0x09,
+            from: 0x01,
+            span: 31,
         },
     }
 }
@@ -246,6 +258,8 @@ fn plain_block(e: Encoding, s: &[u8], i: usize, n: usize) -> bool
     let a = stops.first;
     let z = stops.second;
     let l = stops.low;
+    let x = stops.flip;
+    let f = stops.from;
     let k = stops.span;
     let mut first = false;
     let mut second = false;
@@ -267,7 +281,7 @@ fn plain_block(e: Encoding, s: &[u8], i: usize, n: usize) -> bool
         if b < l {
             low = true;
         }
-        if wrapping_sub_u8(b, 0x0B) < k {
+        if wrapping_sub_u8(b ^ x, f) < k {
             mid = true;
         }
         j += 1;

@@ -17,13 +17,13 @@ use Rattle.pieces.proofs.scan.plain_block.Statement.{statement}
 use Rattle.pieces.proofs.scan.plain_block.Tie as tie
 
 abbrev Inv-loop : tie.InvT-loop
-Inv-loop s i n a z l k first₀ second₀ delete₀ low₀ mid₀ j₀ first second delete low mid j =
+Inv-loop s i n a z l x f k first₀ second₀ delete₀ low₀ mid₀ j₀ first second delete low mid j =
     (j ≤ n)
-    × ((e : Encoding) → Wide e → stopsOf e ≡ record { first = a; second = z; low = l; span = k }
+    × ((e : Encoding) → Wide e → stopsOf e ≡ record { first = a; second = z; low = l; flip = x; from = f; span = k }
     → first ≡ false → second ≡ false → delete ≡ false → low ≡ false → mid ≡ false → Block (plain e) s i j)
 
 abbrev μ-loop : tie.MeasureT-loop
-μ-loop s i n a z l k first₀ second₀ delete₀ low₀ mid₀ j₀ first second delete low mid j = n - j
+μ-loop s i n a z l x f k first₀ second₀ delete₀ low₀ mid₀ j₀ first second delete low mid j = n - j
 
 stops-of-requires : tie.Need-stops-of-requires Inv-loop μ-loop
 stops-of-requires c κs = search needs
@@ -63,7 +63,7 @@ loop-again c =
           let off-d = flag-off _ _ (c .before .before .before .if3 .came) d in
           let off-l = flag-off _ _ (c .before .before .if4 .came) l in
           let off-m = flag-off _ _ (c .if5 .came) m in
-          let clear = clear-plain e v b (w .result) byte (omega arith) (w .ensures)
+          let clear = clear-plain e v b (w .result) byte (omega arith) (rw q (w .ensures))
           (rw q (off-f .1 .left)) (rw q (off-t .1 .left)) (off-d .1 .left) (rw q (off-l .1 .left)) (rw q (off-m .1 .left)) in
           let passed = at .inv .1 e v q (off-f .0) (off-t .0) (off-d .0) (off-l .0) (off-m .0) in
           block-step (plain e) s i (at .j) (omega arith) clear passed,
