@@ -7,10 +7,6 @@ use Rattle.scans.proofs.BlockLaws.{Kept, kept-start, kept-step}
 use native.Mathlib.Omega.{arith}
 use Rattle.scans.proofs.clear_bytes.Statement.{statement}
 use Rattle.scans.proofs.clear_bytes.Tie as tie
-use Rattle.scans.proofs.clear_bytes.Reads as reads
-use Rattle.scans.proofs.clear_bytes.Lts as lts
-use Rattle.scans.proofs.least.Reads as least-reads
-use Rattle.scans.proofs.place_of.Reads as place-of-reads
 
 abbrev Inv-loop : tie.InvT-loop
 Inv-loop doc i a b c first₀ k₀ j₀ first k j =
@@ -19,41 +15,32 @@ Inv-loop doc i a b c first₀ k₀ j₀ first k j =
 abbrev μ-loop : tie.MeasureT-loop
 μ-loop doc i a b c first₀ k₀ j₀ first k j = 32 - j
 
--- src/scan.rt:123:5
 loop-holds : tie.Need-loop-holds Inv-loop μ-loop
 loop-holds c =
     let is = c .before .args in
     (omega arith, omega arith, omega arith, kept-start (noneOf (is .a) (is .b) (is .c)) (is .doc .now) (is .i) 32)
 
--- src/scan.rt:124:36
 add-place-of : tie.Need-add-place-of Inv-loop μ-loop
 add-place-of c = omega arith
 
--- src/scan.rt:124:32
 shared-slice-read-place-of : tie.Need-shared-slice-read-place-of Inv-loop μ-loop
 shared-slice-read-place-of c = omega arith
 
--- src/scan.rt:124:23
 place-of-requires : tie.Need-place-of-requires Inv-loop μ-loop
 place-of-requires c κs = omega arith
 
--- src/scan.rt:124:9
 least-requires : tie.Need-least-requires Inv-loop μ-loop
 least-requires c κs = omega arith
 
--- src/scan.rt:125:9
 add-k : tie.Need-add-k Inv-loop μ-loop
 add-k c = omega arith
 
--- src/scan.rt:126:9
 add-j : tie.Need-add-j Inv-loop μ-loop
 add-j c = omega arith
 
--- src/scan.rt:123:5
 loop-less : tie.Need-loop-less Inv-loop μ-loop
 loop-less c = omega arith
 
--- src/scan.rt:123:5
 loop-again : tie.Need-loop-again Inv-loop μ-loop
 loop-again c =
     let is = c .before .before .before .before .before .before .args in
@@ -68,11 +55,9 @@ loop-again c =
           (new .ensures .0) (new .ensures .1) (at .inv .3),
     )
 
--- src/scan.rt:128:5
 cast-result : tie.Need-cast-result Inv-loop μ-loop
 cast-result c = omega arith
 
--- src/scan.rt:116:1
 returns : tie.Need-returns Inv-loop μ-loop
 returns c =
     let at = c .before .loop in

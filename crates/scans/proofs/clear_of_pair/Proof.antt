@@ -7,10 +7,6 @@ use Rattle.scans.proofs.BlockLaws.{Kept, kept-start, kept-step}
 use native.Mathlib.Omega.{arith}
 use Rattle.scans.proofs.clear_of_pair.Statement.{statement}
 use Rattle.scans.proofs.clear_of_pair.Tie as tie
-use Rattle.scans.proofs.clear_of_pair.Reads as reads
-use Rattle.scans.proofs.clear_of_pair.Lts as lts
-use Rattle.scans.proofs.least.Reads as least-reads
-use Rattle.scans.proofs.place_of_pair.Reads as place-of-pair-reads
 
 abbrev Inv-loop : tie.InvT-loop
 Inv-loop doc i a b first₀ k₀ j₀ first k j =
@@ -19,41 +15,32 @@ Inv-loop doc i a b first₀ k₀ j₀ first k j =
 abbrev μ-loop : tie.MeasureT-loop
 μ-loop doc i a b first₀ k₀ j₀ first k j = 48 - j
 
--- src/scan.rt:139:5
 loop-holds : tie.Need-loop-holds Inv-loop μ-loop
 loop-holds c =
     let is = c .before .args in
     (omega arith, omega arith, omega arith, kept-start (noneOf (is .a) (is .b) (is .b)) (is .doc .now) (is .i) 48)
 
--- src/scan.rt:140:41
 add-place-of-pair : tie.Need-add-place-of-pair Inv-loop μ-loop
 add-place-of-pair c = omega arith
 
--- src/scan.rt:140:37
 shared-slice-read-place-of-pair : tie.Need-shared-slice-read-place-of-pair Inv-loop μ-loop
 shared-slice-read-place-of-pair c = omega arith
 
--- src/scan.rt:140:23
 place-of-pair-requires : tie.Need-place-of-pair-requires Inv-loop μ-loop
 place-of-pair-requires c κs = omega arith
 
--- src/scan.rt:140:9
 least-requires : tie.Need-least-requires Inv-loop μ-loop
 least-requires c κs = omega arith
 
--- src/scan.rt:141:9
 add-k : tie.Need-add-k Inv-loop μ-loop
 add-k c = omega arith
 
--- src/scan.rt:142:9
 add-j : tie.Need-add-j Inv-loop μ-loop
 add-j c = omega arith
 
--- src/scan.rt:139:5
 loop-less : tie.Need-loop-less Inv-loop μ-loop
 loop-less c = omega arith
 
--- src/scan.rt:139:5
 loop-again : tie.Need-loop-again Inv-loop μ-loop
 loop-again c =
     let is = c .before .before .before .before .before .before .args in
@@ -68,11 +55,9 @@ loop-again c =
           (new .ensures .0) (new .ensures .1) (at .inv .3),
     )
 
--- src/scan.rt:144:5
 cast-result : tie.Need-cast-result Inv-loop μ-loop
 cast-result c = omega arith
 
--- src/scan.rt:132:1
 returns : tie.Need-returns Inv-loop μ-loop
 returns c =
     let at = c .before .loop in

@@ -5,14 +5,10 @@ use lib.ListN.{length}
 use Rattle.classes.specs.Runs.{run}
 use Rattle.classes.proofs.RunLaws.{SameEnd, block-end}
 use Rattle.scans.specs.Scans.{noneOf}
-use Rattle.scans.proofs.BlockLaws.{same-last, same-first}
+use Rattle.scans.proofs.BlockLaws.{same-last}
 use native.Mathlib.Omega.{arith}
 use Rattle.scans.proofs.find_block.Statement.{statement}
 use Rattle.scans.proofs.find_block.Tie as tie
-use Rattle.scans.proofs.find_block.Reads as reads
-use Rattle.scans.proofs.find_block.Lts as lts
-use Rattle.scans.proofs.clear_bytes.Reads as clear-bytes-reads
-use Rattle.scans.proofs.find_pair.Reads as find-pair-reads
 
 abbrev Inv-loop : tie.InvT-loop
 Inv-loop doc start a b c i₀ i = SameEnd (run (noneOf a b c)) doc start i
@@ -20,66 +16,45 @@ Inv-loop doc start a b c i₀ i = SameEnd (run (noneOf a b c)) doc start i
 abbrev μ-loop : tie.MeasureT-loop
 μ-loop doc start a b c i₀ i = length doc - i
 
--- src/scan.rt:82:9
 find-pair-requires : tie.Need-find-pair-requires Inv-loop μ-loop
 find-pair-requires c κs = omega arith
 
--- src/scan.rt:82:9
 returns : tie.Need-returns Inv-loop μ-loop
 returns c =
     let is = c .before .before .before .args in
     same-last (is .doc .now) (is .start) _ (is .a) (is .b) (is .c) (c .before .if1 .taken) (c .find-pair .ensures)
 
--- src/scan.rt:85:9
-find-pair-requires-2 : tie.Need-find-pair-requires-2 Inv-loop μ-loop
-find-pair-requires-2 c κs = omega arith
-
--- src/scan.rt:85:9
-returns-2 : tie.Need-returns-2 Inv-loop μ-loop
-returns-2 c =
-    let is = c .before .before .before .before .args in
-    same-first (is .doc .now) (is .start) _ (is .a) (is .b) (is .c) (c .before .if2 .taken) (c .find-pair2 .ensures)
-
--- src/scan.rt:88:5
 loop-holds : tie.Need-loop-holds Inv-loop μ-loop
 loop-holds c = omega arith
 
--- src/scan.rt:88:17
 sub-loop : tie.Need-sub-loop Inv-loop μ-loop
 sub-loop c = omega arith
 
--- src/scan.rt:89:13
 clear-bytes-requires : tie.Need-clear-bytes-requires Inv-loop μ-loop
 clear-bytes-requires c κs = omega arith
 
--- src/scan.rt:91:20
 add-result : tie.Need-add-result Inv-loop μ-loop
 add-result c = omega arith
 
--- src/scan.rt:91:13
-returns-3 : tie.Need-returns-3 Inv-loop μ-loop
-returns-3 c = omega (arith, c .before .clear-bytes .ensures)
+returns-2 : tie.Need-returns-2 Inv-loop μ-loop
+returns-2 c = omega (arith, c .before .clear-bytes .ensures)
 
--- src/scan.rt:93:9
 add-i : tie.Need-add-i Inv-loop μ-loop
 add-i c = omega arith
 
--- src/scan.rt:88:5
 loop-less : tie.Need-loop-less Inv-loop μ-loop
 loop-less c = omega arith
 
--- src/scan.rt:88:5
 loop-again : tie.Need-loop-again Inv-loop μ-loop
 loop-again c =
-    let is = c .before .before .before .before .before .before .before .args in
+    let is = c .before .before .before .before .before .before .args in
     let n = c .before .clear-bytes in
     let none = noneOf (is .a) (is .b) (is .c) in
     let whole = block-end none (is .doc .now) (c .before .before .before .loop .i) (n .result) 32 (omega (arith, n .ensures)) (n .ensures .1) in
     omega arith
 
--- src/scan.rt:77:1
-returns-4 : tie.Need-returns-4 Inv-loop μ-loop
-returns-4 c = omega arith
+returns-3 : tie.Need-returns-3 Inv-loop μ-loop
+returns-3 c = omega arith
 
 pub find-block-spec : {M : Type 1} → statement M
 find-block-spec =
@@ -89,14 +64,12 @@ find-block-spec =
     μ-loop
     find-pair-requires
     returns
-    find-pair-requires-2
-    returns-2
     loop-holds
     sub-loop
     clear-bytes-requires
     add-result
-    returns-3
+    returns-2
     add-i
     loop-less
     loop-again
-    returns-4)
+    returns-3)

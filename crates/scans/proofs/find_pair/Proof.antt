@@ -8,9 +8,6 @@ use Rattle.scans.specs.Scans.{noneOf}
 use native.Mathlib.Omega.{arith}
 use Rattle.scans.proofs.find_pair.Statement.{statement}
 use Rattle.scans.proofs.find_pair.Tie as tie
-use Rattle.scans.proofs.find_pair.Reads as reads
-use Rattle.scans.proofs.find_pair.Lts as lts
-use Rattle.scans.proofs.clear_of_pair.Reads as clear-of-pair-reads
 
 abbrev Inv-loop : tie.InvT-loop
 Inv-loop doc start a b i₀ i = SameEnd (run (noneOf a b b)) doc start i
@@ -18,35 +15,27 @@ Inv-loop doc start a b i₀ i = SameEnd (run (noneOf a b b)) doc start i
 abbrev μ-loop : tie.MeasureT-loop
 μ-loop doc start a b i₀ i = length doc - i
 
--- src/scan.rt:104:5
 loop-holds : tie.Need-loop-holds Inv-loop μ-loop
 loop-holds c = omega arith
 
--- src/scan.rt:104:17
 sub-loop : tie.Need-sub-loop Inv-loop μ-loop
 sub-loop c = omega arith
 
--- src/scan.rt:105:13
 clear-of-pair-requires : tie.Need-clear-of-pair-requires Inv-loop μ-loop
 clear-of-pair-requires c κs = omega arith
 
--- src/scan.rt:107:20
 add-result : tie.Need-add-result Inv-loop μ-loop
 add-result c = omega arith
 
--- src/scan.rt:107:13
 returns : tie.Need-returns Inv-loop μ-loop
 returns c = omega (arith, c .before .clear-of-pair .ensures)
 
--- src/scan.rt:109:9
 add-i : tie.Need-add-i Inv-loop μ-loop
 add-i c = omega arith
 
--- src/scan.rt:104:5
 loop-less : tie.Need-loop-less Inv-loop μ-loop
 loop-less c = omega arith
 
--- src/scan.rt:104:5
 loop-again : tie.Need-loop-again Inv-loop μ-loop
 loop-again c =
     let is = c .before .before .before .before .before .args in
@@ -54,7 +43,6 @@ loop-again c =
     let whole = block-end (noneOf (is .a) (is .b) (is .b)) (is .doc .now) (c .before .before .before .loop .i) (n .result) 48 (omega (arith, n .ensures)) (n .ensures .1) in
     omega arith
 
--- src/scan.rt:99:1
 returns-2 : tie.Need-returns-2 Inv-loop μ-loop
 returns-2 c = omega arith
 

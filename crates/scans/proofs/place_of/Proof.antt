@@ -4,22 +4,16 @@ use borrow.Author.Tests.{ne-eqb}
 use native.Mathlib.Omega.{arith}
 use Rattle.scans.proofs.place_of.Statement.{statement}
 use Rattle.scans.proofs.place_of.Tie as tie
-use Rattle.scans.proofs.place_of.Reads as reads
-use Rattle.scans.proofs.place_of.Lts as lts
 
--- src/scan.rt:153:9
 returns : tie.Need-returns
 returns c = (omega arith, λ h. absurd (omega arith))
 
--- src/scan.rt:156:9
 returns-2 : tie.Need-returns-2
 returns-2 c = (omega arith, λ h. absurd (omega arith))
 
--- src/scan.rt:159:9
 returns-3 : tie.Need-returns-3
 returns-3 c = (omega arith, λ h. absurd (omega arith))
 
--- src/scan.rt:148:1
 returns-4 : tie.Need-returns-4
 returns-4 c = (omega arith, λ h. simp (ne-eqb _ _ (c .before .before .if1 .left), ne-eqb _ _ (c .before .if2 .left), ne-eqb _ _ (c .if3 .left)))
 

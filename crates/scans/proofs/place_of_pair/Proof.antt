@@ -4,18 +4,13 @@ use borrow.Author.Tests.{ne-eqb}
 use native.Mathlib.Omega.{arith}
 use Rattle.scans.proofs.place_of_pair.Statement.{statement}
 use Rattle.scans.proofs.place_of_pair.Tie as tie
-use Rattle.scans.proofs.place_of_pair.Reads as reads
-use Rattle.scans.proofs.place_of_pair.Lts as lts
 
--- src/scan.rt:169:9
 returns : tie.Need-returns
 returns c = (omega arith, λ h. absurd (omega arith))
 
--- src/scan.rt:172:9
 returns-2 : tie.Need-returns-2
 returns-2 c = (omega arith, λ h. absurd (omega arith))
 
--- src/scan.rt:164:1
 returns-3 : tie.Need-returns-3
 returns-3 c = (omega arith, λ h. simp (ne-eqb _ _ (c .before .if1 .left), ne-eqb _ _ (c .if2 .left)))
 
