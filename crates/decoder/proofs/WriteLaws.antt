@@ -111,7 +111,8 @@ module _ (s : List ℕ) (n : ℕ) (old : List ℕ) (o : ℕ) where
         left = copy-more s out o n j h (omega arith) ∙ c .left;
       }
 
-  pub copying-end : (out : List ℕ) (j r : ℕ) → n ≤ j → n ≤ length s → r ≡ o + n → Copying s n old o out j → Stored old o (take n s) r out
+  pub copying-end : (out : List ℕ) (j r : ℕ) → n ≤ j → n ≤ length s → r ≡ o + n → Copying s n old o out j
+      → Stored old o (take n s) r out
   copying-end out j r h l e c =
       record {
         place = e ∙ ap (λ (k : ℕ). o + k) (sym (length-take-le n s l));

@@ -37,7 +37,8 @@ same-length c = search needs
 returns-5 : tie.Need-returns-5
 returns-5 c =
     let a = c .before .before .before .before .before .before .before .before .before .before .before .before .args in
-    let named = c .before .before .before .before .before .before .before .before .before .is-edition .ensures (not-false _ (c .before .before .before .before .before .before .before .before .if1 .left)) in
+    let known = c .before .before .before .before .before .before .before .before in
+    let named = known .before .is-edition .ensures (not-false _ (known .if1 .left)) in
     let plain = c .before .before .before .before .before .plain-run .ensures in
     let copy = c .before .before .copy-in .ensures in
     key-copied (a .edition) (a .text .now) (a .output .now) _ _ named (omega arith) (omega arith) (omega (arith, plain)) copy

@@ -61,7 +61,9 @@ returns-2 c =
     (answer, (kept (c .before .before .before .before), refl))
 
 same-length-3 : tie.Need-same-length-3
-same-length-3 c = c .before .before .before .decode-by .kept .1 .1 .0 ∙ ap length (kept (c .before .before .before .before .before .before .before .before .before .before))
+same-length-3 c =
+    let same = kept (c .before .before .before .before .before .before .before .before .before .before) in
+    c .before .before .before .decode-by .kept .1 .1 .0 ∙ ap length same
 
 same-length-4 : tie.Need-same-length-4
 same-length-4 c = search needs
@@ -69,7 +71,8 @@ same-length-4 c = search needs
 returns-3 : tie.Need-returns-3
 returns-3 c =
     let a = c .before .before .before .before .before .before .before .before .before .before .before .before .before .args in
-    let valid = sym (c .before .before .before .before .before .before .before .enum-told .given .1) ∙ c .before .before .before .before .before .before .before .before .before .check-utf8 .ensures .0 in
+    let told = c .before .before .before .before .before .before .before in
+    let valid = sym (told .enum-told .given .1) ∙ told .before .before .check-utf8 .ensures .0 in
     let d = c .before .before .before .decode-by .ensures in
     let chosen = c .before .before .before .before .before .before .choice-by .ensures in
     let same = kept (c .before .before .before .before .before .before .before .before .before .before) in

@@ -39,6 +39,16 @@ parts c =
 abbrev Begin : tie.After-plain-run → tie.Start
 Begin c = c .before .before .before .before .before .before .before .before .before .before .before
 
+-- where the error of the marks was known, and where each mark's was written
+abbrev Marked : tie.After-plain-run → tie.After-mark-error
+Marked c = c .before .before .before .before .before .before .before .before
+
+abbrev First : tie.After-plain-run → tie.After-miss
+First c = c .before .before .before .before .before .before
+
+abbrev Second : tie.After-plain-run → tie.After-miss2
+Second c = c .before .before .before
+
 fits : (c : tie.After-plain-run)
     → let a = Begin c .args in let d = a .d in let k = c .plain-run .result in
     (k ≤ length (bodyOf d (a .text .now))) × (d .start + k ≤ d .end) × (d .end ≤ length (a .text .now))
@@ -115,9 +125,9 @@ write-requires : tie.Need-write-requires
 write-requires c κs =
     let run = c .before .before .before .before .before .before .before .before in
     let a = Begin run .args in
-    let all = parts (c .before .before .before .before .before .before .before .before .before .before .before .before .before .before .before .before) in
-    let m₁ = c .before .before .before .before .before .before .before .before .before .before .before .before .before .before .miss in
-    let m₂ = c .before .before .before .before .before .before .before .before .before .before .before .miss2 in
+    let all = parts (Marked run) in
+    let m₁ = First run .miss in
+    let m₂ = Second run .miss2 in
     let copy = c .before .before .before .before .before .copy-in in
     let size = length-take-le (run .plain-run .result) (bodyOf (a .d) (a .text .now)) (fits run .0) in
     let left = errors-behind (a .e) (a .text .now) (a .d) (Begin run .pre .1) (run .plain-run .result) (run .plain-run .ensures) in
@@ -140,12 +150,13 @@ returns c =
     let is = Begin run .pre .1 in
     let t = a .text .now in
     let k = run .plain-run in
-    let number = c .before .before .before .before .before .before .before .before .before .before .before .before .before .before .before .before .before .before .before .before .mark-error in
-    let w = c .before .before .before .write in
+    let number = Marked run .mark-error in
+    let copy = c .before .before .before .before .before .before .before .before .before .copy-in .ensures in
+    let w = c .before .before .before .write .ensures in
+    let noted = store-append (First run .miss .ensures) (store-append (Second run .miss2 .ensures) (w .1)) in
     let left = errors-behind (a .e) t (a .d) is (k .result) (k .ensures) in (
-      rw (bytes-behind (a .e) t (a .d) is (k .result) (k .ensures)) (store-append (c .before .before .before .before .before .before .before .before .before .copy-in .ensures) (w .ensures .0)),
-      rw (errors-is (a .e) t (a .d) is (number .result) (number .ensures), left)
-          (store-append (c .before .before .before .before .before .before .before .before .before .before .before .before .before .before .before .before .before .before .miss .ensures) (store-append (c .before .before .before .before .before .before .before .before .before .before .before .before .before .before .before .miss2 .ensures) (w .ensures .1))),
+      rw (bytes-behind (a .e) t (a .d) is (k .result) (k .ensures)) (store-append copy (w .0)),
+      rw (errors-is (a .e) t (a .d) is (number .result) (number .ensures), left) noted,
     )
 
 pub fill-spec : {M : Type 1} → statement M

@@ -75,8 +75,9 @@ pair-requires-4 c κs = search needs
 
 returns-2 : tie.Need-returns-2
 returns-2 c = λ e.
-    let a = c .before .before .before .before .before .before .before .before .before .before .before .before .before .before .args in
-    let known = c .before .before .before .before .before .before .before .before .before .before .before .before .before .shared-slice-known .given in
+    let start = c .before .before .before .before .before .before .before .before .before .before .before .before .before in
+    let a = start .before .args in
+    let known = start .shared-slice-known .given in
     let byte : (k : ℕ) → getD (a .s .now) k 0 < 256 = λ k. omega (arith, known k) in
     let there : a .i + 8 ≤ length (a .s .now) = omega arith in
     let p = c .before .before .before .before .before .before .before .before .before .pair in
