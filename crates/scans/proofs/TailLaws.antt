@@ -17,6 +17,7 @@ use Rattle.classes.proofs.RunLaws.{run-le, SameEnd}
 use Rattle.scans.specs.Bytes.{hides, closes, inComment}
 use Rattle.scans.specs.Extents.{lineTail, triple, upToTwo, mlTail}
 use Rattle.scans.specs.Scans.{noneOf, escapeOf}
+use Rattle.scans.proofs.BlockLaws.{run-same}
 
 -- ---- by a byte
 
@@ -198,12 +199,6 @@ line-escaped s i l e n =
     let same : i + 1 + 1 ≡ i + 2 = omega arith in
     let hidden = line-hidden 34 s (i + 1) l n in
     omega (arith, line-escape s i (omega arith) e, ap (λ (k : ℕ). lineTail 34 false (drop k s)) same)
-
--- what passes the one test passes the other
-run-same : (p q : ℕ → Bool) → ((x : ℕ) → p x ≡ q x) → (s : List ℕ) → run p s ≡ run q s
-unfolding run
-run-same p q h [] = refl
-run-same p q h (x ∷ s) = rw (h x, run-same p q h s)
 
 -- ---- behind a search for the bytes that matter
 

@@ -93,13 +93,16 @@ fn find_slice(doc: &[u8], start: usize, a: u8, b: u8, c: u8) -> usize
 }
 
 // Over the bytes that are none of the three, as long as whole blocks are left: a place from which the search goes on.
-// Where the last two are the same, two are looked for.
+// Where two of them are the same, two are looked for.
 fn find_block(doc: &[u8], start: usize, a: u8, b: u8, c: u8) -> usize
     requires { ⌜ start ≤ length (now doc) ⌝ }
     ensures { λ r. ⌜ SameEnd (run (noneOf a b c)) (now (doc .entry)) start r ⌝ }
 {
     if b == c {
         return find_pair(doc, start, a, b);
+    }
+    if a == b {
+        return find_pair(doc, start, c, a);
     }
     let mut i = start;
     while 32 <= doc.len() - i {
