@@ -69,10 +69,13 @@ use Rattle.records.proofs.LexedEight.Laws as Ei′
 use Rattle.records.proofs.WalkSteps.{local-at, returned}
 use Rattle.records.proofs.blank as blank
 use Rattle.records.proofs.blank.Symbol as blank-def
+use Rattle.records.proofs.blank.Symbol.{name as #records·blank}
 use Rattle.records.proofs.blank.Met as blank-thm
 use Rattle.records.proofs.lex_tokens as lex-tokens
 use Rattle.records.proofs.lex_tokens.Symbol as lex-tokens-def
+use Rattle.records.proofs.lex_tokens.Symbol.{name as #records·lex-tokens}
 use Rattle.records.proofs.lex_tokens.Met as lex-tokens-thm
+use Rattle.records.proofs.lex_eight.Key.{name as #records·lex-eight}
 use Rattle.records.proofs.lex_eight as lex-eight
 use Rattle.records.proofs.lex_eight.Statement as stated
 use Rattle.records.proofs.lex_eight.Code as code

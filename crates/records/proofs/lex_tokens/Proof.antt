@@ -72,16 +72,21 @@ use Rattle.lexer.proofs.Lexed.Laws as Le′
 use Rattle.records.proofs.WalkSteps.{local-at, returned}
 use Rattle.records.proofs.plan as plan
 use Rattle.records.proofs.plan.Symbol as plan-def
+use Rattle.records.proofs.plan.Symbol.{name as #records·plan}
 use Rattle.records.proofs.plan.Met as plan-thm
 use Rattle.records.proofs.writes as writes
 use Rattle.records.proofs.writes.Symbol as writes-def
+use Rattle.records.proofs.writes.Symbol.{name as #records·writes}
 use Rattle.records.proofs.writes.Met as writes-thm
 use Rattle.records.proofs.first as first
 use Rattle.records.proofs.first.Symbol as first-def
+use Rattle.records.proofs.first.Symbol.{name as #records·first}
 use Rattle.records.proofs.first.Met as first-thm
 use Rattle.records.proofs.advance as advance
 use Rattle.records.proofs.advance.Symbol as advance-def
+use Rattle.records.proofs.advance.Symbol.{name as #records·advance}
 use Rattle.records.proofs.advance.Met as advance-thm
+use Rattle.records.proofs.lex_tokens.Key.{name as #records·lex-tokens}
 use Rattle.records.proofs.lex_tokens as lex-tokens
 use Rattle.records.proofs.lex_tokens.Statement as stated
 use Rattle.records.proofs.lex_tokens.Code as code
