@@ -1,48 +1,53 @@
--- Each promise of this crate admits one answer only: any two answers that meet it are equal. A theorem bears its
--- function's name, and says so of the promise as the function's `ensures` has it.
+-- What it is that a promise admits one outcome only, for the functions of every crate; and that each promise of this
+-- crate does. A theorem bears its function's name. It is about the function's own contract: what a caller learns of it.
 -- Assumes nothing.
-use Prim.Native.Nat.{ℕ}
 use mathlib.Core.Path.{_≡_, sym, _∙_}
-use mathlib.Core.Bool.{Bool}
-use Rattle.classes.specs.Classes.{wschar, tokenStart, nonAscii, literalChar, mllChar, basicUnescaped, mlbUnescaped, digit, hexdig, unquotedChar, continuation}
+use Rattle.classes.proofs as promised
 
--- any two things of which P holds are equal
-abbrev pub Only : {A : Type 0} → (A → Type 0) → Type 0
-Only {A} P = (x y : A) → P x → P y → x ≡ y
+-- A promise is of a function's lifetimes, its arguments, its result, and what its parameters hold at exit.
+module _ {L : Type 0} {A R S : L → Type 0} (Promise : (κs : L) → A κs → R κs → S κs → Type 0) where
+  -- any two outcomes that meet it for the same arguments are the same in what is looked at
+  abbrev pub OneOutcome : {B : L → Type 0} → ((κs : L) → R κs → S κs → B κs) → Type 0
+  OneOutcome look =
+      (κs : L) (a : A κs) (x y : R κs) (s t : S κs) → Promise κs a x s → Promise κs a y t → look κs x s ≡ look κs y t
 
--- an equation with what is known has one solution
-pub only-equal : {A : Type 0} (a : A) → Only (λ (r : A). r ≡ a)
-only-equal a x y e f = e ∙ sym f
+  -- looked at is the result: for a function that is lent no memory
+  abbrev pub OneAnswer : Type 0
+  OneAnswer = OneOutcome (λ κs r s. r)
 
-pub is-wschar : (b : ℕ) → Only (λ (r : Bool). r ≡ wschar b)
-is-wschar b = only-equal (wschar b)
+-- two things that are each the same, together
+pub both : {A B : Type 0} {a b : A} {c d : B} → a ≡ b → c ≡ d → _≡_ {A = A × B} (a, c) (b, d)
+both p q = rw (p, q)
 
-pub is-token-start : (b : ℕ) → Only (λ (r : Bool). r ≡ tokenStart b)
-is-token-start b = only-equal (tokenStart b)
+pub is-wschar : OneAnswer promised.is_wschar.Reads.Learnt
+is-wschar κs a x y s t p q = p ∙ sym q
 
-pub is-non-ascii : (b : ℕ) → Only (λ (r : Bool). r ≡ nonAscii b)
-is-non-ascii b = only-equal (nonAscii b)
+pub is-token-start : OneAnswer promised.is_token_start.Reads.Learnt
+is-token-start κs a x y s t p q = p ∙ sym q
 
-pub is-literal-char : (b : ℕ) → Only (λ (r : Bool). r ≡ literalChar b)
-is-literal-char b = only-equal (literalChar b)
+pub is-non-ascii : OneAnswer promised.is_non_ascii.Reads.Learnt
+is-non-ascii κs a x y s t p q = p ∙ sym q
 
-pub is-mll-char : (b : ℕ) → Only (λ (r : Bool). r ≡ mllChar b)
-is-mll-char b = only-equal (mllChar b)
+pub is-literal-char : OneAnswer promised.is_literal_char.Reads.Learnt
+is-literal-char κs a x y s t p q = p ∙ sym q
 
-pub is-basic-unescaped : (b : ℕ) → Only (λ (r : Bool). r ≡ basicUnescaped b)
-is-basic-unescaped b = only-equal (basicUnescaped b)
+pub is-mll-char : OneAnswer promised.is_mll_char.Reads.Learnt
+is-mll-char κs a x y s t p q = p ∙ sym q
 
-pub is-mlb-unescaped : (b : ℕ) → Only (λ (r : Bool). r ≡ mlbUnescaped b)
-is-mlb-unescaped b = only-equal (mlbUnescaped b)
+pub is-basic-unescaped : OneAnswer promised.is_basic_unescaped.Reads.Learnt
+is-basic-unescaped κs a x y s t p q = p ∙ sym q
 
-pub is-digit : (b : ℕ) → Only (λ (r : Bool). r ≡ digit b)
-is-digit b = only-equal (digit b)
+pub is-mlb-unescaped : OneAnswer promised.is_mlb_unescaped.Reads.Learnt
+is-mlb-unescaped κs a x y s t p q = p ∙ sym q
 
-pub is-hexdig : (b : ℕ) → Only (λ (r : Bool). r ≡ hexdig b)
-is-hexdig b = only-equal (hexdig b)
+pub is-digit : OneAnswer promised.is_digit.Reads.Learnt
+is-digit κs a x y s t p q = p ∙ sym q
 
-pub is-unquoted-char : (b : ℕ) → Only (λ (r : Bool). r ≡ unquotedChar b)
-is-unquoted-char b = only-equal (unquotedChar b)
+pub is-hexdig : OneAnswer promised.is_hexdig.Reads.Learnt
+is-hexdig κs a x y s t p q = p ∙ sym q
 
-pub is-continuation : (b : ℕ) → Only (λ (r : Bool). r ≡ continuation b)
-is-continuation b = only-equal (continuation b)
+pub is-unquoted-char : OneAnswer promised.is_unquoted_char.Reads.Learnt
+is-unquoted-char κs a x y s t p q = p ∙ sym q
+
+pub is-continuation : OneAnswer promised.is_continuation.Reads.Learnt
+is-continuation κs a x y s t p q = p ∙ sym q

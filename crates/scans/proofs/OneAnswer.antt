@@ -1,48 +1,39 @@
--- Each promise of this crate admits one answer only. A theorem bears its function's name, and says so of the promise as
--- the function's `ensures` has it.
+-- Each promise of this crate admits one answer only. A theorem bears its function's name, and is about the
+-- function's own contract: what a caller learns of it.
 -- Assumes nothing.
-use Prim.Native.Nat.{ℕ, _+_}
-use mathlib.Core.Path.{_≡_}
-use mathlib.Core.Bool.{Bool, false}
-use mathlib.Core.List.{List}
-use lib.Dec.{eqb}
-use lib.ListN.{getD, drop}
-use Rattle.classes.specs.Classes.{wschar}
-use Rattle.classes.specs.Runs.{run}
-use Rattle.classes.proofs.OneAnswer.{Only, only-equal}
-use Rattle.scans.specs.Bytes.{inComment, inAtom}
-use Rattle.scans.specs.Extents.{lineTail, triple, mlTail}
+use mathlib.Core.Path.{sym, _∙_}
+use Rattle.classes.proofs.OneAnswer.{OneAnswer}
+use Rattle.scans.proofs as promised
 
-module _ (doc : List ℕ) (start : ℕ) where
-  pub wschar-run : Only (λ (r : ℕ). r ≡ start + run wschar (drop start doc))
-  wschar-run = only-equal (start + run wschar (drop start doc))
+pub wschar-run : OneAnswer promised.wschar_run.Reads.Learnt
+wschar-run κs a x y s t p q = p ∙ sym q
 
-  pub atom-run : Only (λ (r : ℕ). r ≡ start + run inAtom (drop start doc))
-  atom-run = only-equal (start + run inAtom (drop start doc))
+pub atom-run : OneAnswer promised.atom_run.Reads.Learnt
+atom-run κs a x y s t p q = p ∙ sym q
 
-  pub atom-rest : Only (λ (r : ℕ). r ≡ start + run inAtom (drop start doc))
-  atom-rest = atom-run
+pub atom-rest : OneAnswer promised.atom_rest.Reads.Learnt
+atom-rest κs a x y s t p q = p ∙ sym q
 
-  pub comment-run : Only (λ (r : ℕ). r ≡ start + run inComment (drop start doc))
-  comment-run = only-equal (start + run inComment (drop start doc))
+pub comment-run : OneAnswer promised.comment_run.Reads.Learnt
+comment-run κs a x y s t p q = p ∙ sym q
 
-  pub literal-tail : Only (λ (r : ℕ). r ≡ start + lineTail 39 false (drop start doc))
-  literal-tail = only-equal (start + lineTail 39 false (drop start doc))
+pub literal-tail : OneAnswer promised.literal_tail.Reads.Learnt
+literal-tail κs a x y s t p q = p ∙ sym q
 
-  pub basic-tail : Only (λ (r : ℕ). r ≡ start + lineTail 34 false (drop start doc))
-  basic-tail = only-equal (start + lineTail 34 false (drop start doc))
+pub basic-tail : OneAnswer promised.basic_tail.Reads.Learnt
+basic-tail κs a x y s t p q = p ∙ sym q
 
-  pub ml-literal-tail : Only (λ (r : ℕ). r ≡ start + mlTail 39 false (drop start doc))
-  ml-literal-tail = only-equal (start + mlTail 39 false (drop start doc))
+pub ml-literal-tail : OneAnswer promised.ml_literal_tail.Reads.Learnt
+ml-literal-tail κs a x y s t p q = p ∙ sym q
 
-  pub ml-basic-tail : Only (λ (r : ℕ). r ≡ start + mlTail 34 false (drop start doc))
-  ml-basic-tail = only-equal (start + mlTail 34 false (drop start doc))
+pub ml-basic-tail : OneAnswer promised.ml_basic_tail.Reads.Learnt
+ml-basic-tail κs a x y s t p q = p ∙ sym q
 
-  pub is-ml-literal : Only (λ (r : Bool). r ≡ triple 39 (drop start doc))
-  is-ml-literal = only-equal (triple 39 (drop start doc))
+pub is-ml-literal : OneAnswer promised.is_ml_literal.Reads.Learnt
+is-ml-literal κs a x y s t p q = p ∙ sym q
 
-  pub is-ml-basic : Only (λ (r : Bool). r ≡ triple 34 (drop start doc))
-  is-ml-basic = only-equal (triple 34 (drop start doc))
+pub is-ml-basic : OneAnswer promised.is_ml_basic.Reads.Learnt
+is-ml-basic κs a x y s t p q = p ∙ sym q
 
-  pub is-at : (q : ℕ) → Only (λ (r : Bool). r ≡ eqb (getD doc start 0) q)
-  is-at q = only-equal (eqb (getD doc start 0) q)
+pub is-at : OneAnswer promised.is_at.Reads.Learnt
+is-at κs a x y s t p q = p ∙ sym q

@@ -1,33 +1,25 @@
--- Each promise of this crate admits one answer only. A theorem bears its function's name, and says so of the promise as
--- the function's `ensures` has it.
+-- Each promise of this crate admits one answer only. A theorem bears its function's name, and is about the
+-- function's own contract: what a caller learns of it.
+-- Where a promise says an answer's number and value too, its first clause, an equation, already admits one answer.
 -- Assumes nothing.
-use Prim.Native.Nat.{ℕ}
-use mathlib.Core.Path.{_≡_}
-use mathlib.Core.Bool.{Bool}
-use mathlib.Core.List.{List}
-use Rattle.classes.proofs.OneAnswer.{Only, only-equal}
-use Rattle.text.specs.declared.refusal.Refusal.{Refusal}
-use Rattle.text.specs.declared.utf8.Utf8Check.{Utf8Check}
-use Rattle.text.specs.declared.utf8.Encoded.{Encoded}
-use Rattle.text.specs.Refusals.{refusalNumber, refusalValue, refusalLength}
-use Rattle.text.specs.Utf8Read.{isScalar}
-use Rattle.text.specs.Answers.{checkOf, encodedOf}
+use mathlib.Core.Path.{sym, _∙_}
+use Rattle.classes.proofs.OneAnswer.{OneAnswer}
+use Rattle.text.proofs as promised
 
-pub number : (self : Refusal) → Only (λ (r : ℕ). r ≡ refusalNumber self)
-number self = only-equal (refusalNumber self)
+pub number : OneAnswer promised.refusal.Refusal.number.Reads.Learnt
+number κs a x y s t p q = p ∙ sym q
 
-pub value : (self : Refusal) → Only (λ (r : ℕ). r ≡ refusalValue self)
-value self = only-equal (refusalValue self)
+pub value : OneAnswer promised.refusal.Refusal.value.Reads.Learnt
+value κs a x y s t p q = p ∙ sym q
 
-pub length : (self : Refusal) → Only (λ (r : ℕ). r ≡ refusalLength self)
-length self = only-equal (refusalLength self)
+pub length : OneAnswer promised.refusal.Refusal.length.Reads.Learnt
+length κs a x y s t p q = p ∙ sym q
 
-pub is-scalar : (c : ℕ) → Only (λ (r : Bool). r ≡ isScalar c)
-is-scalar c = only-equal (isScalar c)
+pub is-scalar : OneAnswer promised.utf8.is_scalar.Reads.Learnt
+is-scalar κs a x y s t p q = p ∙ sym q
 
-pub encode : (c : ℕ) → Only (λ (r : Encoded). r ≡ encodedOf c)
-encode c = only-equal (encodedOf c)
+pub encode : OneAnswer promised.utf8.encode.Reads.Learnt
+encode κs a x y s t p q = p ∙ sym q
 
--- the first clause already admits one answer
-pub check-utf8 : (s : List ℕ) → Only (λ (r : Utf8Check). r ≡ checkOf s)
-check-utf8 s = only-equal (checkOf s)
+pub check-utf8 : OneAnswer promised.utf8.check_utf8.Reads.Learnt
+check-utf8 κs a x y s t p q = p .0 ∙ sym (q .0)

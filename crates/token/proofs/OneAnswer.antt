@@ -1,40 +1,28 @@
--- Each promise of this crate admits one answer only. A theorem bears its function's name, with its type's where two types
--- have one, and says so of the promise as the function's `ensures` has it.
--- Where a promise says an answer's number and value too, its first clause, the equation here, already admits one answer.
+-- Each promise of this crate admits one answer only. A theorem bears its function's name, with its type's where two have one, and is about the
+-- function's own contract: what a caller learns of it.
+-- Where a promise says an answer's number and value too, its first clause, an equation, already admits one answer.
 -- Assumes nothing.
-use Prim.Native.Nat.{ℕ}
-use mathlib.Core.Path.{_≡_}
-use mathlib.Core.List.{List}
-use Rattle.classes.proofs.OneAnswer.{Only, only-equal}
-use Rattle.token.specs.declared.TokenKind.{TokenKind}
-use Rattle.token.specs.declared.KindRead.{KindRead}
-use Rattle.token.specs.declared.Description.{Description}
-use Rattle.token.specs.declared.Encoding.{Encoding}
-use Rattle.token.specs.declared.Span.{Span}
-use Rattle.token.specs.declared.Token.{Token}
-use Rattle.token.specs.KindNumbers.{kindNumber, kindOfNumber}
-use Rattle.token.specs.Descriptions.{descriptionOf}
-use Rattle.token.specs.Encodings.{encodingOf}
-use Rattle.token.specs.Records.{spanOf, tokenOf, recordOf}
+use mathlib.Core.Path.{sym, _∙_}
+use Rattle.classes.proofs.OneAnswer.{OneAnswer}
+use Rattle.token.proofs as promised
 
-pub token-new : (kind : TokenKind) (span : Span) (line : ℕ)
-    → Only (λ (r : Token). r ≡ tokenOf kind (span .start) (span .end) line)
-token-new kind span line = only-equal (tokenOf kind (span .start) (span .end) line)
+pub token-new : OneAnswer promised.Token.new.Reads.Learnt
+token-new κs a x y s t p q = p ∙ sym q
 
-pub as-record : (self : Token) → Only (λ (r : List ℕ). r ≡ recordOf self)
-as-record self = only-equal (recordOf self)
+pub as-record : OneAnswer promised.Token.as_record.Reads.Learnt
+as-record κs a x y s t p q = p ∙ sym q
 
-pub span-new : (start end : ℕ) → Only (λ (r : Span). r ≡ spanOf start end)
-span-new start end = only-equal (spanOf start end)
+pub span-new : OneAnswer promised.Span.new.Reads.Learnt
+span-new κs a x y s t p q = p ∙ sym q
 
-pub number : (self : TokenKind) → Only (λ (r : ℕ). r ≡ kindNumber self)
-number self = only-equal (kindNumber self)
+pub number : OneAnswer promised.TokenKind.number.Reads.Learnt
+number κs a x y s t p q = p ∙ sym q
 
-pub from-number : (number : ℕ) → Only (λ (r : KindRead). r ≡ kindOfNumber number)
-from-number number = only-equal (kindOfNumber number)
+pub from-number : OneAnswer promised.TokenKind.from_number.Reads.Learnt
+from-number κs a x y s t p q = p .0 ∙ sym (q .0)
 
-pub description : (number : ℕ) → Only (λ (r : Description). r ≡ descriptionOf number)
-description number = only-equal (descriptionOf number)
+pub description : OneAnswer promised.TokenKind.description.Reads.Learnt
+description κs a x y s t p q = p .0 ∙ sym (q .0)
 
-pub encoding : (number : ℕ) → Only (λ (r : Encoding). r ≡ encodingOf number)
-encoding number = only-equal (encodingOf number)
+pub encoding : OneAnswer promised.TokenKind.encoding.Reads.Learnt
+encoding κs a x y s t p q = p .0 ∙ sym (q .0)
