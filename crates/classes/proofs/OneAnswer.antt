@@ -1,10 +1,11 @@
 -- What it is that a promise admits one outcome only, for the functions of every crate; and that each promise of this
--- crate does. A theorem bears its function's name. It is about the function's own contract: what a caller learns of it.
+-- crate does. A theorem bears its function's name, and is about the function's own contract: `f.Reads.Learnt` is what a
+-- caller of f learns of its `ensures`.
 -- Assumes nothing.
 use mathlib.Core.Path.{_≡_, sym, _∙_}
 use Rattle.classes.proofs as promised
 
--- A promise is of a function's lifetimes, its arguments, its result, and what its parameters hold at exit.
+-- A promise is about a function's lifetimes, its arguments, its result, and what its parameters hold at exit.
 module _ {L : Type 0} {A R S : L → Type 0} (Promise : (κs : L) → A κs → R κs → S κs → Type 0) where
   -- any two outcomes that meet it for the same arguments are the same in what is looked at
   abbrev pub OneOutcome : {B : L → Type 0} → ((κs : L) → R κs → S κs → B κs) → Type 0
@@ -15,8 +16,13 @@ module _ {L : Type 0} {A R S : L → Type 0} (Promise : (κs : L) → A κs → 
   abbrev pub OneAnswer : Type 0
   OneAnswer = OneOutcome (λ κs r s. r)
 
--- two things that are each the same, together
-pub both : {A B : Type 0} {a b : A} {c d : B} → a ≡ b → c ≡ d → _≡_ {A = A × B} (a, c) (b, d)
+-- what is looked at, together: a result and what lent memory holds
+infixr 60 _and_
+abbrev pub _and_ : {A B : Type 0} → A → B → A × B
+a and b = (a, b)
+
+-- two things that are each the same are the same together
+pub both : {A B : Type 0} {a b : A} {c d : B} → a ≡ b → c ≡ d → a and c ≡ b and d
 both p q = rw (p, q)
 
 pub is-wschar : OneAnswer promised.is_wschar.Reads.Learnt

@@ -1,34 +1,24 @@
--- Each promise of this crate admits one answer only. A theorem bears its function's name, and says so of the promise as
--- the function's `ensures` has it.
--- Where a promise says an answer's number and value too, its first clause, the equation here, already admits one answer.
+-- Each promise of this crate admits one answer only, and that of `lex` one content of the records too. A theorem bears
+-- its function's name, and is about the function's own contract: what a caller learns of its `ensures`.
+-- Where a promise says an answer's number and value too, its first clause, an equation, already admits one answer.
 -- Assumes nothing.
-use mathlib.Core.Path.{_≡_}
-use mathlib.Core.List.{List}
-use Prim.Native.Nat.{ℕ}
-use lib.ListN.{length}
-use Rattle.classes.proofs.OneAnswer.{Only, only-equal}
-use Rattle.lexer.specs.declared.Cursor.{Cursor}
-use Rattle.lexer.specs.declared.Start.{Start}
-use Rattle.lexer.specs.declared.Step.{Step}
-use Rattle.lexer.specs.declared.Lexed.{Lexed}
-use Rattle.lexer.specs.Lines.{lineOf}
-use Rattle.lexer.specs.Tokens.{startOf}
-use Rattle.lexer.specs.Steps.{startAnswer, stepOf}
-use Rattle.lexer.specs.Whole.{lexAnswer, lexMemory}
+use mathlib.Core.Path.{sym, _∙_}
+use denote.Ref.{now}
+use Rattle.classes.proofs.OneAnswer.{OneAnswer, OneOutcome, _and_, both}
+use Rattle.lexer.proofs as promised
 
-pub start : (doc : List ℕ) → Only (λ (r : Start). r ≡ startAnswer doc)
-start doc = only-equal (startAnswer doc)
+pub start : OneAnswer promised.Cursor.start.Reads.Learnt
+start κs a x y s t p q = p .0 ∙ sym (q .0)
 
-pub step : (doc : List ℕ) (self : Cursor) → Only (λ (r : Step). r ≡ stepOf doc self)
-step doc self = only-equal (stepOf doc self)
+pub step : OneAnswer promised.Cursor.step.Reads.Learnt
+step κs a x y s t p q = p .0 ∙ sym (q .0)
 
--- the answer, and the records afterwards
-pub lex : (doc : List ℕ) (old : List (List ℕ))
-    → Only (λ (r : Lexed). r ≡ lexAnswer doc (length old)) × Only (λ (new : List (List ℕ)). new ≡ lexMemory doc old)
-lex doc old = (only-equal (lexAnswer doc (length old)), only-equal (lexMemory doc old))
+-- the answer, and what the records hold
+pub lex : OneOutcome promised.lex.Reads.Learnt (λ κs r s. r and now (s .1 .0))
+lex κs a x y s t p q = both (p .0 ∙ sym (q .0)) (p .1 .1 .1 .1 ∙ sym (q .1 .1 .1 .1))
 
-pub start-of : (doc : List ℕ) → Only (λ (r : ℕ). r ≡ startOf doc)
-start-of doc = only-equal (startOf doc)
+pub start-of : OneAnswer promised.start_of.Reads.Learnt
+start-of κs a x y s t p q = p ∙ sym q
 
-pub line-of : (doc : List ℕ) (offset : ℕ) → Only (λ (r : ℕ). r ≡ lineOf doc offset)
-line-of doc offset = only-equal (lineOf doc offset)
+pub line-of : OneAnswer promised.line_of.Reads.Learnt
+line-of κs a x y s t p q = p ∙ sym q

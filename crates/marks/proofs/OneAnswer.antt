@@ -1,21 +1,15 @@
--- Each promise of this crate admits one answer only. A theorem bears its function's name, and says so of the promise as
--- the function's `ensures` has it.
+-- Each promise of this crate admits one answer only. A theorem bears its function's name, and is about the function's
+-- own contract: what a caller learns of its `ensures`.
 -- Assumes nothing.
-use Prim.Native.Nat.{ℕ}
-use mathlib.Core.Path.{_≡_}
-use mathlib.Core.List.{List}
-use Rattle.classes.proofs.OneAnswer.{Only, only-equal}
-use Rattle.strings.specs.declared.Choice.{Choice}
-use Rattle.strings.specs.declared.Encoding.{Encoding}
-use Rattle.strings.specs.declared.Ends.{Ends}
-use Rattle.strings.specs.Encodings.{choiceBy, markError}
-use Rattle.strings.specs.Marks.{endsOf}
+use mathlib.Core.Path.{sym, _∙_}
+use Rattle.classes.proofs.OneAnswer.{OneAnswer}
+use Rattle.marks.proofs as promised
 
-pub mark-error : (e : Encoding) → Only (λ (r : ℕ). r ≡ markError e)
-mark-error e = only-equal (markError e)
+pub mark-error : OneAnswer promised.mark_error.Reads.Learnt
+mark-error κs a x y s t p q = p ∙ sym q
 
-pub ends-of : (e : Encoding) (t : List ℕ) → Only (λ (r : Ends). r ≡ endsOf e t)
-ends-of e t = only-equal (endsOf e t)
+pub ends-of : OneAnswer promised.ends_of.Reads.Learnt
+ends-of κs a x y s t p q = p ∙ sym q
 
-pub choice-by : (edition kind : ℕ) → Only (λ (r : Choice). r ≡ choiceBy edition kind)
-choice-by edition kind = only-equal (choiceBy edition kind)
+pub choice-by : OneAnswer promised.choice.choice_by.Reads.Learnt
+choice-by κs a x y s t p q = p ∙ sym q

@@ -1,32 +1,21 @@
--- Each promise of this crate admits one answer only. A theorem bears its function's name, and says so of the promise as
--- the function's `ensures` has it.
+-- Each promise of this crate admits one answer only. A theorem bears its function's name, and is about the function's
+-- own contract: what a caller learns of its `ensures`.
 -- Assumes nothing.
-use Prim.Native.Nat.{ℕ}
-use mathlib.Core.Path.{_≡_}
-use mathlib.Core.Bool.{Bool}
-use mathlib.Core.List.{List}
-use lib.ListN.{take}
-use Rattle.classes.specs.Runs.{run}
-use Rattle.classes.proofs.OneAnswer.{Only, only-equal}
-use Rattle.strings.specs.declared.Encoding.{Encoding}
-use Rattle.strings.specs.declared.Piece.{Piece}
-use Rattle.strings.specs.Encodings.{plain}
-use Rattle.strings.specs.Marks.{newlineLen}
-use Rattle.pieces.specs.declared.string.Escape.{Escape}
-use Rattle.pieces.specs.GoodEscapes.{escapeAt}
-use Rattle.pieces.specs.Places.{pieceAt}
+use mathlib.Core.Path.{sym, _∙_}
+use Rattle.classes.proofs.OneAnswer.{OneAnswer}
+use Rattle.pieces.proofs as promised
 
-pub piece-at : (e : Encoding) (dropping : Bool) (s : List ℕ) (at : ℕ) → Only (λ (r : Piece). r ≡ pieceAt e dropping at s)
-piece-at e dropping s at = only-equal (pieceAt e dropping at s)
+pub piece-at : OneAnswer promised.piece_at.Reads.Learnt
+piece-at κs a x y s t p q = p ∙ sym q
 
-pub strip-start-newline : (s : List ℕ) → Only (λ (r : ℕ). r ≡ newlineLen s)
-strip-start-newline s = only-equal (newlineLen s)
+pub strip-start-newline : OneAnswer promised.string.strip_start_newline.Reads.Learnt
+strip-start-newline κs a x y s t p q = p ∙ sym q
 
-pub plain-run : (e : Encoding) (s : List ℕ) → Only (λ (r : ℕ). r ≡ run (plain e) s)
-plain-run e s = only-equal (run (plain e) s)
+pub plain-run : OneAnswer promised.plain_run.Reads.Learnt
+plain-run κs a x y s t p q = p ∙ sym q
 
-pub plain-few : (e : Encoding) (s : List ℕ) → Only (λ (r : ℕ). r ≡ run (plain e) (take 8 s))
-plain-few e s = only-equal (run (plain e) (take 8 s))
+pub plain-few : OneAnswer promised.scan.plain_few.Reads.Learnt
+plain-few κs a x y s t p q = p ∙ sym q
 
-pub escape-at : (e : Encoding) (s : List ℕ) → Only (λ (r : Escape). r ≡ escapeAt e s)
-escape-at e s = only-equal (escapeAt e s)
+pub escape-at : OneAnswer promised.string.escape_at.Reads.Learnt
+escape-at κs a x y s t p q = p ∙ sym q
