@@ -1,76 +1,45 @@
--- Each promise of this crate admits one answer only. A theorem bears its function's name, and says so of the promise as
--- the function's `ensures` has it.
+-- Each promise of this crate admits one answer only, and one content of each lent memory. A theorem bears its function's
+-- name, and is about the function's own contract: what a caller learns of its `ensures`.
 -- Assumes nothing.
-use Prim.Native.Nat.{ℕ}
-use mathlib.Core.Path.{_≡_}
-use mathlib.Core.List.{List}
-use lib.ListN.{length}
-use Rattle.classes.proofs.OneAnswer.{Only, only-equal}
-use Rattle.text.specs.Answers.{checkOf}
-use Rattle.token.specs.Descriptions.{descriptionOf}
-use Rattle.token.specs.Encodings.{encodingOf}
-use Rattle.token.specs.Records.{spanOf}
-use Rattle.lexer.specs.Steps.{startAnswer, stepOf, cursorOf}
-use Rattle.lexer.specs.Whole.{lexAnswer, lexMemory}
-use Rattle.place.specs.Spans.{spanAnswer}
-use Rattle.place.specs.Positions.{positionAnswer}
-use Rattle.toml.specs.Numbers.{flag, checkNumbers, startNumbers, stepNumbers, lexNumbers, spanNumbers, partOf}
-use Rattle.toml.specs.Numbers.{positionNumbers, decodeAnswer, outputAfter, errorsAfter, describedNumbers, encodedNumbers}
-use Rattle.toml.specs.declared.Answered.{Answered}
-use Rattle.toml.specs.declared.Started.{Started}
-use Rattle.toml.specs.declared.Stepped.{Stepped}
-use Rattle.toml.specs.declared.Part.{Part}
-use Rattle.toml.specs.declared.Positioned.{Positioned}
-use Rattle.toml.specs.declared.DecodedText.{DecodedText}
-use Rattle.toml.specs.declared.Described.{Described}
-use Rattle.toml.specs.declared.EncodedKind.{EncodedKind}
+use mathlib.Core.Path.{sym, _∙_}
+use denote.Ref.{now}
+use Rattle.classes.proofs.OneAnswer.{OneAnswer, OneOutcome, _and_, both}
+use Rattle.toml.proofs as promised
 
-pub toml-check-utf8 : (doc : List ℕ) → Only (λ (r : Answered). r ≡ checkNumbers (checkOf doc))
-toml-check-utf8 doc = only-equal (checkNumbers (checkOf doc))
+pub toml-check-utf8 : OneAnswer promised.toml_check_utf8.Reads.Learnt
+toml-check-utf8 κs a x y s t p q = p ∙ sym q
 
-pub toml-start : (doc : List ℕ) → Only (λ (r : Started). r ≡ startNumbers (startAnswer doc))
-toml-start doc = only-equal (startNumbers (startAnswer doc))
+pub toml-start : OneAnswer promised.toml_start.Reads.Learnt
+toml-start κs a x y s t p q = p ∙ sym q
 
-pub toml-step : (doc : List ℕ) (place ended line : ℕ)
-    → Only (λ (r : Stepped). r ≡ stepNumbers (stepOf doc (cursorOf place line (flag ended))))
-toml-step doc place ended line = only-equal (stepNumbers (stepOf doc (cursorOf place line (flag ended))))
+pub toml-step : OneAnswer promised.toml_step.Reads.Learnt
+toml-step κs a x y s t p q = p ∙ sym q
 
--- the answer, and the records afterwards
-pub toml-lex : (doc : List ℕ) (old : List (List ℕ))
-    → Only (λ (r : Answered). r ≡ lexNumbers (lexAnswer doc (length old)))
-    × Only (λ (new : List (List ℕ)). new ≡ lexMemory doc old)
-toml-lex doc old = (only-equal (lexNumbers (lexAnswer doc (length old))), only-equal (lexMemory doc old))
+-- the answer, and what the records hold
+pub toml-lex : OneOutcome promised.toml_lex.Reads.Learnt (λ κs r s. r and now (s .1 .0))
+toml-lex κs a x y s t p q = both (p .0 ∙ sym (q .0)) (p .1 ∙ sym (q .1))
 
-pub toml-check-span : (doc : List ℕ) (start end : ℕ)
-    → Only (λ (r : Answered). r ≡ spanNumbers (spanAnswer doc (spanOf start end)))
-toml-check-span doc start end = only-equal (spanNumbers (spanAnswer doc (spanOf start end)))
+pub toml-check-span : OneAnswer promised.toml_check_span.Reads.Learnt
+toml-check-span κs a x y s t p q = p ∙ sym q
 
 -- the first clause already admits one answer
-pub toml-text : (doc : List ℕ) (start end : ℕ) → Only (λ (r : Part). r ≡ partOf (spanAnswer doc (spanOf start end)) start end)
-toml-text doc start end = only-equal (partOf (spanAnswer doc (spanOf start end)) start end)
+pub toml-text : OneAnswer promised.toml_text.Reads.Learnt
+toml-text κs a x y s t p q = p .0 ∙ sym (q .0)
 
-pub toml-position : (doc : List ℕ) (offset : ℕ) → Only (λ (r : Positioned). r ≡ positionNumbers (positionAnswer doc offset))
-toml-position doc offset = only-equal (positionNumbers (positionAnswer doc offset))
+pub toml-position : OneAnswer promised.toml_position.Reads.Learnt
+toml-position κs a x y s t p q = p ∙ sym q
 
--- the answer, the output and the error records afterwards
-pub toml-decode-in : (text : List ℕ) (edition kind : ℕ) (output : List ℕ) (errors : List (List ℕ))
-    → Only (λ (r : DecodedText). r ≡ decodeAnswer text edition kind output errors)
-    × (Only (λ (new : List ℕ). new ≡ outputAfter text edition kind output errors)
-    × Only (λ (new : List (List ℕ)). new ≡ errorsAfter text edition kind output errors))
-toml-decode-in text edition kind output errors = (
-  only-equal (decodeAnswer text edition kind output errors),
-  (only-equal (outputAfter text edition kind output errors), only-equal (errorsAfter text edition kind output errors)),
-)
+-- the answer, and what the output and the error records hold
+pub toml-decode : OneOutcome promised.toml_decode.Reads.Learnt (λ κs r s. r and now (s .1 .1 .0) and now (s .1 .1 .1 .0))
+toml-decode κs a x y s t p q = both (p .0 ∙ sym (q .0)) (both (p .1 .0 ∙ sym (q .1 .0)) (p .1 .1 ∙ sym (q .1 .1)))
 
--- the same for a call that names no edition, which reads TOML 1.0
-pub toml-decode : (text : List ℕ) (kind : ℕ) (output : List ℕ) (errors : List (List ℕ))
-    → Only (λ (r : DecodedText). r ≡ decodeAnswer text 10 kind output errors)
-    × (Only (λ (new : List ℕ). new ≡ outputAfter text 10 kind output errors)
-    × Only (λ (new : List (List ℕ)). new ≡ errorsAfter text 10 kind output errors))
-toml-decode text kind output errors = toml-decode-in text 10 kind output errors
+-- the same
+pub toml-decode-in :
+    OneOutcome promised.toml_decode_in.Reads.Learnt (λ κs r s. r and now (s .1 .1 .1 .0) and now (s .1 .1 .1 .1 .0))
+toml-decode-in κs a x y s t p q = both (p .0 ∙ sym (q .0)) (both (p .1 .0 ∙ sym (q .1 .0)) (p .1 .1 ∙ sym (q .1 .1)))
 
-pub toml-description : (kind : ℕ) → Only (λ (r : Described). r ≡ describedNumbers (descriptionOf kind))
-toml-description kind = only-equal (describedNumbers (descriptionOf kind))
+pub toml-description : OneAnswer promised.toml_description.Reads.Learnt
+toml-description κs a x y s t p q = p ∙ sym q
 
-pub toml-encoding : (kind : ℕ) → Only (λ (r : EncodedKind). r ≡ encodedNumbers (encodingOf kind))
-toml-encoding kind = only-equal (encodedNumbers (encodingOf kind))
+pub toml-encoding : OneAnswer promised.toml_encoding.Reads.Learnt
+toml-encoding κs a x y s t p q = p ∙ sym q
