@@ -4,8 +4,7 @@
 use Prim.Native.Nat.{ℕ, _≤_}
 use mathlib.Core.Path.{_≡_}
 use native.Mathlib.Omega.{arith}
-use Rattle.classes.proofs.OneAnswer.{Only}
 
 -- already for a line's memory of one byte: a document of none, and of one
-pub next-request : Only (λ (len : ℕ). len ≤ 1) → ⊥
+pub next-request : ((x y : ℕ) → x ≤ 1 → y ≤ 1 → x ≡ y) → ⊥
 next-request one = let same : _≡_ {A = ℕ} 0 1 = one 0 1 (omega arith) (omega arith) in omega arith

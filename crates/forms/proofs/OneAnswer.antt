@@ -1,63 +1,51 @@
--- Each promise of this crate admits one answer only. A theorem bears its function's name, and says so of the promise as
--- the function's `ensures` has it.
+-- Each promise of this crate admits one answer only. A theorem bears its function's name, and is about the function's
+-- own contract: what a caller learns of its `ensures`.
 -- Assumes nothing.
-use Prim.Native.Nat.{ℕ}
-use mathlib.Core.Path.{_≡_}
-use Rattle.classes.proofs.OneAnswer.{Only, only-equal}
-use Rattle.text.specs.declared.utf8.Utf8Check.{Utf8Check}
-use Rattle.token.specs.declared.Answer.{Answer as Described}
-use Rattle.lexer.specs.declared.Lexed.{Lexed}
-use Rattle.lexer.specs.declared.Start.{Start}
-use Rattle.lexer.specs.declared.Step.{Step}
-use Rattle.place.specs.declared.SpanCheck.{SpanCheck}
-use Rattle.place.specs.declared.Position.{Position}
-use Rattle.strings.specs.declared.Decoded.{Decoded}
-use Rattle.asking.specs.declared.asked.Fault.{Fault}
-use Rattle.spelling.specs.declared.Answer.{Answer}
-use Rattle.forms.specs.Answers.{tokensAs, tokenLinesAs, tokenCountAs, decodedAs, decodedCountAs, checkedAs, faultedAs, spanCheckedAs, startedAs, positionedAs, steppedAs, steppedLineAs, hexAs, describedAs, faultAs}
+use mathlib.Core.Path.{sym, _∙_}
+use Rattle.classes.proofs.OneAnswer.{OneAnswer}
+use Rattle.forms.proofs as promised
 
-pub tokens : (lexed : Lexed) → Only (λ (r : Answer). r ≡ tokensAs lexed)
-tokens lexed = only-equal (tokensAs lexed)
+pub tokens : OneAnswer promised.tokens.Reads.Learnt
+tokens κs a x y s t p q = p ∙ sym q
 
-pub token-lines : (lexed : Lexed) → Only (λ (r : Answer). r ≡ tokenLinesAs lexed)
-token-lines lexed = only-equal (tokenLinesAs lexed)
+pub token-lines : OneAnswer promised.token_lines.Reads.Learnt
+token-lines κs a x y s t p q = p ∙ sym q
 
-pub token-count : (lexed : Lexed) → Only (λ (r : Answer). r ≡ tokenCountAs lexed)
-token-count lexed = only-equal (tokenCountAs lexed)
+pub token-count : OneAnswer promised.token_count.Reads.Learnt
+token-count κs a x y s t p q = p ∙ sym q
 
-pub decoded : (result : Decoded) → Only (λ (r : Answer). r ≡ decodedAs result)
-decoded result = only-equal (decodedAs result)
+pub decoded : OneAnswer promised.decoded.Reads.Learnt
+decoded κs a x y s t p q = p ∙ sym q
 
-pub decoded-count : (result : Decoded) → Only (λ (r : Answer). r ≡ decodedCountAs result)
-decoded-count result = only-equal (decodedCountAs result)
+pub decoded-count : OneAnswer promised.decoded_count.Reads.Learnt
+decoded-count κs a x y s t p q = p ∙ sym q
 
-pub checked : (check : Utf8Check) → Only (λ (r : Answer). r ≡ checkedAs check)
-checked check = only-equal (checkedAs check)
+pub checked : OneAnswer promised.checked.Reads.Learnt
+checked κs a x y s t p q = p ∙ sym q
 
-pub faulted : (check : Utf8Check) → Only (λ (r : Answer). r ≡ faultedAs check)
-faulted check = only-equal (faultedAs check)
+pub faulted : OneAnswer promised.faulted.Reads.Learnt
+faulted κs a x y s t p q = p ∙ sym q
 
-pub span-checked : (check : SpanCheck) → Only (λ (r : Answer). r ≡ spanCheckedAs check)
-span-checked check = only-equal (spanCheckedAs check)
+pub span-checked : OneAnswer promised.span_checked.Reads.Learnt
+span-checked κs a x y s t p q = p ∙ sym q
 
-pub started : (start : Start) → Only (λ (r : Answer). r ≡ startedAs start)
-started start = only-equal (startedAs start)
+pub started : OneAnswer promised.started.Reads.Learnt
+started κs a x y s t p q = p ∙ sym q
 
-pub positioned : (position : Position) → Only (λ (r : Answer). r ≡ positionedAs position)
-positioned position = only-equal (positionedAs position)
+pub positioned : OneAnswer promised.positioned.Reads.Learnt
+positioned κs a x y s t p q = p ∙ sym q
 
-pub stepped : (step : Step) → Only (λ (r : Answer). r ≡ steppedAs step)
-stepped step = only-equal (steppedAs step)
+pub stepped : OneAnswer promised.stepped.Reads.Learnt
+stepped κs a x y s t p q = p ∙ sym q
 
-pub stepped-line : (step : Step) → Only (λ (r : Answer). r ≡ steppedLineAs step)
-stepped-line step = only-equal (steppedLineAs step)
+pub stepped-line : OneAnswer promised.stepped_line.Reads.Learnt
+stepped-line κs a x y s t p q = p ∙ sym q
 
-pub hex : (count : ℕ) → Only (λ (r : Answer). r ≡ hexAs count)
-hex count = only-equal (hexAs count)
+pub hex : OneAnswer promised.hex.Reads.Learnt
+hex κs a x y s t p q = p ∙ sym q
 
-pub described : (answer : Described) (len : ℕ) (count : ℕ) (encoding : ℕ) →
-    Only (λ (r : Answer). r ≡ describedAs answer len count encoding)
-described answer len count encoding = only-equal (describedAs answer len count encoding)
+pub described : OneAnswer promised.described.Reads.Learnt
+described κs a x y s t p q = p ∙ sym q
 
-pub fault : (why : Fault) → Only (λ (r : Answer). r ≡ faultAs why)
-fault why = only-equal (faultAs why)
+pub fault : OneAnswer promised.fault.Reads.Learnt
+fault κs a x y s t p q = p ∙ sym q

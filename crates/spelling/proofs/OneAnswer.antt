@@ -1,7 +1,8 @@
 -- The promise of this crate admits one answer only: there is but one thing to return.
 -- Assumes nothing.
-use mathlib.Core.Path.{_≡_}
-use Rattle.classes.proofs.OneAnswer.{Only, only-equal}
+use mathlib.Core.Path.{sym, _∙_}
+use Rattle.classes.proofs.OneAnswer.{OneAnswer}
+use Rattle.spelling.proofs as promised
 
-pub print-answer : Only (λ (r : Unit {0}). r ≡ tt)
-print-answer = only-equal tt
+pub print-answer : OneAnswer promised.print_answer.Reads.Learnt
+print-answer κs a x y s t p q = p ∙ sym q
