@@ -1,7 +1,7 @@
 -- RULE. The ABNF of TOML 1.0.0 and of 1.1.0 for the four kinds of string, over code points: a definition for each rule, under
--- its name, with its line beside it, in the order of the published text. The two differ in escape-seq-char alone: that rule,
--- and those that reach it, take the edition. A family's last index is the value that TOML gives the text; where
--- the value is the text itself it has no such index.
+-- its name, with its line beside it; the kinds in the order of the published text, and each rule behind those that it is
+-- made of. The two differ in escape-seq-char alone: that rule, and those that reach it, take the edition. A family's last
+-- index is the value that TOML gives the text; where the value is the text itself it has no such index.
 -- A repetition `*rule` is `stop` or `more`; an option `[ rule ]` is `absent` or `present`.
 -- Assumes nothing.
 use Prim.Native.Nat.{ℕ, suc, _+_, _*_, _≤_, _<_}
