@@ -37,7 +37,7 @@ use Rattle.pieces.specs.Places.{pieceAt}
 use Rattle.pieces.proofs.PlaceLaws.{piece-is}
 use Rattle.pieces.specs.declared.string.Escape.{Escape}
 use Rattle.pieces.specs.GoodEscapes.{escapeAt}
-use Rattle.pieces.proofs.EscapeAtLaws.{escape-piece}
+use Rattle.pieces.proofs.EscapeAtLaws.{good-escape-piece}
 
 module _ (c : ℕ) (h : Scalar c) (e : Encoded) (f : e ≡ encodedOf c) where
   encoded-is : e ≡ padded (encodeScalar c)
@@ -88,7 +88,7 @@ given-char n c s = refl
 pub escape-turn : (e : Encoding) (s : List ℕ) (base i : ℕ) (d : Bool) → i < length s → (x : Escape) → x ≡ escapeAt e (rest s i)
     → 0 < x .take → Turn (pieceOf e) s base i d (charPiece (x .take) (x .char) 0 0)
 escape-turn e s base i d h x is some =
-    let piece = escape-piece e d (base + i) (rest s i) (rw is at some) in
+    let piece = good-escape-piece e d (base + i) (rest s i) (rw is at some) in
     record { more = h; reads = rw is (sym piece) }
 
 -- ---- a loop that copies the first n bytes of s to place o of memory that held `old`: j of them are copied

@@ -14,7 +14,7 @@ use Rattle.scans.specs.Extents.{newlineTail}
 use Rattle.lexer.specs.Lines.{lineFeeds}
 use Rattle.lexer.specs.Table.{extent, tokenLen}
 use Rattle.lexer.specs.Tokens.{tokenBy, tokenAt, lineAfter}
-use Rattle.lexer.specs.Scans.{Stands, entryOf, entryFrom, entryAt}
+use Rattle.lexer.specs.Loops.{Stands, entryOf, entryFrom, entryAt}
 use Rattle.lexer.proofs.KindLaws.{KindThere, kind-at, token-there}
 use Rattle.lexer.proofs.LineLaws.{holdsLf, token-no-lf, newline-token}
 

@@ -14,7 +14,7 @@ use Rattle.token.specs.Records.{recordOf}
 use Rattle.lexer.specs.Lines.{lineFeeds, lineBehind}
 use Rattle.lexer.specs.Table.{tokenLen}
 use Rattle.lexer.specs.Tokens.{tokenAt, eofAt, lineAfter, walk, tokensFrom, startOf, tokensOf}
-use Rattle.lexer.specs.Scans.{before, tokensUntil, linePast, lineUntil, GoesOn, store}
+use Rattle.lexer.specs.Loops.{before, tokensUntil, linePast, lineUntil, GoesOn, store}
 use Rattle.lexer.proofs.TokenLaws.{endAt, tokens-step, tokens-end, token-fits-at, token-long-at, line-fits-at, start-fits}
 use Rattle.lexer.proofs.LineLaws.{feeds-none, feeds-end, feeds-split, behind-front}
 

@@ -21,7 +21,7 @@ use Rattle.token.specs.Records.{recordOf}
 use Rattle.token.proofs.KindLaws.{kind-back}
 use Rattle.lexer.specs.Tokens.{tokenAt, eofAt, lineAfter, startOf}
 use Rattle.lexer.specs.Whole.{recordsOf, tokenCount, lexAnswer, lexMemory}
-use Rattle.lexer.specs.Scans.{tokensUntil, linePast, lineUntil, store, recordsOver}
+use Rattle.lexer.specs.Loops.{tokensUntil, linePast, lineUntil, store, recordsOver}
 use Rattle.lexer.specs.declared.Passed.{Passed}
 use Rattle.lexer.specs.declared.Lexed.the-variants.{Tokens, Refused}
 use Rattle.lexer.proofs.TokenLaws.{start-fits}

@@ -3,4 +3,4 @@ pub mod Table
 pub mod Tokens
 pub mod Steps
 pub mod Whole
-pub mod Scans
+pub mod Loops

@@ -13,7 +13,7 @@ ghost use Rattle.lexer.specs.Steps.{cursorOf, startAnswer, startNumber, 
 ghost use Rattle.lexer.specs.Steps.{stepOf, stepNumber, stepValue, stepRefusal, stepReturned};
 ghost use Rattle.lexer.specs.Whole.{tokenCount, lexAnswer, lexMemory};
 ghost use Rattle.lexer.specs.Whole.{lexedNumber, lexedValue, lexedLength, lexRefusal, lexReturned};
-ghost use Rattle.lexer.specs.Scans.{Stands, GoesOn, Numbered, entryOf, entryFrom, entryAt, tokensUntil, lineUntil, store, recordsOver};
+ghost use Rattle.lexer.specs.Loops.{Stands, GoesOn, Numbered, entryOf, entryFrom, entryAt, tokensUntil, lineUntil, store, recordsOver};
 use text::LIMIT;
 use text::Refusal;
 use text::Utf8Check;

@@ -4,7 +4,7 @@ ghost use Prim.Native.Nat.{_+_, _-_, _≤_};
 ghost use lib.ListN.{length, take, drop};
 ghost use Rattle.lexer.specs.Lines.{lineFeeds};
 ghost use Rattle.lexer.specs.Tokens.{lineAfter};
-ghost use Rattle.lexer.specs.Scans.{Stands};
+ghost use Rattle.lexer.specs.Loops.{Stands};
 use token::Token;
 
 // The line behind a token: its own, and the LFs in it.

@@ -174,10 +174,10 @@ module _ (d : Bool) (at : ℕ) (s : List ℕ) (backslash : getD s 0 0 ≡ 0x5C) 
       sym (found .piece ∙ ml-basic-escape v at s backslash d (letter-kept _ letter))
   piece-in UnquotedKey h = absurd (omega arith)
 
-pub escape-piece : (e : Encoding) (d : Bool) (at : ℕ) (s : List ℕ) → 0 < escapeAt e s .take
+pub good-escape-piece : (e : Encoding) (d : Bool) (at : ℕ) (s : List ℕ) → 0 < escapeAt e s .take
     → pieceOf e d at s ≡ charPiece (escapeAt e s .take) (escapeAt e s .char) 0 0
 unfolding escapeAt
-escape-piece e d at s =
+good-escape-piece e d at s =
     by-eq (λ (x : Escape). 0 < x .take → pieceOf e d at s ≡ charPiece (x .take) (x .char) 0 0) (getD s 0 0) 0x5C
     (λ b. piece-in d at s b e)
     (λ b h. absurd (omega arith))

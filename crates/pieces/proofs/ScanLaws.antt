@@ -21,7 +21,7 @@ use Rattle.strings.specs.declared.Encoding.the-variants.{LiteralString, BasicSt
 use Rattle.strings.specs.Encodings.{mllPlain, mlbPlain, basicInvalid, mlbInvalid, plain}
 use Rattle.strings.specs.Bodies.{skips}
 use Rattle.pieces.specs.declared.scan.Mask.{Mask}
-use Rattle.pieces.specs.Scan.{maskOf, marked, Wide, stopsOf}
+use Rattle.pieces.specs.Scan.{maskOf, isMarked, Wide, stopsOf}
 
 -- ---- a byte that is none of the single ones
 
@@ -105,27 +105,27 @@ clear-plain UnquotedKey v b w h i x f s d l k = absurd v
 
 -- ---- the masks
 
-marked-literal : (b : ℕ) → b < 256 → marked (maskOf LiteralString) b ≡ literalChar b
+marked-literal : (b : ℕ) → b < 256 → isMarked (maskOf LiteralString) b ≡ literalChar b
 unfolding literalChar
-marked-literal b h = classes-agree (marked (maskOf LiteralString)) literalChar 0 256 tt b (omega arith) h
+marked-literal b h = classes-agree (isMarked (maskOf LiteralString)) literalChar 0 256 tt b (omega arith) h
 
-marked-mll : (b : ℕ) → b < 256 → marked (maskOf MlLiteralString) b ≡ mllPlain b
+marked-mll : (b : ℕ) → b < 256 → isMarked (maskOf MlLiteralString) b ≡ mllPlain b
 unfolding mllPlain mllChar
-marked-mll b h = classes-agree (marked (maskOf MlLiteralString)) mllPlain 0 256 tt b (omega arith) h
+marked-mll b h = classes-agree (isMarked (maskOf MlLiteralString)) mllPlain 0 256 tt b (omega arith) h
 
-marked-basic : (v : Edition) (b : ℕ) → b < 256 → marked (maskOf (BasicString v)) b ≡ basicUnescaped b
+marked-basic : (v : Edition) (b : ℕ) → b < 256 → isMarked (maskOf (BasicString v)) b ≡ basicUnescaped b
 unfolding basicUnescaped
-marked-basic v b h = classes-agree (marked (maskOf (BasicString v))) basicUnescaped 0 256 tt b (omega arith) h
+marked-basic v b h = classes-agree (isMarked (maskOf (BasicString v))) basicUnescaped 0 256 tt b (omega arith) h
 
-marked-mlb : (v : Edition) (b : ℕ) → b < 256 → marked (maskOf (MlBasicString v)) b ≡ mlbPlain b
+marked-mlb : (v : Edition) (b : ℕ) → b < 256 → isMarked (maskOf (MlBasicString v)) b ≡ mlbPlain b
 unfolding mlbPlain mlbUnescaped
-marked-mlb v b h = classes-agree (marked (maskOf (MlBasicString v))) mlbPlain 0 256 tt b (omega arith) h
+marked-mlb v b h = classes-agree (isMarked (maskOf (MlBasicString v))) mlbPlain 0 256 tt b (omega arith) h
 
-marked-key : (b : ℕ) → b < 256 → marked (maskOf UnquotedKey) b ≡ unquotedChar b
+marked-key : (b : ℕ) → b < 256 → isMarked (maskOf UnquotedKey) b ≡ unquotedChar b
 unfolding unquotedChar
-marked-key b h = classes-agree (marked (maskOf UnquotedKey)) unquotedChar 0 256 tt b (omega arith) h
+marked-key b h = classes-agree (isMarked (maskOf UnquotedKey)) unquotedChar 0 256 tt b (omega arith) h
 
-marked-plain : (e : Encoding) (b : ℕ) → b < 256 → marked (maskOf e) b ≡ plain e b
+marked-plain : (e : Encoding) (b : ℕ) → b < 256 → isMarked (maskOf e) b ≡ plain e b
 marked-plain LiteralString = marked-literal
 marked-plain MlLiteralString = marked-mll
 marked-plain (BasicString v) = marked-basic v
@@ -133,8 +133,8 @@ marked-plain (MlBasicString v) = marked-mlb v
 marked-plain UnquotedKey = marked-key
 
 -- what is read off the mask of an encoding
-pub mask-tells : (e : Encoding) (m : Mask) (b : ℕ) (r : Bool) → b < 256 → m ≡ maskOf e → r ≡ marked m b → plain e b ≡ r
-mask-tells e m b r h f t = sym (marked-plain e b h) ∙ ap (λ (m : Mask). marked m b) (sym f) ∙ sym t
+pub mask-tells : (e : Encoding) (m : Mask) (b : ℕ) (r : Bool) → b < 256 → m ≡ maskOf e → r ≡ isMarked m b → plain e b ≡ r
+mask-tells e m b r h f t = sym (marked-plain e b h) ∙ ap (λ (m : Mask). isMarked m b) (sym f) ∙ sym t
 
 -- ---- a run, of which n bytes count at most
 

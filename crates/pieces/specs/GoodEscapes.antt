@@ -1,5 +1,5 @@
 -- The escape in front of a body, where it stands for a character: its piece, read off before any piece is made. Not a rule of
--- its own: `escape-piece` in proofs/EscapeAtLaws.antt shows that the rule's piece there is this one.
+-- its own: `good-escape-piece` in proofs/EscapeAtLaws.antt shows that the rule's piece there is this one.
 -- Assumes nothing.
 use Prim.Native.Nat.{ℕ, _+_}
 use mathlib.Core.Bool.{cond, _&&_}

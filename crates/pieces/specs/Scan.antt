@@ -37,8 +37,8 @@ maskOf (MlBasicString v) = mask 0xFFFFFFFF00000600 0x7FFFFFFFEFFFFFFF true
 maskOf UnquotedKey = mask 0x03FF200000000000 0x07FFFFFE87FFFFFE false
 
 -- the bit of a byte: `marked-plain` in proofs/ScanLaws.antt shows that it says `plain`
-abbrev pub marked : Mask → ℕ → Bool
-marked m b =
+abbrev pub isMarked : Mask → ℕ → Bool
+isMarked m b =
     cond (ltb b 64) (eqb (bitAnd (m .low / 2 ^ b) 1) 1)
     (cond (ltb b 128) (eqb (bitAnd (m .mid / 2 ^ (b - 64)) 1) 1)
     (m .high))

@@ -7,7 +7,7 @@ ghost use lib.ListN.{length, take, drop, getD};
 ghost use Rattle.classes.specs.Runs.{run};
 ghost use Rattle.classes.proofs.RunLaws.{Block, SameEnd};
 ghost use Rattle.strings.specs.Encodings.{mlbPlain, basicInvalid, mlbInvalid, plain};
-ghost use Rattle.pieces.specs.Scan.{setOf, maskOf, marked, Wide, stopsOf, NoneSet};
+ghost use Rattle.pieces.specs.Scan.{setOf, maskOf, isMarked, Wide, stopsOf, NoneSet};
 use classes::is_basic_unescaped;
 use classes::is_mlb_unescaped;
 use classes::is_wschar;
@@ -128,7 +128,7 @@ fn wide(b: u8) -> u64
 
 // Does the mask have the byte?
 fn is_marked(mask: Mask, b: u8) -> bool
-    ensures { λ r. ⌜ r ≡ marked mask b ⌝ }
+    ensures { λ r. ⌜ r ≡ isMarked mask b ⌝ }
 {
     if b < 64 {
         return (mask.low >> wide(b)) & 1 == 1;

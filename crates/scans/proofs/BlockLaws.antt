@@ -14,15 +14,15 @@ use Rattle.scans.specs.Scans.{noneOf}
 
 module _ (p : ℕ → Bool) (s : List ℕ) (i : ℕ) where
   -- of j bytes, those before the least place pass
-  abbrev pub Kept : ℕ → ℕ → Type 0
-  Kept first j = (m : ℕ) → m ≤ j → m ≤ first → Block p s i m
+  abbrev pub BlockTo : ℕ → ℕ → Type 0
+  BlockTo first j = (m : ℕ) → m ≤ j → m ≤ first → Block p s i m
 
-  pub kept-start : (first : ℕ) → Kept first 0
-  kept-start first m h k = block-end p s i 0 m (omega arith) (block-start p s i)
+  pub block-to-start : (first : ℕ) → BlockTo first 0
+  block-to-start first m h k = block-end p s i 0 m (omega arith) (block-start p s i)
 
-  pub kept-step : (j place old new : ℕ) → i + j < length s → (j < place → p (getD s (i + j) 0) ≡ true)
-      → new ≤ place → new ≤ old → Kept old j → Kept new (j + 1)
-  kept-step j place old new h f a b kept m l k =
+  pub block-to-step : (j place old new : ℕ) → i + j < length s → (j < place → p (getD s (i + j) 0) ≡ true)
+      → new ≤ place → new ≤ old → BlockTo old j → BlockTo new (j + 1)
+  block-to-step j place old new h f a b kept m l k =
       elim (decLt m (j + 1)) [
         | yes q ↦ kept m (omega arith) (omega arith)
         | no q ↦ block-end p s i (j + 1) m (omega arith)

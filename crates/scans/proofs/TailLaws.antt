@@ -255,8 +255,8 @@ line-passed q s i r escape by l e =
 
 -- ---- a comment's bytes
 
-pub comment-run : (s : List ℕ) → run (noneOf 13 10 10) s ≡ run inComment s
-comment-run = run-same (noneOf 13 10 10) inComment (λ b. two-of-three (eqb b 13) (eqb b 10))
+pub comment-bytes : (s : List ℕ) → run (noneOf 13 10 10) s ≡ run inComment s
+comment-bytes = run-same (noneOf 13 10 10) inComment (λ b. two-of-three (eqb b 13) (eqb b 10))
 
 -- ---- what a backslash hides matters only if it is a backslash or the mark
 

@@ -41,7 +41,7 @@ abbrev pub Asked : ℕ → ℕ → ℕ → Type 0
 Asked a n b = (leadOf a .0 ≡ n) × Among (leadOf a .1) (leadOf a .2) b
 
 -- a character of n bytes stands in front of four: a, b, c and d
-pub record Whole (a b c d n : ℕ) : Type 0 where
+pub record Character (a b c d n : ℕ) : Type 0 where
   pub some : (2 ≤ n) × (n ≤ 4)
   pub asked : Asked a n b
   pub third : 3 ≤ n → Among 0x80 0xBF c

@@ -8,7 +8,7 @@ ghost use Rattle.classes.specs.Runs.{run};
 ghost use Rattle.classes.proofs.RunLaws.{Block, SameEnd};
 ghost use Rattle.text.specs.Utf8.{encodeScalar};
 ghost use Rattle.text.specs.Utf8Read.{isScalar, ascii, charLen, Passed, Along};
-ghost use Rattle.text.specs.Lead.{leadOf, onesOf, Among, Asked, Whole, BegunAt, faultLen};
+ghost use Rattle.text.specs.Lead.{leadOf, onesOf, Among, Asked, Character, BegunAt, faultLen};
 ghost use Rattle.text.specs.Answers.{padded, encodedOf, checkOf};
 ghost use Rattle.text.specs.Answers.{checkNumber, checkValue, checkLength, checkRefusal, checkReturned, checkFault};
 use crate::refusal::LIMIT;
@@ -98,7 +98,7 @@ fn chars_run(s: &[u8], start: usize) -> usize
 // so. Tests of constants, so that the compiler makes a comparison of each.
 fn whole(a: u8, b: u8, c: u8, d: u8) -> usize
     requires { ⌜ 0x80 ≤ a ⌝ }
-    ensures { λ r. ⌜ (0 < r → Whole a b c d r) ⌝ }
+    ensures { λ r. ⌜ (0 < r → Character a b c d r) ⌝ }
 {
     let ones = u8::leading_zeros(!a) as usize;
     if ones < 3 {

@@ -10,7 +10,7 @@ use lib.Seq.{length-sets}
 use Rattle.token.specs.Records.{recordOf}
 use Rattle.lexer.specs.Whole.{tokenCount}
 use Rattle.lexer.specs.Tokens.{startOf}
-use Rattle.lexer.specs.Scans.{tokensUntil}
+use Rattle.lexer.specs.Loops.{tokensUntil}
 use Rattle.lexer.proofs.TokenLaws.{start-fits, tokens-count}
 use Rattle.lexer.proofs.UntilLaws.{tokensBefore, until-few, until-stop, until-count}
 use borrow.Author.Needs.{needs}

@@ -18,7 +18,7 @@ use Rattle.token.specs.KindNumbers.{kindNumber}
 use Rattle.scans.specs.Extents.{newlineTail}
 use Rattle.lexer.specs.Table.{kindBy, extent}
 use Rattle.lexer.specs.Tokens.{tokenBy}
-use Rattle.lexer.specs.Scans.{entryFrom}
+use Rattle.lexer.specs.Loops.{entryFrom}
 use Rattle.scans.proofs.MarkLaws.{newlineTail-at}
 use Rattle.lexer.proofs.KindLaws.{KindThere, ws-there}
 use Rattle.lexer.proofs.LineLaws.{holdsLf}

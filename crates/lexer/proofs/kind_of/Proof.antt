@@ -7,7 +7,7 @@ use Rattle.token.specs.declared.TokenKind.{TokenKind}
 use Rattle.token.specs.declared.TokenKind.the-variants.{Dot, Equals, Comma, LeftSquareBracket, RightSquareBracket, LeftCurlyBracket, RightCurlyBracket, Whitespace, Comment, Newline, LiteralString, BasicString, MlLiteralString, MlBasicString, Atom, Eof}
 use Rattle.token.specs.declared.KindRead.the-variants.{Kind}
 use Rattle.token.specs.KindNumbers.{kindOfNumber}
-use Rattle.lexer.specs.Scans.{Numbered}
+use Rattle.lexer.specs.Loops.{Numbered}
 use Rattle.lexer.proofs.WholeLaws.{read-back}
 use Rattle.lexer.proofs.kind_of.Statement.{statement}
 use Rattle.lexer.proofs.kind_of.Tie as tie

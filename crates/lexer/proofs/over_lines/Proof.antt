@@ -1,7 +1,7 @@
 -- `over_lines` is right because `line_after` gives the line behind the token.
 -- Assumes nothing.
 use mathlib.Core.Path.{ap, _∙_}
-use Rattle.lexer.specs.Scans.{entryOf}
+use Rattle.lexer.specs.Loops.{entryOf}
 use borrow.Author.Needs.{needs}
 use Rattle.lexer.proofs.over_lines.Statement.{statement}
 use Rattle.lexer.proofs.over_lines.Tie as tie

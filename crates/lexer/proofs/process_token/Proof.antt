@@ -12,7 +12,7 @@ use Rattle.token.specs.declared.TokenKind.the-variants.{Dot, Equals, Comma, Lef
 use Rattle.scans.specs.Extents.{newlineTail}
 use Rattle.lexer.specs.Table.{kindBy, extent}
 use Rattle.lexer.specs.Tokens.{tokenBy}
-use Rattle.lexer.specs.Scans.{entryOf, entryAt}
+use Rattle.lexer.specs.Loops.{entryOf, entryAt}
 use Rattle.scans.proofs.MarkLaws.{triple-fits-at, newlineTail-at}
 use Rattle.lexer.proofs.KindLaws.{KindThere, end-is}
 use Rattle.lexer.proofs.LineLaws.{holdsLf}

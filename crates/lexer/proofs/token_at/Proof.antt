@@ -7,7 +7,7 @@ use Rattle.token.specs.KindNumbers.{kindNumber}
 use Rattle.token.specs.Records.{tokenOf, recordOf}
 use Rattle.lexer.specs.declared.Entry.{Entry}
 use Rattle.lexer.specs.Tokens.{tokenAt}
-use Rattle.lexer.specs.Scans.{Numbered}
+use Rattle.lexer.specs.Loops.{Numbered}
 use Rattle.lexer.proofs.KindLaws.{kind-is}
 use borrow.Author.Needs.{needs}
 use Rattle.lexer.proofs.token_at.Statement.{statement}

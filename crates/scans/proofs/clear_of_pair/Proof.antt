@@ -3,14 +3,14 @@
 use Prim.Native.Nat.{_-_, _≤_}
 use mathlib.Core.Path.{_≡_}
 use Rattle.scans.specs.Scans.{noneOf}
-use Rattle.scans.proofs.BlockLaws.{Kept, kept-start, kept-step}
+use Rattle.scans.proofs.BlockLaws.{BlockTo, block-to-start, block-to-step}
 use native.Mathlib.Omega.{arith}
 use Rattle.scans.proofs.clear_of_pair.Statement.{statement}
 use Rattle.scans.proofs.clear_of_pair.Tie as tie
 
 abbrev Inv-loop : tie.InvT-loop
 Inv-loop doc i a b first₀ k₀ j₀ first k j =
-    (j ≤ 48) × (k ≡ j) × (first ≤ 48) × Kept (noneOf a b b) doc i first j
+    (j ≤ 48) × (k ≡ j) × (first ≤ 48) × BlockTo (noneOf a b b) doc i first j
 
 abbrev μ-loop : tie.MeasureT-loop
 μ-loop doc i a b first₀ k₀ j₀ first k j = 48 - j
@@ -18,7 +18,7 @@ abbrev μ-loop : tie.MeasureT-loop
 loop-holds : tie.Need-loop-holds Inv-loop μ-loop
 loop-holds c =
     let is = c .before .args in
-    (omega arith, omega arith, omega arith, kept-start (noneOf (is .a) (is .b) (is .b)) (is .doc .now) (is .i) 48)
+    (omega arith, omega arith, omega arith, block-to-start (noneOf (is .a) (is .b) (is .b)) (is .doc .now) (is .i) 48)
 
 add-place-of-pair : tie.Need-add-place-of-pair Inv-loop μ-loop
 add-place-of-pair c = omega arith
@@ -50,7 +50,7 @@ loop-again c =
       omega arith,
       omega arith,
       omega arith,
-      kept-step (noneOf (is .a) (is .b) (is .b)) (is .doc .now) (is .i) (at .j) (place .result) (at .first) (new .result) (omega arith)
+      block-to-step (noneOf (is .a) (is .b) (is .b)) (is .doc .now) (is .i) (at .j) (place .result) (at .first) (new .result) (omega arith)
           (λ h. place .ensures .1 (omega arith))
           (new .ensures .0) (new .ensures .1) (at .inv .3),
     )

@@ -5,7 +5,7 @@ use mathlib.Core.Path.{ap, _∙_}
 use lib.ListN.{drop}
 use Rattle.classes.proofs.RunLaws.{run-end}
 use Rattle.scans.specs.Bytes.{inComment}
-use Rattle.scans.proofs.TailLaws.{comment-run}
+use Rattle.scans.proofs.TailLaws.{comment-bytes}
 use borrow.Author.Needs.{needs}
 use native.Mathlib.Omega.{arith}
 use Rattle.scans.proofs.comment_run.Statement.{statement}
@@ -22,7 +22,7 @@ find-slice-requires c κs = search needs
 returns-2 : tie.Need-returns-2
 returns-2 c =
     let is = c .before .before .before .args in
-    c .find-slice .ensures ∙ ap (λ (n : ℕ). is .start + n) (comment-run (drop (is .start) (is .doc .now)))
+    c .find-slice .ensures ∙ ap (λ (n : ℕ). is .start + n) (comment-bytes (drop (is .start) (is .doc .now)))
 
 pub comment-run-spec : {M : Type 1} → statement M
 comment-run-spec = tie.close (tie.spec returns find-slice-requires returns-2)
