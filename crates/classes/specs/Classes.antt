@@ -2,8 +2,8 @@
 -- A set of bytes stands for a set of characters: every byte of a character beyond ASCII is 80 to FF.
 -- Assumes nothing.
 use Prim.Native.Nat.{ℕ}
-use mathlib.Core.Bool.{Bool, _&&_, _||_}
-use lib.Dec.{leb, eqb}
+use mathlib.Core.{Bool.Bool, Bool._&&_, Bool._||_}
+use lib.{Dec.leb, Dec.eqb}
 
 -- a to e, both counted
 abbrev pub among : ℕ → ℕ → ℕ → Bool

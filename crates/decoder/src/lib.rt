@@ -5,7 +5,7 @@ ghost use mathlib.Core.Bool.{true};
 ghost use Prim.Native.Nat.{_+_, _/_, _≤_};
 ghost use lib.ListN.{length};
 ghost use Rattle.text.specs.Refusals.{limit};
-ghost use Rattle.text.specs.Answers.{checkFault};
+ghost use Rattle.text.specs.Told.{checkFault};
 ghost use Rattle.text.specs.declared.utf8.Utf8Check.the-variants.{Valid};
 ghost use Rattle.strings.specs.Encodings.{choiceBy, choiceOf};
 ghost use Rattle.strings.specs.declared.Choice.the-variants.{Known};

@@ -17,12 +17,11 @@ use Rattle.token.specs.declared.TokenKind.{TokenKind}
 use Rattle.token.specs.declared.TokenKind.the-variants.{Eof}
 use Rattle.token.specs.declared.Token.{Token}
 use Rattle.token.specs.KindNumbers.{kindNumber}
-use Rattle.token.specs.Records.{tokenOf}
+use Rattle.token.specs.Records.{tokenOf, textOf}
 use Rattle.lexer.specs.Table.{kindOf, extent, tokenLen}
 use Rattle.lexer.specs.Lines.{lineFeeds, lineOf}
 use Rattle.lexer.specs.Tokens.{tokenAt}
 use Rattle.lexer.proofs.TokenLaws.{token-fits}
-use Rattle.lexing.specs.Lexing.{textOf}
 use Rattle.lexing.proofs.Lexing.{token-cut, by-rule}
 use Rattle.strings.specs.declared.Edition.{Edition}
 use Rattle.grammar.specs.Strings.{StringKind, literal, basic, ml-literal, ml-basic, tokenKind, encoding, mark, Apart, Derived, Means}

@@ -19,7 +19,8 @@ use Rattle.token.specs.declared.Token.{Token}
 use Rattle.token.specs.Records.{tokenOf}
 use Rattle.lexer.specs.Table.{kindOf, extent, tokenLen}
 use Rattle.lexer.specs.Tokens.{tokenAt, eofAt, lineAfter, tokensFrom, startOf, tokensOf}
-use Rattle.lexer.specs.Steps.{cursorOf, startAnswer, astray, stepOf, stepNumber}
+use Rattle.lexer.specs.Steps.{cursorOf, startAnswer, astray, stepOf}
+use Rattle.lexer.specs.Told.{stepNumber}
 use Rattle.lexer.specs.Lines.{lineOf}
 use Rattle.place.proofs.SpanLaws.{or-false}
 use Rattle.lexer.specs.declared.Cursor.{Cursor}

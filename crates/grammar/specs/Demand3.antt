@@ -6,7 +6,7 @@
 -- encoding of the value that TOML gives it, which is one; and the same holds of what `decode` answers. Conversely, a derived
 -- text that stands where a token starts, and that its own quote mark does not follow, is one token of its kind and length.
 --
--- The names: `tokensOf`, `stepOf` (lexer) are whole lexing and a step; `textOf doc r` (lexing) is the part of doc from the
+-- The names: `tokensOf`, `stepOf` (lexer) are whole lexing and a step; `textOf doc r` (token) is the part of doc from the
 -- start of the token r to its end; `errorsOf`, `bytesOf` (strings) are the errors and the bytes of a decoded text;
 -- `decodeIn`, `after` (strings) are what `decode_in` promises to answer and to leave in lent memory; `encodes` (text) is the
 -- UTF-8 of scalar values; `Derived`, `Means`, `Apart` (Strings.antt) are the grammar's side.
@@ -26,7 +26,7 @@ use Rattle.strings.specs.declared.Decoded.the-variants.{Written}
 use Rattle.strings.specs.Encodings.{choiceBy, editionNumber}
 use Rattle.strings.specs.Decoding.{bytesOf, errorsOf, bytesBy, decodeIn, after, decodedNumber}
 use Rattle.token.specs.KindNumbers.{kindNumber}
-use Rattle.token.specs.Records.{tokenOf}
+use Rattle.token.specs.Records.{tokenOf, textOf}
 use Rattle.token.specs.declared.Token.{Token}
 use Rattle.lexer.specs.Tokens.{tokensOf}
 use Rattle.lexer.specs.Lines.{lineFeeds, lineOf}
@@ -34,7 +34,6 @@ use Rattle.lexer.specs.Steps.{cursorOf, startAnswer, stepOf}
 use Rattle.lexer.specs.declared.Cursor.{Cursor}
 use Rattle.lexer.specs.declared.Start.the-variants.{At}
 use Rattle.lexer.specs.declared.Step.the-variants.{Token as Given}
-use Rattle.lexing.specs.Lexing.{textOf}
 use Rattle.grammar.specs.Strings.{StringKind, tokenKind, encoding, mark, Apart, Derived, Means}
 
 -- ---- texts, in bytes

@@ -8,13 +8,14 @@ use lib.Dec.{ltb, eqb}
 use Rattle.classes.proofs.Conds.{cond-case, of-choice}
 use Rattle.text.specs.Refusals.{limit}
 use Rattle.text.specs.Utf8Read.{validPrefix}
-use Rattle.text.specs.Answers.{checkOf, checkFault}
+use Rattle.text.specs.Answers.{checkOf}
+use Rattle.text.specs.Told.{checkFault}
 use Rattle.text.specs.declared.utf8.Utf8Check.{Utf8Check}
 use Rattle.text.specs.declared.utf8.Utf8Check.the-variants.{Valid}
-use Rattle.lexer.specs.Steps.{startAnswer, startNumber, startValue, startRefusal, startReturned}
-use Rattle.lexer.specs.Steps.{stepWithin, astray, stepOf, stepNumber, stepValue, stepRefusal, stepReturned}
+use Rattle.lexer.specs.Steps.{startAnswer}
+use Rattle.lexer.specs.Told.{startNumber, startValue, startRefusal, startReturned, stepNumber, stepValue, stepRefusal, stepReturned, lexedNumber, lexedValue, lexedLength, lexRefusal, lexReturned}
+use Rattle.lexer.specs.Steps.{stepWithin, astray, stepOf}
 use Rattle.lexer.specs.Whole.{tokenCount, lexChecked, lexAnswer, lexMemory}
-use Rattle.lexer.specs.Whole.{lexedNumber, lexedValue, lexedLength, lexRefusal, lexReturned}
 use Rattle.lexer.specs.declared.Cursor.{Cursor}
 use Rattle.lexer.specs.declared.Start.{Start}
 use Rattle.lexer.specs.declared.Step.{Step}

@@ -1,19 +1,12 @@
 -- RULE. The starting cursor and one step, for every document and every cursor.
 -- Assumes nothing.
 use Prim.Native.Nat.{ℕ, _+_}
-use mathlib.Core.Bool.{Bool, true, false, cond, _||_}
-use mathlib.Core.List.{List}
-use lib.ListN.{length, drop}
-use lib.Dec.{ltb, eqb}
-use Rattle.text.specs.Refusals.{limit, refusalNumber, refusalValue}
-use Rattle.text.specs.declared.refusal.Refusal.the-variants.{TooLong, OutOfPlace}
-use Rattle.lexer.specs.Table.{tokenLen}
-use Rattle.lexer.specs.Tokens.{tokenAt, eofAt, lineAfter, startOf}
-use Rattle.lexer.specs.declared.Cursor.{Cursor}
-use Rattle.lexer.specs.declared.Start.{Start}
-use Rattle.lexer.specs.declared.Start.the-variants.{At, Refused as Unstarted}
-use Rattle.lexer.specs.declared.Step.{Step}
-use Rattle.lexer.specs.declared.Step.the-variants.{Token as Given, End, Refused}
+use mathlib.Core.{Bool.Bool, Bool.true, Bool.false, Bool.cond, Bool._||_, List.List}
+use lib.{ListN.length, ListN.drop, Dec.ltb, Dec.eqb}
+use Rattle.text.specs.{Refusals.limit}
+use Rattle.text.specs.declared.{refusal.Refusal.the-variants.TooLong, refusal.Refusal.the-variants.OutOfPlace}
+use Rattle.lexer.specs.{Table.tokenLen, Tokens.tokenAt, Tokens.eofAt, Tokens.lineAfter, Tokens.startOf}
+use Rattle.lexer.specs.declared.{Cursor.Cursor, Start.Start, Start.the-variants.At, Start.the-variants.Refused as Unstarted, Step.Step, Step.the-variants.Token as Given, Step.the-variants.End, Step.the-variants.Refused}
 
 abbrev pub cursorOf : ℕ → ℕ → Bool → Cursor
 cursorOf place line ended = record { place = place; line = line; ended = ended }
@@ -27,25 +20,10 @@ bitOf false = 0
 unfoldable pub startAnswer : List ℕ → Start
 startAnswer doc = cond (ltb limit (length doc)) (Unstarted TooLong) (At (cursorOf (startOf doc) 1 false))
 
--- its number, the number returned, and its cursor: all zero where refused
-abbrev pub startNumber : Start → ℕ
-startNumber (At c) = 0
-startNumber (Unstarted r) = refusalNumber r
-
-abbrev pub startValue : Start → ℕ
-startValue (At c) = 0
-startValue (Unstarted r) = refusalValue r
-
+-- its cursor: all zero where refused
 abbrev pub startCursor : Start → Cursor
 startCursor (At c) = c
 startCursor (Unstarted r) = cursorOf 0 0 false
-
--- these are, by the document: 2 with the limit, else 0
-abbrev pub startRefusal : List ℕ → ℕ
-startRefusal doc = cond (ltb limit (length doc)) 2 0
-
-abbrev pub startReturned : List ℕ → ℕ
-startReturned doc = cond (ltb limit (length doc)) limit 0
 
 -- at the end of the document a cursor not yet ended gives Eof and becomes ended, and an ended one gives the end;
 -- before it the token at the place, whatever byte stands there, and the ended flag is carried along. The cursor's line,
@@ -67,21 +45,3 @@ stepOf doc c =
     cond (ltb limit (length doc)) (Refused TooLong)
     (cond (astray doc c) (Refused (OutOfPlace (length doc)))
     (stepWithin doc c))
-
--- its number and the number returned
-abbrev pub stepNumber : Step → ℕ
-stepNumber (Given t c) = 0
-stepNumber End = 0
-stepNumber (Refused r) = refusalNumber r
-
-abbrev pub stepValue : Step → ℕ
-stepValue (Given t c) = 0
-stepValue End = 0
-stepValue (Refused r) = refusalValue r
-
--- these are, by the document and the cursor: 2 with the limit, 6 with the document's length, else 0
-abbrev pub stepRefusal : List ℕ → Cursor → ℕ
-stepRefusal doc c = cond (ltb limit (length doc)) 2 (cond (astray doc c) 6 0)
-
-abbrev pub stepReturned : List ℕ → Cursor → ℕ
-stepReturned doc c = cond (ltb limit (length doc)) limit (cond (astray doc c) (length doc) 0)

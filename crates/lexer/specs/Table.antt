@@ -1,32 +1,29 @@
 -- RULE. The token table: a token's kind by its first bytes, and its extent by its kind.
 -- Assumes nothing.
 use Prim.Native.Nat.{ℕ, suc}
-use mathlib.Core.Bool.{Bool, false, cond}
-use mathlib.Core.List.{List, [], _∷_}
-use lib.ListN.{drop}
-use lib.Dec.{eqb}
-use Rattle.classes.specs.Classes.{wschar}
-use Rattle.classes.specs.Runs.{run}
-use Rattle.token.specs.declared.TokenKind.{TokenKind}
+use mathlib.Core.{Bool.Bool, Bool.false, Bool.cond, List.List, List.[], List._∷_}
+use lib.{ListN.drop, Dec.eqb}
+use Rattle.classes.specs.{Classes.wschar, Runs.run}
+use Rattle.token.specs.declared.{TokenKind.TokenKind}
 use Rattle.token.specs.declared.TokenKind.the-variants.{Dot, Equals, Comma, LeftSquareBracket, RightSquareBracket, LeftCurlyBracket, RightCurlyBracket, Whitespace, Comment, Newline, LiteralString, BasicString, MlLiteralString, MlBasicString, Atom, Eof}
-use Rattle.scans.specs.Bytes.{eol, inComment, inAtom}
-use Rattle.scans.specs.Extents.{lineTail, triple, mlTail, newlineTail}
+use Rattle.scans.specs.{Bytes.eol, Bytes.inComment, Bytes.inAtom, Extents.lineTail, Extents.triple, Extents.mlTail, Extents.newlineTail}
 
--- the kind by the first byte, and by whether three of it stand there: three quote marks always open the multi-line kind
+-- the kind by the first byte, and by whether three of it stand there: three quote marks always open the multi-line kind.
+-- In this order: . = , [ ] { } space or tab # CR or LF ' " and any other
 unfoldable pub kindBy : ℕ → Bool → TokenKind
 kindBy b three =
-    cond (eqb b 46) Dot
-    (cond (eqb b 61) Equals
-    (cond (eqb b 44) Comma
-    (cond (eqb b 91) LeftSquareBracket
-    (cond (eqb b 93) RightSquareBracket
-    (cond (eqb b 123) LeftCurlyBracket
-    (cond (eqb b 125) RightCurlyBracket
+    cond (eqb b 0x2E) Dot
+    (cond (eqb b 0x3D) Equals
+    (cond (eqb b 0x2C) Comma
+    (cond (eqb b 0x5B) LeftSquareBracket
+    (cond (eqb b 0x5D) RightSquareBracket
+    (cond (eqb b 0x7B) LeftCurlyBracket
+    (cond (eqb b 0x7D) RightCurlyBracket
     (cond (wschar b) Whitespace
-    (cond (eqb b 35) Comment
+    (cond (eqb b 0x23) Comment
     (cond (eol b) Newline
-    (cond (eqb b 39) (cond three MlLiteralString LiteralString)
-    (cond (eqb b 34) (cond three MlBasicString BasicString)
+    (cond (eqb b 0x27) (cond three MlLiteralString LiteralString)
+    (cond (eqb b 0x22) (cond three MlBasicString BasicString)
     Atom)))))))))))
 
 -- no bytes are the end
@@ -51,11 +48,11 @@ extent Comment s = suc (run inComment (drop 1 s))
 -- LF; CR LF; or a CR alone
 extent Newline s = suc (newlineTail s)
 -- the opening mark and what it opens
-extent LiteralString s = suc (lineTail 39 false (drop 1 s))
-extent BasicString s = suc (lineTail 34 false (drop 1 s))
+extent LiteralString s = suc (lineTail 0x27 false (drop 1 s))
+extent BasicString s = suc (lineTail 0x22 false (drop 1 s))
 -- the three opening marks and what they open
-extent MlLiteralString s = suc (suc (suc (mlTail 39 false (drop 3 s))))
-extent MlBasicString s = suc (suc (suc (mlTail 34 false (drop 3 s))))
+extent MlLiteralString s = suc (suc (suc (mlTail 0x27 false (drop 3 s))))
+extent MlBasicString s = suc (suc (suc (mlTail 0x22 false (drop 3 s))))
 -- up to one of . = , [ ] { } space tab # CR LF
 extent Atom s = suc (run inAtom (drop 1 s))
 -- empty

@@ -1,16 +1,11 @@
 -- RULE. The tokens of a document.
 -- Assumes nothing.
 use Prim.Native.Nat.{ℕ, zero, suc, pred, _+_}
-use mathlib.Core.Bool.{Bool, cond, _&&_}
-use mathlib.Core.List.{List, [], _∷_}
-use lib.ListN.{getD, take, drop}
-use lib.Dec.{eqb}
-use Rattle.token.specs.declared.TokenKind.{TokenKind}
-use Rattle.token.specs.declared.TokenKind.the-variants.{Eof}
-use Rattle.token.specs.declared.Token.{Token}
-use Rattle.token.specs.Records.{tokenOf}
-use Rattle.lexer.specs.Lines.{lineFeeds, lineBehind}
-use Rattle.lexer.specs.Table.{kindOf, extent, tokenLen}
+use mathlib.Core.{Bool.Bool, Bool.cond, Bool._&&_, List.List, List.[], List._∷_}
+use lib.{ListN.getD, ListN.take, ListN.drop, Dec.eqb}
+use Rattle.token.specs.declared.{TokenKind.TokenKind, TokenKind.the-variants.Eof, Token.Token}
+use Rattle.token.specs.{Records.tokenOf}
+use Rattle.lexer.specs.{Lines.lineFeeds, Lines.lineBehind, Table.kindOf, Table.extent, Table.tokenLen}
 
 -- a token of a kind, on the bytes s that stand from `at` on, the first of them on a line
 abbrev pub tokenBy : TokenKind → ℕ → ℕ → List ℕ → Token

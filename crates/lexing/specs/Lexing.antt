@@ -8,13 +8,14 @@ use Rattle.text.specs.Refusals.{limit}
 use Rattle.text.specs.Utf8.{Utf8}
 use Rattle.token.specs.declared.TokenKind.the-variants.{Eof}
 use Rattle.token.specs.declared.Token.{Token}
-use Rattle.token.specs.Records.{tokenOf}
+use Rattle.token.specs.Records.{tokenOf, textOf}
 use Rattle.lexer.specs.Lines.{lineOf}
 use Rattle.lexer.specs.Table.{kindOf, tokenLen}
 use Rattle.lexer.specs.Tokens.{startOf, tokensOf}
 use Rattle.lexer.specs.Steps.{cursorOf, startAnswer, startCursor, stepOf}
 use Rattle.lexer.specs.Whole.{recordsOf}
-use Rattle.place.specs.Positions.{positionAnswer, positionLine}
+use Rattle.place.specs.Positions.{positionAnswer}
+use Rattle.place.specs.Told.{positionLine}
 use Rattle.lexer.specs.declared.Cursor.{Cursor}
 use Rattle.lexer.specs.declared.Step.{Step}
 use Rattle.lexer.specs.declared.Step.the-variants.{Token as Given, End, Refused}
@@ -91,10 +92,6 @@ NoGap = (doc : List ℕ) → Follow (startOf doc) (tokensOf doc) (length doc)
 -- `not-empty`: every token but Eof has at least one byte
 abbrev pub NotEmpty : Type 0
 NotEmpty = (doc : List ℕ) (t : Token) → List·Memᴰ t (tokensOf doc) → (t .kind ≡ Eof → ⊥) → t .span .start < t .span .end
-
--- the bytes of a token
-abbrev pub textOf : List ℕ → Token → List ℕ
-textOf doc t = take (t .span .end - t .span .start) (drop (t .span .start) doc)
 
 -- `uncut`: on UTF-8 no token cuts a character, so the text of each token is UTF-8
 abbrev pub Uncut : Type 0

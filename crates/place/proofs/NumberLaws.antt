@@ -8,8 +8,9 @@ use lib.Dec.{ltb}
 use Rattle.text.specs.Refusals.{limit}
 use Rattle.token.specs.declared.Span.{Span}
 use Rattle.classes.proofs.Conds.{of-choice}
-use Rattle.place.specs.Spans.{misplaced, spanAnswer, spanNumber, spanValue, spanRefusal, spanReturned}
-use Rattle.place.specs.Positions.{positionAnswer, positionNumber, positionValue, positionRefusal, positionReturned}
+use Rattle.place.specs.Spans.{misplaced, spanAnswer}
+use Rattle.place.specs.Told.{spanNumber, spanValue, spanRefusal, spanReturned, positionNumber, positionValue, positionRefusal, positionReturned}
+use Rattle.place.specs.Positions.{positionAnswer}
 use Rattle.place.specs.declared.SpanCheck.{SpanCheck}
 use Rattle.place.specs.declared.Position.{Position}
 

@@ -2,11 +2,9 @@
 -- proofs/ColumnLaws.antt, proves that there it counts the scalar values named here.
 -- Assumes nothing.
 use Prim.Native.Nat.{ℕ, _+_, _-_}
-use mathlib.Core.Bool.{cond}
-use mathlib.Core.List.{List, [], _∷_}
-use lib.ListN.{length}
-use lib.Dec.{ltb, eqb}
-use Rattle.text.specs.Utf8.{encodeScalar}
+use mathlib.Core.{Bool.cond, List.List, List.[], List._∷_}
+use lib.{ListN.length, Dec.ltb, Dec.eqb}
+use Rattle.text.specs.{Utf8.encodeScalar}
 
 -- the scalar values, of those that are encoded one behind another, whose encodings begin before an offset
 unfoldable pub begun : ℕ → List ℕ → List ℕ
@@ -21,4 +19,4 @@ unmarked (c ∷ cs) = cond (eqb c 0xFEFF) cs (c ∷ cs)
 -- how many stand behind the last LF, where n on its line stand before them
 unfoldable pub onLine : ℕ → List ℕ → ℕ
 onLine n [] = n
-onLine n (c ∷ cs) = onLine (cond (eqb c 10) 0 (n + 1)) cs
+onLine n (c ∷ cs) = onLine (cond (eqb c 0x0A) 0 (n + 1)) cs

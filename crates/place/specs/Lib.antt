@@ -1,3 +1,4 @@
 pub mod Spans
 pub mod Positions
+pub mod Told
 pub mod ColumnMeans

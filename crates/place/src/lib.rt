@@ -3,8 +3,9 @@
 ghost use mathlib.Core.Path.{_≡_};
 ghost use Prim.Native.Nat.{_≤_};
 ghost use lib.ListN.{length, getD};
-ghost use Rattle.place.specs.Spans.{inside, spanAnswer, spanNumber, spanValue, spanRefusal, spanReturned, spanText};
-ghost use Rattle.place.specs.Positions.{columnOf, positionAnswer, positionNumber, positionValue, positionRefusal, positionReturned};
+ghost use Rattle.place.specs.Spans.{inside, spanAnswer, spanText};
+ghost use Rattle.place.specs.Told.{spanNumber, spanValue, spanRefusal, spanReturned, positionNumber, positionValue, positionRefusal, positionReturned};
+ghost use Rattle.place.specs.Positions.{columnOf, positionAnswer};
 use text::LIMIT;
 use text::Refusal;
 use token::Span;

@@ -14,7 +14,8 @@ use Rattle.text.specs.declared.refusal.Refusal.{Refusal}
 use Rattle.text.specs.declared.refusal.Refusal.the-variants.{FewTokens}
 use Rattle.text.specs.declared.utf8.Utf8Check.{Utf8Check}
 use Rattle.text.specs.declared.utf8.Utf8Check.the-variants.{Valid, Refused as Broken}
-use Rattle.lexer.specs.Whole.{tokenCount, lexAnswer, lexedValue}
+use Rattle.lexer.specs.Whole.{tokenCount, lexAnswer}
+use Rattle.lexer.specs.Told.{lexedValue}
 use Rattle.lexer.specs.declared.Lexed.{Lexed}
 use Rattle.lexer.specs.declared.Lexed.the-variants.{Tokens, Refused}
 use Rattle.records.specs.Turns.{roomFor}

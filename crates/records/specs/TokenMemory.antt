@@ -2,17 +2,13 @@
 -- numbers, `lexAnswer`: refusals 2, 1 and 3 in this order, else the count of tokens.
 -- Assumes nothing.
 use Prim.Native.Nat.{ℕ}
-use mathlib.Core.Bool.{cond}
-use mathlib.Core.List.{List, _++_}
-use lib.ListN.{length, drop, replicate}
-use lib.Dec.{ltb}
-use Rattle.text.specs.Answers.{checkOf}
-use Rattle.text.specs.declared.utf8.Utf8Check.{Utf8Check}
-use Rattle.text.specs.declared.utf8.Utf8Check.the-variants.{Valid, Refused as Broken}
-use Rattle.token.specs.declared.Token.{Token}
-use Rattle.lexer.specs.Tokens.{tokensOf, eofAt}
-use Rattle.lexer.specs.Whole.{tokenCount, lexAnswer}
-use Rattle.records.specs.declared.LexedEight.{LexedEight}
+use mathlib.Core.{Bool.cond, List.List, List._++_}
+use lib.{ListN.length, ListN.drop, ListN.replicate, Dec.ltb}
+use Rattle.text.specs.{Answers.checkOf}
+use Rattle.text.specs.declared.{utf8.Utf8Check.Utf8Check, utf8.Utf8Check.the-variants.Valid, utf8.Utf8Check.the-variants.Refused as Broken}
+use Rattle.token.specs.declared.{Token.Token}
+use Rattle.lexer.specs.{Tokens.tokensOf, Tokens.eofAt, Whole.tokenCount, Whole.lexAnswer}
+use Rattle.records.specs.declared.{LexedEight.LexedEight}
 
 -- the records afterwards: filled from the front, those after the last written kept; all kept where refused
 abbrev pub tokensChecked : Utf8Check → List ℕ → List Token → List Token

@@ -1,17 +1,15 @@
 -- RULE. How far each kind of token reaches, on the list of bytes from a place on, for all bytes.
 -- Assumes nothing.
 use Prim.Native.Nat.{ℕ, suc, _+_}
-use mathlib.Core.Bool.{Bool, not, cond, _&&_}
-use mathlib.Core.List.{List, [], _∷_}
-use lib.ListN.{getD, drop}
-use lib.Dec.{eqb}
-use Rattle.scans.specs.Bytes.{hides, closes}
+use mathlib.Core.{Bool.Bool, Bool.not, Bool.cond, Bool._&&_, List.List, List.[], List._∷_}
+use lib.{ListN.getD, ListN.drop, Dec.eqb}
+use Rattle.scans.specs.{Bytes.hides, Bytes.closes}
 
 -- behind the opening mark q of a string on one line: through the first q that is not hidden, else up to the next LF,
 -- whichever is first, else to the end; h says whether the first byte is hidden. A CR does not stop it
 unfoldable pub lineTail : ℕ → Bool → List ℕ → ℕ
 lineTail q h [] = 0
-lineTail q h (b ∷ s) = cond (closes q h b) 1 (cond (eqb b 10) 0 (suc (lineTail q (hides q h b) s)))
+lineTail q h (b ∷ s) = cond (closes q h b) 1 (cond (eqb b 0x0A) 0 (suc (lineTail q (hides q h b) s)))
 
 -- three marks q stand at the front (no mark is 0, which `getD` gives beyond the end)
 unfoldable pub triple : ℕ → List ℕ → Bool
@@ -29,4 +27,4 @@ mlTail q h (b ∷ s) =
 
 -- behind the first byte of a newline: the LF after a CR, if it is there; a CR alone is a newline too
 unfoldable pub newlineTail : List ℕ → ℕ
-newlineTail s = cond (eqb (getD s 0 0) 13 && eqb (getD s 1 0) 10) 1 0
+newlineTail s = cond (eqb (getD s 0 0) 0x0D && eqb (getD s 1 0) 0x0A) 1 0

@@ -9,7 +9,8 @@ use lib.ListN.{length}
 use Rattle.classes.proofs.Conds.{cond-case, of-choice}
 use Rattle.text.specs.Refusals.{limit, refusalLength}
 use Rattle.text.specs.Utf8Read.{validPrefix}
-use Rattle.text.specs.Answers.{checkOf, checkFault}
+use Rattle.text.specs.Answers.{checkOf}
+use Rattle.text.specs.Told.{checkFault}
 use Rattle.text.specs.declared.refusal.Refusal.{Refusal}
 use Rattle.text.specs.declared.refusal.Refusal.the-variants.{TooLong, ShortOutput, FewErrors}
 use Rattle.text.specs.declared.utf8.Utf8Check.{Utf8Check}

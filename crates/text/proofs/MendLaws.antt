@@ -12,9 +12,10 @@ use lib.Seq.{take-length, take-append-seam, take-append-le, length-take-le}
 use borrow.Author.Tests.{eq-eqb}
 use Rattle.text.specs.Utf8.{Scalar, encodeScalar, encodes, All, Utf8}
 use Rattle.text.specs.Utf8Read.{validPrefix}
-use Rattle.text.specs.Faults.{Begins, faulty, Mendable}
+use Rattle.text.specs.Faults.{Begins, faulty}
 use Rattle.text.specs.Answers.{checkOf}
-use Rattle.text.specs.CheckMeans.{Longest, LengthTells, LengthElse}
+use Rattle.text.specs.CheckMeans.{Longest}
+use Rattle.text.specs.LengthTells.{Mendable, LengthTells, LengthElse}
 use Rattle.text.specs.declared.refusal.Refusal.the-variants.{NotUtf8, TooLong, FewTokens, ShortOutput, FewErrors, OutOfPlace, NoKind, NoEdition}
 use Rattle.text.specs.declared.utf8.Utf8Check.the-variants.{Refused}
 use Rattle.classes.proofs.Conds.{by-eq}

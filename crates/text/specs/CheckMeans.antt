@@ -2,17 +2,11 @@
 -- `checkOf`; `check-means`, in proofs/AnswerLaws.antt, proves that the equation says just this.
 -- Assumes nothing.
 use Prim.Native.Nat.{ℕ, _≤_, _<_}
-use mathlib.Core.Path.{_≡_}
-use mathlib.Core.Logic.{_↔_}
-use mathlib.Core.List.{List}
-use lib.ListN.{length, take, drop}
-use Rattle.text.specs.Refusals.{limit, refusalNumber, refusalLength}
-use Rattle.text.specs.Utf8.{Utf8}
-use Rattle.text.specs.Faults.{Fault, Mendable}
-use Rattle.text.specs.declared.refusal.Refusal.{Refusal}
+use mathlib.Core.{Path._≡_, List.List}
+use lib.{ListN.length, ListN.take, ListN.drop}
+use Rattle.text.specs.{Refusals.limit, Utf8.Utf8, Faults.Fault}
 use Rattle.text.specs.declared.refusal.Refusal.the-variants.{NotUtf8, TooLong, FewTokens, ShortOutput, FewErrors, OutOfPlace, NoKind, NoEdition}
-use Rattle.text.specs.declared.utf8.Utf8Check.{Utf8Check}
-use Rattle.text.specs.declared.utf8.Utf8Check.the-variants.{Valid, Refused}
+use Rattle.text.specs.declared.{utf8.Utf8Check.Utf8Check, utf8.Utf8Check.the-variants.Valid, utf8.Utf8Check.the-variants.Refused}
 
 -- n is the length of the longest prefix of s that is UTF-8: it is, and no longer one is
 pub record Longest (s : List ℕ) (n : ℕ) : Type 0 where
@@ -30,12 +24,3 @@ CheckMeans s (Refused (FewErrors n)) = ⊥
 CheckMeans s (Refused (OutOfPlace n)) = ⊥
 CheckMeans s (Refused (NoKind n)) = ⊥
 CheckMeans s (Refused (NoEdition n)) = ⊥
-
--- What the second number tells, proved in proofs/MendLaws.antt. `length-tells`: with refusal 1 it is at most 3, and 0
--- exactly where some further bytes would mend the text.
-abbrev pub LengthTells : Type 0
-LengthTells = (s : List ℕ) (n r : ℕ) → CheckMeans s (Refused (NotUtf8 n r)) → (r ≤ 3) × ((r ≡ 0) ↔ Mendable s)
-
--- `length-else`: with every other refusal it is 0
-abbrev pub LengthElse : Type 0
-LengthElse = (r : Refusal) → (refusalNumber r ≡ 1 → ⊥) → refusalLength r ≡ 0

@@ -2,12 +2,9 @@
 -- that are left behind the longest valid prefix. It is what Rust's own UTF-8 error tells: its `error_len`, 0 for none.
 -- Assumes nothing.
 use Prim.Native.Nat.{ℕ, _≤_}
-use mathlib.Core.Path.{_≡_}
-use mathlib.Core.List.{List, _++_}
-use mathlib.Core.Bool.{cond}
-use lib.ListN.{length, take}
-use lib.Dec.{eqb}
-use Rattle.text.specs.Utf8.{Scalar, encodeScalar, Utf8}
+use mathlib.Core.{Path._≡_, List.List, List._++_, Bool.cond}
+use lib.{ListN.length, ListN.take, Dec.eqb}
+use Rattle.text.specs.{Utf8.Scalar, Utf8.encodeScalar}
 
 -- bytes that begin the encoding of some scalar value: others, put behind them, make it whole
 abbrev pub Begins : List ℕ → Type 0
@@ -29,7 +26,3 @@ pub record Fault (t : List ℕ) (r : ℕ) : Type 0 where
   pub begun : ℕ
   pub is : LongestBegun t begun
   pub told : r ≡ faulty begun (length t)
-
--- some further bytes would mend the text
-abbrev pub Mendable : List ℕ → Type 0
-Mendable s = (more : List ℕ) × Utf8 (s ++ more)

@@ -3,5 +3,7 @@ pub mod Utf8
 pub mod Faults
 pub mod CheckMeans
 pub mod Answers
+pub mod Told
+pub mod LengthTells
 pub mod Utf8Read
 pub mod Lead

@@ -1,11 +1,8 @@
 -- RULE. UTF-8 as RFC 3629 has it: scalar values, their encodings, and the bytes that are such encodings, joined.
 -- Assumes nothing.
 use Prim.Native.Nat.{ℕ, _+_, _/_, _%_, _≤_, _<_}
-use mathlib.Core.Path.{_≡_}
-use mathlib.Core.Logic.{_⊎_}
-use mathlib.Core.List.{List, [], _∷_, _++_}
-use mathlib.Core.Bool.{cond}
-use lib.Dec.{ltb}
+use mathlib.Core.{Path._≡_, Logic._⊎_, List.List, List.[], List._∷_, List._++_, Bool.cond}
+use lib.{Dec.ltb}
 
 -- a Unicode scalar value: 0 to D7FF, or E000 to 10FFFF
 abbrev pub Scalar : ℕ → Type 0

@@ -10,7 +10,7 @@ ghost use Rattle.text.specs.Utf8.{encodeScalar};
 ghost use Rattle.text.specs.Utf8Read.{isScalar, ascii, charLen, Passed, Along};
 ghost use Rattle.text.specs.Lead.{leadOf, onesOf, Among, Asked, Character, BegunAt, faultLen};
 ghost use Rattle.text.specs.Answers.{padded, encodedOf, checkOf};
-ghost use Rattle.text.specs.Answers.{checkNumber, checkValue, checkLength, checkRefusal, checkReturned, checkFault};
+ghost use Rattle.text.specs.Told.{checkNumber, checkValue, checkLength, checkRefusal, checkReturned, checkFault};
 use crate::refusal::LIMIT;
 use crate::refusal::Refusal;
 

@@ -2,54 +2,36 @@
 -- Assumes nothing.
 use Prim.Native.Nat.{ℕ}
 use mathlib.Core.Path.{_≡_, refl, _∙_}
-use mathlib.Core.Bool.{Bool, true, false, cond, _||_}
+use mathlib.Core.Bool.{cond}
+use mathlib.Core.List.{List, [], _∷_}
 use lib.Dec.{eqb}
-use Rattle.classes.proofs.Conds.{of-choice}
+use Rattle.classes.proofs.Conds.{cond-case}
 use Rattle.text.specs.declared.refusal.Refusal.the-variants.{NoKind}
-use Rattle.token.specs.KindNumbers.{kindOfNumber, kindReadNumber, kindReadValue, isKind, kindRefusal, kindReturned}
-use Rattle.token.specs.Descriptions.{descriptionBy, descriptionOf, answerNumber, answerValue}
+use Rattle.token.specs.KindNumbers.{kindNumber, kinds, kindAmong, kindOfNumber}
+use Rattle.token.specs.Told.{kindReadNumber, kindReadValue, isRead, kindRefusal, kindReturned, answerNumber, answerValue}
+use Rattle.token.specs.Descriptions.{descriptionBy, descriptionOf}
 use Rattle.token.specs.Encodings.{encodingBy, encodingOf}
 use Rattle.token.specs.declared.TokenKind.{TokenKind}
-use Rattle.token.specs.declared.TokenKind.the-variants.{Dot, Equals, Comma, LeftSquareBracket, RightSquareBracket, LeftCurlyBracket, RightCurlyBracket, Whitespace, Comment, Newline, LiteralString, BasicString, MlLiteralString, MlBasicString, Atom, Eof}
 use Rattle.token.specs.declared.KindRead.{KindRead}
 use Rattle.token.specs.declared.KindRead.the-variants.{Kind, Refused}
 use Rattle.token.specs.declared.Answer.{Answer}
 use Rattle.token.specs.declared.Description.{Description}
 use Rattle.token.specs.declared.Encoding.{Encoding}
 
--- one number more that is a kind's
-more : (f : KindRead → ℕ) (v : ℕ) (t s : Bool) {x y : KindRead} → f x ≡ 0 → f y ≡ cond s 0 v → f (cond t x y) ≡ cond (t || s) 0 v
-more f v true s p q = p
-more f v false s p q = q
-
 -- what is read off a kind and off a refusal is read off what a number is read as
-read-as : (f : KindRead → ℕ) (n v : ℕ) → ((k : TokenKind) → f (Kind k) ≡ 0) → f (Refused (NoKind n)) ≡ v
-    → f (kindOfNumber n) ≡ cond (isKind n) 0 v
-unfolding kindOfNumber
-read-as f n v h e =
-    more f v (eqb n 46) _ (h Dot)
-    (more f v (eqb n 61) _ (h Equals)
-    (more f v (eqb n 44) _ (h Comma)
-    (more f v (eqb n 91) _ (h LeftSquareBracket)
-    (more f v (eqb n 93) _ (h RightSquareBracket)
-    (more f v (eqb n 123) _ (h LeftCurlyBracket)
-    (more f v (eqb n 125) _ (h RightCurlyBracket)
-    (more f v (eqb n 32) _ (h Whitespace)
-    (more f v (eqb n 35) _ (h Comment)
-    (more f v (eqb n 10) _ (h Newline)
-    (more f v (eqb n 39) _ (h LiteralString)
-    (more f v (eqb n 34) _ (h BasicString)
-    (more f v (eqb n 1) _ (h MlLiteralString)
-    (more f v (eqb n 2) _ (h MlBasicString)
-    (more f v (eqb n 3) _ (h Atom)
-    (of-choice f (eqb n 4) (h Eof) e)))))))))))))))
+read-among : (f : KindRead → ℕ) (n v : ℕ) → ((k : TokenKind) → f (Kind k) ≡ 0) → f (Refused (NoKind n)) ≡ v
+    → (ks : List TokenKind) → f (kindAmong ks n) ≡ cond (isRead (kindAmong ks n)) 0 v
+read-among f n v h e [] = e
+read-among f n v h e (k ∷ ks) =
+    cond-case (λ (r : KindRead). f r ≡ cond (isRead r) 0 v) (eqb n (kindNumber k)) (λ _. h k) (λ _. read-among f n v h e ks)
 
 -- what is read has the numbers of the number
 abbrev Numbered : ℕ → KindRead → Type 0
 Numbered n k = (kindReadNumber k ≡ kindRefusal n) × (kindReadValue k ≡ kindReturned n)
 
 numbered : (n : ℕ) → Numbered n (kindOfNumber n)
-numbered n = (read-as kindReadNumber n 7 (λ k. refl) refl, read-as kindReadValue n n (λ k. refl) refl)
+unfolding kindOfNumber
+numbered n = (read-among kindReadNumber n 7 (λ k. refl) refl kinds, read-among kindReadValue n n (λ k. refl) refl kinds)
 
 pub read-numbers : (n : ℕ) (r : KindRead) → r ≡ kindOfNumber n → (r ≡ kindOfNumber n) × Numbered n r
 read-numbers n r e = (e, rw e (numbered n))

@@ -1,13 +1,9 @@
 -- RULE. The encoding of a kind: the number by which a decoder is chosen.
 -- Assumes nothing.
 use Prim.Native.Nat.{ℕ}
-use Rattle.token.specs.declared.TokenKind.{TokenKind}
+use Rattle.token.specs.declared.{TokenKind.TokenKind, KindRead.KindRead, KindRead.the-variants.Kind, KindRead.the-variants.Refused as Unread, Answer.the-variants.Given, Answer.the-variants.Refused, Encoding.Encoding}
 use Rattle.token.specs.declared.TokenKind.the-variants.{Dot, Equals, Comma, LeftSquareBracket, RightSquareBracket, LeftCurlyBracket, RightCurlyBracket, Whitespace, Comment, Newline, LiteralString, BasicString, MlLiteralString, MlBasicString, Atom, Eof}
-use Rattle.token.specs.declared.KindRead.{KindRead}
-use Rattle.token.specs.declared.KindRead.the-variants.{Kind, Refused as Unread}
-use Rattle.token.specs.declared.Answer.the-variants.{Given, Refused}
-use Rattle.token.specs.declared.Encoding.{Encoding}
-use Rattle.token.specs.KindNumbers.{kindOfNumber}
+use Rattle.token.specs.{KindNumbers.kindOfNumber}
 
 -- the kind's own number for the four kinds of string, else 0
 abbrev pub kindEncoding : TokenKind → ℕ

@@ -1,11 +1,10 @@
 -- RULE. A token is its kind, its span and the line of its first byte; its record is four numbers.
 -- Assumes nothing.
-use Prim.Native.Nat.{ℕ}
-use mathlib.Core.List.{List, [], _∷_}
-use Rattle.token.specs.declared.TokenKind.{TokenKind}
-use Rattle.token.specs.declared.Span.{Span}
-use Rattle.token.specs.declared.Token.{Token}
-use Rattle.token.specs.KindNumbers.{kindNumber}
+use Prim.Native.Nat.{ℕ, _-_}
+use mathlib.Core.{List.List, List.[], List._∷_}
+use lib.{ListN.take, ListN.drop}
+use Rattle.token.specs.declared.{TokenKind.TokenKind, Span.Span, Token.Token}
+use Rattle.token.specs.{KindNumbers.kindNumber}
 
 abbrev pub spanOf : ℕ → ℕ → Span
 spanOf start end = record { start = start; end = end }
@@ -17,3 +16,7 @@ tokenOf kind start end line = record { kind = kind; span = spanOf start end; lin
 -- the one place where a token is read into a record: kind number, start, end, line
 abbrev pub recordOf : Token → List ℕ
 recordOf t = kindNumber (t .kind) ∷ t .span .start ∷ t .span .end ∷ t .line ∷ []
+
+-- the bytes of a token of the document doc: those from its start to its end
+abbrev pub textOf : List ℕ → Token → List ℕ
+textOf doc t = take (t .span .end - t .span .start) (drop (t .span .start) doc)

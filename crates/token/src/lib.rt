@@ -4,8 +4,9 @@
 ghost use mathlib.Core.Path.{_≡_};
 ghost use Prim.Native.Nat.{_≤_};
 ghost use lib.ListN.{length};
-ghost use Rattle.token.specs.KindNumbers.{kindNumber, kindOfNumber, kindReadNumber, kindReadValue, kindRefusal, kindReturned};
-ghost use Rattle.token.specs.Descriptions.{describedBy, kindText, descriptionOf, answerNumber, answerValue};
+ghost use Rattle.token.specs.KindNumbers.{kindNumber, kindOfNumber};
+ghost use Rattle.token.specs.Descriptions.{describedBy, kindText, descriptionOf};
+ghost use Rattle.token.specs.Told.{kindReadNumber, kindReadValue, kindRefusal, kindReturned, answerNumber, answerValue};
 ghost use Rattle.token.specs.Encodings.{kindEncoding, encodingOf};
 ghost use Rattle.token.specs.Records.{spanOf, tokenOf, recordOf};
 use text::Refusal;

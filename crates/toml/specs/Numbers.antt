@@ -2,44 +2,18 @@
 -- refusal 1 the length of the faulty sequence; and the call's own results, zero where refused.
 -- Assumes nothing.
 use Prim.Native.Nat.{ℕ, _-_}
-use mathlib.Core.Bool.{Bool, false, not}
-use mathlib.Core.List.{List}
-use lib.Dec.{eqb}
-use lib.ListN.{length, take, drop}
-use Rattle.text.specs.Refusals.{refusalNumber, refusalValue, refusalLength}
-use Rattle.text.specs.declared.refusal.Refusal.{Refusal}
-use Rattle.text.specs.declared.utf8.Utf8Check.{Utf8Check}
-use Rattle.text.specs.declared.utf8.Utf8Check.the-variants.{Valid, Refused as Broken}
-use Rattle.token.specs.KindNumbers.{kindNumber}
-use Rattle.token.specs.declared.Answer.{Answer}
-use Rattle.token.specs.declared.Answer.the-variants.{Given as Told, Refused as Untold}
-use Rattle.token.specs.declared.Description.{Description}
-use Rattle.token.specs.declared.Encoding.{Encoding}
-use Rattle.lexer.specs.Steps.{cursorOf, bitOf}
-use Rattle.lexer.specs.declared.Cursor.{Cursor}
-use Rattle.lexer.specs.declared.Start.{Start}
-use Rattle.lexer.specs.declared.Start.the-variants.{At, Refused as Unstarted}
-use Rattle.lexer.specs.declared.Step.{Step}
-use Rattle.lexer.specs.declared.Step.the-variants.{Token, End, Refused as Unstepped}
-use Rattle.lexer.specs.declared.Lexed.{Lexed}
-use Rattle.lexer.specs.declared.Lexed.the-variants.{Tokens, Refused as Unlexed}
-use Rattle.place.specs.declared.SpanCheck.{SpanCheck}
-use Rattle.place.specs.declared.SpanCheck.the-variants.{Whole, Refused as Misplaced}
-use Rattle.place.specs.declared.Position.{Position}
-use Rattle.place.specs.declared.Position.the-variants.{At as Placed, Refused as Unplaced}
-use Rattle.strings.specs.Encodings.{choiceBy}
-use Rattle.strings.specs.Decoding.{decodeIn, bytesBy, errorsBy, after}
-use Rattle.strings.specs.declared.Decoded.{Decoded}
-use Rattle.strings.specs.declared.Decoded.the-variants.{Written, Refused as Undecoded}
-use Rattle.toml.specs.declared.Answered.{Answered}
-use Rattle.toml.specs.declared.CursorNumbers.{CursorNumbers}
-use Rattle.toml.specs.declared.Started.{Started}
-use Rattle.toml.specs.declared.Stepped.{Stepped}
-use Rattle.toml.specs.declared.Part.{Part}
-use Rattle.toml.specs.declared.Positioned.{Positioned}
-use Rattle.toml.specs.declared.DecodedText.{DecodedText}
-use Rattle.toml.specs.declared.Described.{Described}
-use Rattle.toml.specs.declared.EncodedKind.{EncodedKind}
+use mathlib.Core.{Bool.Bool, Bool.false, Bool.not, List.List}
+use lib.{Dec.eqb, ListN.length, ListN.take, ListN.drop}
+use Rattle.text.specs.{Refusals.refusalNumber, Refusals.refusalValue, Refusals.refusalLength}
+use Rattle.text.specs.declared.{refusal.Refusal.Refusal, utf8.Utf8Check.Utf8Check, utf8.Utf8Check.the-variants.Valid, utf8.Utf8Check.the-variants.Refused as Broken}
+use Rattle.token.specs.{KindNumbers.kindNumber}
+use Rattle.token.specs.declared.{Answer.Answer, Answer.the-variants.Given as Told, Answer.the-variants.Refused as Untold, Description.Description, Encoding.Encoding}
+use Rattle.lexer.specs.{Steps.cursorOf, Steps.bitOf}
+use Rattle.lexer.specs.declared.{Cursor.Cursor, Start.Start, Start.the-variants.At, Start.the-variants.Refused as Unstarted, Step.Step, Step.the-variants.Token, Step.the-variants.End, Step.the-variants.Refused as Unstepped, Lexed.Lexed, Lexed.the-variants.Tokens, Lexed.the-variants.Refused as Unlexed}
+use Rattle.place.specs.declared.{SpanCheck.SpanCheck, SpanCheck.the-variants.Whole, SpanCheck.the-variants.Refused as Misplaced, Position.Position, Position.the-variants.At as Placed, Position.the-variants.Refused as Unplaced}
+use Rattle.strings.specs.{Encodings.choiceBy, Decoding.decodeIn, Decoding.bytesBy, Decoding.errorsBy, Decoding.after}
+use Rattle.strings.specs.declared.{Decoded.Decoded, Decoded.the-variants.Written, Decoded.the-variants.Refused as Undecoded}
+use Rattle.toml.specs.declared.{Answered.Answered, CursorNumbers.CursorNumbers, Started.Started, Stepped.Stepped, Part.Part, Positioned.Positioned, DecodedText.DecodedText, Described.Described, EncodedKind.EncodedKind}
 
 -- a flag is 0 or 1 as an answer (`bitOf`), and anything but 0 says yes as an argument
 abbrev pub flag : ℕ → Bool

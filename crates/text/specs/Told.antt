@@ -1,0 +1,33 @@
+-- FOLLOWS. The numbers in which the UTF-8 check is told: each follows from its answer, and the promise of `check_utf8` says
+-- besides what they come to for the bytes. Proved by `told` in proofs/AnswerLaws.antt.
+-- Assumes nothing.
+use Prim.Native.Nat.{ℕ}
+use mathlib.Core.{Bool.cond, List.List}
+use lib.{ListN.length, ListN.drop, Dec.ltb, Dec.eqb}
+use Rattle.text.specs.{Refusals.limit, Refusals.refusalNumber, Refusals.refusalValue, Refusals.refusalLength, Utf8Read.validPrefix, Lead.faultLen}
+use Rattle.text.specs.declared.{utf8.Utf8Check.Utf8Check, utf8.Utf8Check.the-variants.Valid, utf8.Utf8Check.the-variants.Refused}
+
+-- its number and the number returned, and the second one, which only refusal 1 returns
+abbrev pub checkNumber : Utf8Check → ℕ
+checkNumber Valid = 0
+checkNumber (Refused r) = refusalNumber r
+
+abbrev pub checkValue : Utf8Check → ℕ
+checkValue Valid = 0
+checkValue (Refused r) = refusalValue r
+
+abbrev pub checkLength : Utf8Check → ℕ
+checkLength Valid = 0
+checkLength (Refused r) = refusalLength r
+
+-- what they come to for the bytes s: 2 with the limit, 1 with the lengths of the longest valid prefix and of the faulty
+-- sequence, else 0
+abbrev pub checkRefusal : List ℕ → ℕ
+checkRefusal s = cond (ltb limit (length s)) 2 (cond (eqb (validPrefix s) (length s)) 0 1)
+
+abbrev pub checkReturned : List ℕ → ℕ
+checkReturned s = cond (ltb limit (length s)) limit (cond (eqb (validPrefix s) (length s)) 0 (validPrefix s))
+
+abbrev pub checkFault : List ℕ → ℕ
+checkFault s =
+    cond (ltb limit (length s)) 0 (cond (eqb (validPrefix s) (length s)) 0 (faultLen (drop (validPrefix s) s)))
