@@ -1,4 +1,5 @@
 pub mod Conds
 pub mod ByteTable
 pub mod RunLaws
+pub mod FirstLaws
 pub mod OneAnswer

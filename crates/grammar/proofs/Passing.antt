@@ -7,12 +7,13 @@ use mathlib.Core.Logic.{_↔_}
 use mathlib.Core.Bool.{Bool, true, false, cond, _&&_}
 use mathlib.Core.List.{List, [], _∷_, _++_, append-assoc}
 use native.Mathlib.Omega.{arith}
-use lib.ListN.{length, getD, length-append}
+use lib.ListN.{length, drop, length-append}
 use lib.Dec.{eqb}
 use borrow.Author.Tests.{ne-eqb, eq-eqb}
 use Rattle.text.specs.Utf8.{encodes, All}
 use Rattle.text.proofs.EncodeLaws.{parts, encode-1}
 use Rattle.text.proofs.ReadLaws.{encodes-append}
+use Rattle.classes.specs.Runs.{stands}
 use Rattle.scans.specs.Bytes.{hides}
 use Rattle.scans.specs.Extents.{lineTail, triple, upToTwo, mlTail}
 use Rattle.grammar.specs.Grammar.{x20, x09, Newline, x0A, x0D-0A, BasicUnescaped, LiteralChar}
@@ -35,7 +36,7 @@ triple-no q b s h = rw (eq-eqb q q refl, ne-eqb b q h)
 
 pub triple-two : (q : ℕ) (s : List ℕ) → Apart q s → triple q (q ∷ (q ∷ s)) ≡ false
 unfolding triple
-triple-two q s h = rw (eq-eqb q q refl, ne-eqb (getD s 0 0) q h)
+triple-two q s h = rw (eq-eqb q q refl, h)
 
 pub triple-yes : (q : ℕ) (s : List ℕ) → triple q (q ∷ (q ∷ (q ∷ s))) ≡ true
 unfolding triple
@@ -142,15 +143,15 @@ two-le false y = omega arith
 
 up-le : (q : ℕ) (s : List ℕ) → upToTwo q s ≤ 2
 unfolding upToTwo
-up-le q s = two-le (eqb (getD s 0 0) q) (eqb (getD s 1 0) q)
+up-le q s = two-le (stands q s) (stands q (drop 1 s))
 
 up-none : (q : ℕ) (s : List ℕ) → Apart q s → upToTwo q s ≡ 0
 unfolding upToTwo
-up-none q s h = rw (ne-eqb (getD s 0 0) q h)
+up-none q s h = rw h
 
 up-one : (q : ℕ) (s : List ℕ) → Apart q s → upToTwo q (q ∷ s) ≡ 1
 unfolding upToTwo
-up-one q s h = rw (eq-eqb q q refl, ne-eqb (getD s 0 0) q h)
+up-one q s h = rw (eq-eqb q q refl, h)
 
 up-two : (q : ℕ) (s : List ℕ) → upToTwo q (q ∷ (q ∷ s)) ≡ 2
 unfolding upToTwo
@@ -184,7 +185,7 @@ module _ {q : ℕ} (m : Mark q) where
   marks-pass k0 b s h = omega arith
   marks-pass k1 b s h = omega (arith, ml-step q (b ∷ s) (triple-no q b s h) (m .hides-none))
   marks-pass k2 b s h =
-      let first = ml-step q (q ∷ (b ∷ s)) (triple-two q (b ∷ s) h) (m .hides-none) in
+      let first = ml-step q (q ∷ (b ∷ s)) (triple-two q (b ∷ s) (ne-eqb b q h)) (m .hides-none) in
       omega (arith, ml-step q (b ∷ s) (triple-no q b s h) (m .hides-none))
 
   ml-third : (s : List ℕ) → mlTail q false (q ∷ (q ∷ (q ∷ s))) ≡ 3 + upToTwo q s

@@ -3,8 +3,9 @@
 -- Assumes nothing.
 use Prim.Native.Nat.{ℕ}
 use mathlib.Core.Path.{_≡_}
+use mathlib.Core.Bool.{false}
 use mathlib.Core.List.{List}
-use lib.ListN.{getD}
+use Rattle.classes.specs.Runs.{stands}
 use Rattle.token.specs.declared.TokenKind.{TokenKind}
 use Rattle.token.specs.declared.TokenKind.the-variants.{LiteralString as LiteralToken, BasicString as BasicToken, MlLiteralString as MlLiteralToken, MlBasicString as MlBasicToken}
 use Rattle.strings.specs.declared.Edition.{Edition}
@@ -39,9 +40,9 @@ mark basic = quotation-mark
 mark ml-literal = apostrophe
 mark literal = apostrophe
 
--- the bytes s do not begin with the mark q (no mark is 0, which `getD` gives beyond the end)
+-- the bytes s do not begin with the mark q
 abbrev pub Apart : ℕ → List ℕ → Type 0
-Apart q s = getD s 0 0 ≡ q → ⊥
+Apart q s = stands q s ≡ false
 
 -- in an edition the kind's rule derives the code points cs with the value v, and each \u and \U in them names a scalar value
 abbrev pub Derived : Edition → StringKind → List ℕ → List ℕ → Type 0

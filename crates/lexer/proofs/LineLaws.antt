@@ -13,7 +13,7 @@ use lib.Dec.{eqb}
 use lib.ListN.{length, getD, take, drop, drop-of-length-le, length-take, length-drop}
 use lib.Seq.{drop-cons, drop-drop, getD-drop, getD-take, take-length}
 use Rattle.classes.specs.Classes.{wschar, tokenStart}
-use Rattle.classes.specs.Runs.{run}
+use Rattle.classes.specs.Runs.{run, stands}
 use Rattle.classes.proofs.Conds.{cond-case, both-left, both-right, not-both}
 use Rattle.classes.proofs.RunLaws.{there}
 use Rattle.token.specs.declared.TokenKind.{TokenKind}
@@ -23,6 +23,7 @@ use Rattle.scans.specs.Extents.{lineTail, triple, newlineTail}
 use Rattle.lexer.specs.Lines.{lineFeeds, lineBehind}
 use Rattle.lexer.specs.Tokens.{hasBom, startOf}
 use Rattle.lexer.specs.Table.{kindBy, kindOf, extent, tokenLen}
+use Rattle.scans.proofs.MarkLaws.{stands-at}
 use Rattle.lexer.proofs.KindLaws.{by-kind}
 
 -- ---- a byte in front
@@ -117,13 +118,13 @@ no-lf-in s n i b e h f =
 
 pub mark-bytes : (s : List ℕ) → hasBom s ≡ true → (getD s 0 0 ≡ 0xEF) × (getD s 1 0 ≡ 0xBB) × (getD s 2 0 ≡ 0xBF)
 mark-bytes s t =
-    let first = eqb (getD s 0 0) 0xEF in
-    let second = eqb (getD s 1 0) 0xBB in
-    let third = eqb (getD s 2 0) 0xBF in
+    let first = stands 0xEF s in
+    let second = stands 0xBB (drop 1 s) in
+    let third = stands 0xBF (drop 2 s) in
     let behind = both-right first (second && third) t in (
-      eqb-true _ _ (both-left first (second && third) t),
-      eqb-true _ _ (both-left second third behind),
-      eqb-true _ _ (both-right second third behind),
+      eqb-true _ _ (sym (stands-at 0xEF refl s 0) ∙ both-left first (second && third) t),
+      eqb-true _ _ (sym (stands-at 0xBB refl s 1) ∙ both-left second third behind),
+      eqb-true _ _ (sym (stands-at 0xBF refl s 2) ∙ both-right second third behind),
     )
 
 pub mark-no-lf : (s : List ℕ) (n : ℕ) → lineFeeds (drop (startOf s) (take n s)) ≡ lineFeeds (take n s)
@@ -214,14 +215,14 @@ unfolding newlineTail lineFeeds
 newline-line [] h = absurd (omega arith)
 newline-line (b ∷ s) h =
     let cr = eqb b 13 in
-    let lf = eqb (getD s 0 0) 10 in
+    let lf = stands 10 s in
     cond-case (λ (n : ℕ). lineFeeds (b ∷ take n s) ≡ cond (eqb (getD (b ∷ s) n 0) 10) 1 0) (cr && lf)
-    (λ t. crlf s (eqb-true b 13 (both-left cr lf t)) (eqb-true (getD s 0 0) 10 (both-right cr lf t)))
+    (λ t. crlf s (eqb-true b 13 (both-left cr lf t)) (both-right cr lf t))
     (λ t. refl)
   where
-    crlf : (s : List ℕ) → b ≡ 13 → getD s 0 0 ≡ 10 → lineFeeds (b ∷ take 1 s) ≡ cond (eqb (getD s 0 0) 10) 1 0
-    crlf [] e f = absurd (omega arith)
-    crlf (x ∷ s) e f = rw (ne-eqb b 10 (λ z. omega arith), eq-eqb x 10 f)
+    crlf : (s : List ℕ) → b ≡ 13 → stands 10 s ≡ true → lineFeeds (b ∷ take 1 s) ≡ cond (eqb (getD s 0 0) 10) 1 0
+    crlf [] e f = not-both f refl
+    crlf (x ∷ s) e f = rw (ne-eqb b 10 (λ z. omega arith), f)
 
 -- n is 1 where the byte is an LF, else 0
 abbrev pub OneIfLf : ℕ → ℕ → Type 0

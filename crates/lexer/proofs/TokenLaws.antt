@@ -10,8 +10,10 @@ use lib.Dec.{eqb}
 use lib.ListN.{length, getD, take, drop, drop-of-length-le, length-drop}
 use lib.Seq.{drop-drop}
 use Rattle.classes.specs.Classes.{wschar}
+use Rattle.classes.specs.Runs.{stands}
 use Rattle.classes.proofs.Conds.{cond-case, both-right}
 use Rattle.classes.proofs.RunLaws.{run-le, there}
+use Rattle.classes.proofs.FirstLaws.{first-within}
 use Rattle.token.specs.declared.TokenKind.{TokenKind}
 use Rattle.token.specs.declared.Token.{Token}
 use Rattle.scans.specs.Bytes.{hides, closes, inComment, inAtom}
@@ -35,32 +37,30 @@ line-fits q h (b ∷ s) =
     cond-case (Fits (b ∷ s)) (closes q h b) (λ _. omega arith)
     λ _. cond-case (Fits (b ∷ s)) (eqb b 10) (λ _. omega arith) (λ _. suc-le-suc (line-fits q (hides q h b) s))
 
-two-fits : (q : ℕ) (s : List ℕ) → 0 < q → upToTwo q s ≤ length s
+two-fits : (q : ℕ) (s : List ℕ) → upToTwo q s ≤ length s
 unfolding upToTwo
-two-fits q s h =
-    cond-case (Fits s) (eqb (getD s 0 0) q)
-    (λ t. cond-case (Fits s) (eqb (getD s 1 0) q)
-    (λ u. let e : getD s 1 0 ≡ q = eqb-true _ _ u in there s 1 (omega arith))
-    (λ u. let e : getD s 0 0 ≡ q = eqb-true _ _ t in there s 0 (omega arith)))
+two-fits q s =
+    let mark : ℕ → Bool = λ b. eqb b q in
+    cond-case (Fits s) (stands q s)
+    (λ t. cond-case (Fits s) (stands q (drop 1 s)) (first-within mark s 1) (λ u. first-within mark s 0 t))
     (λ t. omega arith)
 
-ml-fits : (q : ℕ) (h : Bool) (s : List ℕ) → 0 < q → mlTail q h s ≤ length s
+ml-fits : (q : ℕ) (h : Bool) (s : List ℕ) → mlTail q h s ≤ length s
 unfolding mlTail
-ml-fits q h [] l = omega arith
-ml-fits q h (b ∷ s) l =
+ml-fits q h [] = omega arith
+ml-fits q h (b ∷ s) =
     cond-case (Fits (b ∷ s)) (not h && triple q (b ∷ s))
-    (λ t. omega (arith, triple-fits q (b ∷ s) l (both-right (not h) _ t), two-fits q (drop 3 (b ∷ s)) l, length-drop 3 (b ∷ s)))
-    (λ t. suc-le-suc (ml-fits q (hides q h b) s l))
+    (λ t. omega (arith, triple-fits q (b ∷ s) (both-right (not h) _ t), two-fits q (drop 3 (b ∷ s)), length-drop 3 (b ∷ s)))
+    (λ t. suc-le-suc (ml-fits q (hides q h b) s))
 
-ml-whole-fits : (q b : ℕ) (s : List ℕ) → 0 < q → b ≡ q → triple b s ≡ true
-    → suc (suc (suc (mlTail q false (drop 3 s)))) ≤ length s
-ml-whole-fits q b s l e t = omega (arith, triple-fits b s (omega arith) t, ml-fits q false (drop 3 s) l, length-drop 3 s)
+ml-whole-fits : (q b : ℕ) (s : List ℕ) → triple b s ≡ true → suc (suc (suc (mlTail q false (drop 3 s)))) ≤ length s
+ml-whole-fits q b s t = omega (arith, triple-fits b s t, ml-fits q false (drop 3 s), length-drop 3 s)
 
 newline-fits : (b : ℕ) (s : List ℕ) → suc (newlineTail (b ∷ s)) ≤ length (b ∷ s)
 unfolding newlineTail
 newline-fits b s =
-    cond-case (λ (n : ℕ). suc n ≤ length (b ∷ s)) (eqb b 13 && eqb (getD s 0 0) 10)
-    (λ t. let e : getD s 0 0 ≡ 10 = eqb-true _ _ (both-right (eqb b 13) _ t) in omega (arith, there s 0 (omega arith)))
+    cond-case (λ (n : ℕ). suc n ≤ length (b ∷ s)) (eqb b 13 && stands 10 s)
+    (λ t. omega (arith, first-within (λ c. eqb c 10) s 0 (both-right (eqb b 13) _ t)))
     (λ t. omega arith)
 
 pub token-fits : (s : List ℕ) → tokenLen s ≤ length s
@@ -72,7 +72,7 @@ token-fits (b ∷ s) =
     (λ _. one) (λ _. one) (λ _. one) (λ _. one) (λ _. one) (λ _. one) (λ _. one)
     (λ _. suc-le-suc (run-le wschar s)) (λ _. suc-le-suc (run-le inComment s)) (λ _. newline-fits b s)
     (λ _. suc-le-suc (line-fits 39 false s)) (λ _. suc-le-suc (line-fits 34 false s))
-    (ml-whole-fits 39 b (b ∷ s) (omega arith)) (ml-whole-fits 34 b (b ∷ s) (omega arith))
+    (λ _. ml-whole-fits 39 b (b ∷ s)) (λ _. ml-whole-fits 34 b (b ∷ s))
     (suc-le-suc (run-le inAtom s))
 
 -- every token but Eof has at least one byte

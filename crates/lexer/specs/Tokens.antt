@@ -2,7 +2,8 @@
 -- Assumes nothing.
 use Prim.Native.Nat.{ℕ, zero, suc, pred, _+_}
 use mathlib.Core.{Bool.Bool, Bool.cond, Bool._&&_, List.List, List.[], List._∷_}
-use lib.{ListN.getD, ListN.take, ListN.drop, Dec.eqb}
+use lib.{ListN.take, ListN.drop}
+use Rattle.classes.specs.{Runs.stands}
 use Rattle.token.specs.declared.{TokenKind.TokenKind, TokenKind.the-variants.Eof, Token.Token}
 use Rattle.token.specs.{Records.tokenOf}
 use Rattle.lexer.specs.{Lines.lineFeeds, Lines.lineBehind, Table.kindOf, Table.extent, Table.tokenLen}
@@ -36,7 +37,7 @@ tokensFrom at line s = walk at line 0 s
 
 -- a byte order mark stands at the front: EF BB BF
 abbrev pub hasBom : List ℕ → Bool
-hasBom s = eqb (getD s 0 0) 0xEF && (eqb (getD s 1 0) 0xBB && eqb (getD s 2 0) 0xBF)
+hasBom s = stands 0xEF s && (stands 0xBB (drop 1 s) && stands 0xBF (drop 2 s))
 
 -- where lexing starts: behind a byte order mark, else at byte 0
 unfoldable pub startOf : List ℕ → ℕ

@@ -10,13 +10,12 @@ use lib.Dec.{T, eqb, ltb, ltb→lt}
 use borrow.Author.Tests.{eqb-true, not-false}
 use Rattle.classes.specs.Classes.{wschar, tokenStart}
 use Rattle.classes.specs.Runs.{run}
-use Rattle.classes.proofs.Conds.{cond-case}
+use Rattle.classes.proofs.Conds.{cond-case, both-right, not-both}
 use Rattle.classes.proofs.ByteTable.{allOf, and-left as front-of, and-right as rest-of}
 use Rattle.token.specs.declared.TokenKind.{TokenKind}
 use Rattle.scans.specs.Bytes.{eol, hides, closes, inComment, inAtom}
 use Rattle.scans.specs.Extents.{lineTail, triple, upToTwo, mlTail, newlineTail}
 use Rattle.lexer.specs.Table.{kindOf, extent, tokenLen}
-use Rattle.classes.proofs.Conds.{both-left, both-right}
 use Rattle.lexer.proofs.KindLaws.{by-kind}
 use Rattle.lexing.specs.Cuts.{Clean, at-end, before, after, further}
 
@@ -87,55 +86,48 @@ line-clean q h (b ∷ s) l =
     λ _. cond-case (Clean (b ∷ s)) (eqb b 10) (λ t. before (one-ascii 10 (omega arith) b t))
     (λ _. further (line-clean q (hides q h b) s l))
 
-no-mark : (q : ℕ) → 0 < q → eqb 0 q ≡ true → ⊥
-no-mark q h t = omega (arith, eqb-true 0 q t)
-
 -- up to two marks behind an ASCII byte
-two-after : (q a : ℕ) (s : List ℕ) → 0 < q → q < 0x80 → a < 0x80 → Clean (a ∷ s) (suc (upToTwo q s))
+two-after : (q a : ℕ) (s : List ℕ) → q < 0x80 → a < 0x80 → Clean (a ∷ s) (suc (upToTwo q s))
 unfolding upToTwo
-two-after q a [] l m h = cond-case (λ (n : ℕ). Clean (a ∷ []) (suc n)) (eqb 0 q) (λ t. absurd (no-mark q l t)) (λ _. after h)
-two-after q a (x ∷ []) l m h =
-    let P : ℕ → Type 0 = λ n. Clean (a ∷ x ∷ []) (suc n) in
-    cond-case P (eqb x q)
-    (λ t. cond-case P (eqb 0 q) (λ u. absurd (no-mark q l u)) (λ _. further (after (one-ascii q m x t))))
-    (λ _. after h)
-two-after q a (x ∷ y ∷ s) l m h =
+two-after q a [] m h = after h
+two-after q a (x ∷ []) m h =
+    cond-case (λ (n : ℕ). Clean (a ∷ x ∷ []) (suc n)) (eqb x q) (λ t. further (after (one-ascii q m x t))) (λ _. after h)
+two-after q a (x ∷ y ∷ s) m h =
     let P : ℕ → Type 0 = λ n. Clean (a ∷ x ∷ y ∷ s) (suc n) in
     cond-case P (eqb x q)
     (λ t. cond-case P (eqb y q) (λ u. further (further (after (one-ascii q m y u)))) (λ _. further (after (one-ascii q m x t))))
     (λ _. after h)
 
-closing-clean : (q : ℕ) (s : List ℕ) → 0 < q → q < 0x80 → triple q s ≡ true → Clean s (suc (suc (suc (upToTwo q (drop 3 s)))))
+closing-clean : (q : ℕ) (s : List ℕ) → q < 0x80 → triple q s ≡ true → Clean s (suc (suc (suc (upToTwo q (drop 3 s)))))
 unfolding triple
-closing-clean q [] l m t = absurd (no-mark q l (both-left (eqb 0 q) _ t))
-closing-clean q (x ∷ []) l m t = absurd (no-mark q l (both-left (eqb 0 q) _ (both-right (eqb x q) _ t)))
-closing-clean q (x ∷ y ∷ []) l m t = absurd (no-mark q l (both-right (eqb y q) _ (both-right (eqb x q) _ t)))
-closing-clean q (x ∷ y ∷ z ∷ s) l m t =
-    further (further (two-after q z s l m (one-ascii q m z (both-right (eqb y q) _ (both-right (eqb x q) _ t)))))
+closing-clean q [] m t = not-both t refl
+closing-clean q (x ∷ []) m t = not-both (both-right (eqb x q) _ t) refl
+closing-clean q (x ∷ y ∷ []) m t = not-both (both-right (eqb y q) _ (both-right (eqb x q) _ t)) refl
+closing-clean q (x ∷ y ∷ z ∷ s) m t =
+    further (further (two-after q z s m (one-ascii q m z (both-right (eqb y q) _ (both-right (eqb x q) _ t)))))
 
-ml-clean : (q : ℕ) (h : Bool) (s : List ℕ) → 0 < q → q < 0x80 → Clean s (mlTail q h s)
+ml-clean : (q : ℕ) (h : Bool) (s : List ℕ) → q < 0x80 → Clean s (mlTail q h s)
 unfolding mlTail
-ml-clean q h [] l m = at-end
-ml-clean q h (b ∷ s) l m =
+ml-clean q h [] m = at-end
+ml-clean q h (b ∷ s) m =
     cond-case (Clean (b ∷ s)) (not h && triple q (b ∷ s))
     (λ t.
     let e : 3 + upToTwo q (drop 3 (b ∷ s)) ≡ suc (suc (suc (upToTwo q (drop 3 (b ∷ s))))) = omega arith in
-    rw e (closing-clean q (b ∷ s) l m (both-right (not h) _ t)))
-    (λ t. further (ml-clean q (hides q h b) s l m))
+    rw e (closing-clean q (b ∷ s) m (both-right (not h) _ t)))
+    (λ t. further (ml-clean q (hides q h b) s m))
 
 -- with its opening of three marks
-ml-whole-clean : (q b : ℕ) (s : List ℕ) → 0 < q → q < 0x80 → b ≡ q → triple b (b ∷ s) ≡ true
+ml-whole-clean : (q b : ℕ) (s : List ℕ) → q < 0x80 → triple b (b ∷ s) ≡ true
     → Clean (b ∷ s) (suc (suc (suc (mlTail q false (drop 3 (b ∷ s))))))
 unfolding triple
-ml-whole-clean q b [] l m e t = absurd (no-mark b (omega arith) (both-left (eqb 0 b) _ (both-right (eqb b b) _ t)))
-ml-whole-clean q b (y ∷ []) l m e t = absurd (no-mark b (omega arith) (both-right (eqb y b) _ (both-right (eqb b b) _ t)))
-ml-whole-clean q b (y ∷ z ∷ s) l m e t = further (further (further (ml-clean q false s l m)))
+ml-whole-clean q b [] m t = not-both (both-right (eqb b b) _ t) refl
+ml-whole-clean q b (y ∷ []) m t = not-both (both-right (eqb y b) _ (both-right (eqb b b) _ t)) refl
+ml-whole-clean q b (y ∷ z ∷ s) m t = further (further (further (ml-clean q false s m)))
 
 newline-clean : (b : ℕ) (s : List ℕ) → b < 0x80 → Clean (b ∷ s) (suc (newlineTail (b ∷ s)))
 unfolding newlineTail
 newline-clean b [] h =
-    cond-case (λ (n : ℕ). Clean (b ∷ []) (suc n)) (eqb b 13 && eqb 0 10)
-    (λ t. absurd (no-mark 10 (omega arith) (both-right (eqb b 13) _ t))) (λ _. after h)
+    cond-case (λ (n : ℕ). Clean (b ∷ []) (suc n)) (eqb b 13 && false) (λ t. not-both (both-right (eqb b 13) _ t) refl) (λ _. after h)
 newline-clean b (x ∷ s) h =
     cond-case (λ (n : ℕ). Clean (b ∷ x ∷ s) (suc n)) (eqb b 13 && eqb x 10)
     (λ t. further (after (one-ascii 10 (omega arith) x (both-right (eqb b 13) _ t)))) (λ _. after h)
@@ -152,6 +144,6 @@ token-clean (b ∷ s) =
     (λ t. newline-clean b s (eol-ascii b t))
     (λ e. further (line-clean 39 false s (omega arith)))
     (λ e. further (line-clean 34 false s (omega arith)))
-    (ml-whole-clean 39 b s (omega arith) (omega arith))
-    (ml-whole-clean 34 b s (omega arith) (omega arith))
+    (λ _. ml-whole-clean 39 b s (omega arith))
+    (λ _. ml-whole-clean 34 b s (omega arith))
     (further (run-clean inAtom (λ x u. start-ascii x (not-false _ u)) s))

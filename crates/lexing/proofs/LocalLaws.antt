@@ -13,8 +13,9 @@ use lib.Dec.{eqb}
 use lib.ListN.{length, getD, take, drop}
 use lib.Seq.{getD-take, drop-drop}
 use Rattle.classes.specs.Classes.{wschar}
-use Rattle.classes.specs.Runs.{run}
+use Rattle.classes.specs.Runs.{run, firstIs, stands}
 use Rattle.classes.proofs.Conds.{cond-case}
+use Rattle.classes.proofs.FirstLaws.{first-take}
 use Rattle.token.specs.declared.TokenKind.{TokenKind}
 use Rattle.token.specs.declared.TokenKind.the-variants.{Dot, Equals, Comma, LeftSquareBracket, RightSquareBracket, LeftCurlyBracket, RightCurlyBracket, Whitespace, Comment, Newline, LiteralString, BasicString, MlLiteralString, MlBasicString, Atom, Eof}
 use Rattle.scans.specs.Bytes.{hides, closes, inComment, inAtom}
@@ -83,27 +84,32 @@ line-local q h (b ∷ s) t =
 
 -- ---- marks
 
-at-agree : (n i : ℕ) (s t : List ℕ) → i < n → Agree n s t → getD t i 0 ≡ getD s i 0
-at-agree n i s t h a = sym (getD-take n t i 0 h) ∙ ap (λ (l : List ℕ). getD l i 0) (sym a) ∙ getD-take n s i 0 h
+at-agree : (p : ℕ → Bool) (n i : ℕ) (s t : List ℕ) → i < n → Agree n s t → firstIs p (drop i t) ≡ firstIs p (drop i s)
+at-agree p n i s t h a = sym (first-take p t n i h) ∙ ap (λ (l : List ℕ). firstIs p (drop i l)) (sym a) ∙ first-take p s n i h
+
+-- for one byte
+mark-agree : (q n i : ℕ) (s t : List ℕ) → i < n → Agree n s t → stands q (drop i t) ≡ stands q (drop i s)
+mark-agree q = at-agree (λ b. eqb b q)
 
 triple-local : (q : ℕ) (s t : List ℕ) → Agree 3 s t → triple q t ≡ triple q s
 unfolding triple
-triple-local q s t a = rw (at-agree 3 0 s t (omega arith) a, at-agree 3 1 s t (omega arith) a, at-agree 3 2 s t (omega arith) a)
+triple-local q s t a =
+    rw (mark-agree q 3 0 s t (omega arith) a, mark-agree q 3 1 s t (omega arith) a, mark-agree q 3 2 s t (omega arith) a)
 
 pub two-local : (q : ℕ) (s t : List ℕ) → Agree (suc (upToTwo q s)) s t → upToTwo q t ≡ upToTwo q s
 unfolding upToTwo
 two-local q s t =
     let P : ℕ → Type 0 = λ n. Agree (suc n) s t → upToTwo q t ≡ n in
-    cond-case P (eqb (getD s 0 0) q)
-    (λ e. cond-case P (eqb (getD s 1 0) q) {x = 2} {y = 1}
-    (λ u a. rw (at-agree 3 0 s t (omega arith) a, at-agree 3 1 s t (omega arith) a, e, u))
-    (λ u a. rw (at-agree 2 0 s t (omega arith) a, at-agree 2 1 s t (omega arith) a, e, u)))
-    (λ e a. rw (at-agree 1 0 s t (omega arith) a, e))
+    cond-case P (stands q s)
+    (λ e. cond-case P (stands q (drop 1 s)) {x = 2} {y = 1}
+    (λ u a. rw (mark-agree q 3 0 s t (omega arith) a, mark-agree q 3 1 s t (omega arith) a, e, u))
+    (λ u a. rw (mark-agree q 2 0 s t (omega arith) a, mark-agree q 2 1 s t (omega arith) a, e, u)))
+    (λ e a. rw (mark-agree q 1 0 s t (omega arith) a, e))
 
 -- of a CR and what is behind it
 pub newline-local : (s t : List ℕ) → Agree 2 s t → newlineTail t ≡ newlineTail s
 unfolding newlineTail
-newline-local s t a = rw (at-agree 2 0 s t (omega arith) a, at-agree 2 1 s t (omega arith) a)
+newline-local s t a = rw (mark-agree 13 2 0 s t (omega arith) a, mark-agree 10 2 1 s t (omega arith) a)
 
 -- ---- multi-line strings
 
@@ -202,9 +208,9 @@ no-quote : (b : ℕ) (x y : Bool) → eqb b 39 ≡ false → eqb b 34 ≡ false 
 unfolding kindBy
 no-quote b x y l m = rw (l, m)
 
-no-second : (q : ℕ) (s : List ℕ) → eqb (getD s 1 0) q ≡ false → triple q s ≡ false
+no-second : (q : ℕ) (s : List ℕ) → stands q (drop 1 s) ≡ false → triple q s ≡ false
 unfolding triple
-no-second q s e = rw e (go (eqb (getD s 0 0) q))
+no-second q s e = rw e (go (stands q s))
   where
     go : (x : Bool) → (x && false) ≡ false
     go true = refl
@@ -220,8 +226,8 @@ two-long b s (inr e) =
     let P : TokenKind → Type 0 = λ k. 2 ≤ extent k (34 ∷ 34 ∷ s) in
     rw e (cond-case P (triple 34 (34 ∷ 34 ∷ s)) (λ _. omega arith) (λ _. omega arith))
 
-one-mark : (b : ℕ) (s : List ℕ) → (b ≡ 39) ⊎ (b ≡ 34) → tokenLen (b ∷ s) ≤ 1 → eqb (getD s 0 0) b ≡ false
-one-mark b [] q l = ne-eqb 0 b (λ e. ⊎-elim (λ u. omega arith) (λ u. omega arith) q)
+one-mark : (b : ℕ) (s : List ℕ) → (b ≡ 39) ⊎ (b ≡ 34) → tokenLen (b ∷ s) ≤ 1 → stands b s ≡ false
+one-mark b [] q l = refl
 one-mark b (c ∷ s) q l = ne-eqb c b (λ e. omega (arith, two-long b s q, rw e at l))
 
 a-quote : (b : ℕ) → ((b ≡ 39) ⊎ (b ≡ 34)) ⊎ ((eqb b 39 ≡ false) × (eqb b 34 ≡ false))
@@ -245,8 +251,8 @@ kind-local b s t a =
           ⊎-elim
           (λ q.
           let here = one-mark b s q (omega arith) in
-          let there = at-agree 2 1 (b ∷ s) t (omega arith) (fewer 2 (suc n) (b ∷ s) t (omega arith) a) in
-          let shut : eqb (getD t 1 0) b ≡ false = ap (λ (x : ℕ). eqb x b) there ∙ here in
+          let there = mark-agree b 2 1 (b ∷ s) t (omega arith) (fewer 2 (suc n) (b ∷ s) t (omega arith) a) in
+          let shut : stands b (drop 1 t) ≡ false = there ∙ here in
           same ∙ ap (kindBy b) (no-second b t shut ∙ sym (no-second b (b ∷ s) here)))
           (λ q. same ∙ no-quote b (triple b t) (triple b (b ∷ s)) (q .0) (q .1))
           (a-quote b)

@@ -2,16 +2,16 @@
 -- Assumes nothing.
 use Prim.Native.Nat.{ℕ, _-_}
 use mathlib.Core.{Bool.Bool, Bool.cond, Bool._||_, List.List, List.[]}
-use lib.{ListN.length, ListN.getD, ListN.take, ListN.drop, Dec.ltb}
-use Rattle.classes.specs.{Classes.continuation}
+use lib.{ListN.length, ListN.take, ListN.drop, Dec.ltb}
+use Rattle.classes.specs.{Classes.continuation, Runs.firstIs}
 use Rattle.text.specs.{Refusals.limit}
 use Rattle.text.specs.declared.{refusal.Refusal.the-variants.TooLong, refusal.Refusal.the-variants.OutOfPlace}
 use Rattle.token.specs.declared.{Span.Span}
 use Rattle.place.specs.declared.{SpanCheck.SpanCheck, SpanCheck.the-variants.Whole, SpanCheck.the-variants.Refused}
 
--- a place lies inside a character if the byte there is 80 to BF (beyond the end `getD` gives 0, which is none)
+-- a place lies inside a character if a byte stands there that is 80 to BF
 abbrev pub inside : List ℕ → ℕ → Bool
-inside doc at = continuation (getD doc at 0)
+inside doc at = firstIs continuation (drop at doc)
 
 -- an end beyond the document, a start after the end, or either inside a character; a start beyond the document is
 -- after the end, or the end is beyond too

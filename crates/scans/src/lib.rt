@@ -4,10 +4,9 @@
 ghost use mathlib.Core.Path.{_≡_};
 ghost use mathlib.Core.Bool.{true, false};
 ghost use Prim.Native.Nat.{_+_, _≤_, _<_};
-ghost use lib.Dec.{eqb};
 ghost use lib.ListN.{length, drop, getD};
 ghost use Rattle.classes.specs.Classes.{wschar};
-ghost use Rattle.classes.specs.Runs.{run};
+ghost use Rattle.classes.specs.Runs.{run, stands};
 ghost use Rattle.classes.proofs.RunLaws.{Block, SameEnd};
 ghost use Rattle.scans.specs.Bytes.{inComment, inAtom};
 ghost use Rattle.scans.specs.Extents.{lineTail, triple, upToTwo, mlTail};
@@ -373,11 +372,11 @@ fn is_triple(doc: &[u8], i: usize, q: u8) -> bool
     is_at(doc, i, q) && (is_at(doc, i + 1, q) && is_at(doc, i + 2, q))
 }
 
-// Is the byte at i the byte q? Beyond the end there is 0.
+// Does the byte q stand at i?
 pub fn is_at(doc: &[u8], i: usize, q: u8) -> bool
-    ensures { λ r. ⌜ r ≡ eqb (getD (now (doc .entry)) i 0) q ⌝ }
+    ensures { λ r. ⌜ r ≡ stands q (drop i (now (doc .entry))) ⌝ }
 {
-    if i < doc.len() { doc[i] == q } else { q == 0 }
+    i < doc.len() && doc[i] == q
 }
 
 // Over two marks at most.

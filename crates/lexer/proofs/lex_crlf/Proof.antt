@@ -2,15 +2,17 @@
 -- Assumes nothing.
 use Prim.Native.Nat.{_+_}
 use mathlib.Core.Path.{_≡_, refl, sym, _∙_}
-use lib.ListN.{drop}
+use lib.Dec.{eqb}
+use lib.ListN.{getD, drop}
 use borrow.Author.Tests.{eqb-true}
 use Rattle.classes.specs.Classes.{wschar}
+use Rattle.classes.specs.Runs.{stands}
 use Rattle.token.specs.declared.TokenKind.the-variants.{Newline}
 use Rattle.scans.specs.Extents.{newlineTail}
 use Rattle.lexer.specs.Table.{kindBy, extent}
 use Rattle.lexer.specs.Tokens.{tokenBy}
 use Rattle.lexer.proofs.KindLaws.{KindThere}
-use Rattle.scans.proofs.MarkLaws.{newlineTail-at}
+use Rattle.scans.proofs.MarkLaws.{stands-at, newlineTail-at}
 use Rattle.lexer.proofs.EntryLaws.{entry-lf, entry-cr}
 use borrow.Author.Needs.{needs}
 use native.Mathlib.Omega.{arith}
@@ -21,6 +23,11 @@ use Rattle.lexer.proofs.lex_crlf.Tie as tie
 newline : (c : tie.Start) → KindThere (c .args .doc .now) (c .args .at) Newline
 unfolding kindBy wschar
 newline c = rw (c .pre .2)
+
+-- whether an LF stands behind it
+lf-behind : (c : tie.Start)
+    → eqb (getD (c .args .doc .now) (c .args .at + 1) 0) 10 ≡ stands 10 (drop (c .args .at + 1) (c .args .doc .now))
+lf-behind c = sym (stands-at 10 refl (c .args .doc .now) (c .args .at + 1))
 
 add-is-at : tie.Need-add-is-at
 add-is-at c = search needs
@@ -45,7 +52,7 @@ unfolding extent
 returns c =
     let start = c .before .before .before .before .before in
     let is = start .args in
-    let second = sym (c .before .before .before .is-at .ensures) ∙ c .before .before .if1 .taken in
+    let second = lf-behind start ∙ sym (c .before .before .before .is-at .ensures) ∙ c .before .before .if1 .taken in
     let two : newlineTail (drop (is .at) (is .doc .now)) ≡ 1 = simp (newlineTail-at, start .pre .2, second) in
     let made : c .before .token-of .result ≡ tokenBy Newline (is .at) (is .line) (drop (is .at) (is .doc .now)) =
     c .before .token-of .ensures ∙ simp (two) in
@@ -67,7 +74,7 @@ unfolding extent
 returns-2 c =
     let start = c .before .before .before .before .before in
     let is = start .args in
-    let second = sym (c .before .before .before .is-at .ensures) ∙ c .before .before .if1 .left in
+    let second = lf-behind start ∙ sym (c .before .before .before .is-at .ensures) ∙ c .before .before .if1 .left in
     let one : newlineTail (drop (is .at) (is .doc .now)) ≡ 0 = simp (newlineTail-at, start .pre .2, second) in
     let made : c .before .token-of2 .result ≡ tokenBy Newline (is .at) (is .line) (drop (is .at) (is .doc .now)) =
     c .before .token-of2 .ensures ∙ simp (one) in

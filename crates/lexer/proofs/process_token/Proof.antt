@@ -126,7 +126,7 @@ is-ml-literal-requires c κs = search needs
 lex-ml-literal-string-requires : tie.Need-lex-ml-literal-string-requires
 lex-ml-literal-string-requires c κs =
     let is = c .before .before .before .before .before .args in
-    triple-fits-at 39 (is .doc .now) (is .at) (omega arith) (sym (c .before .is-ml-literal .ensures) ∙ c .if1 .taken)
+    triple-fits-at 39 (is .doc .now) (is .at) (sym (c .before .is-ml-literal .ensures) ∙ c .if1 .taken)
 
 over-lines-requires : tie.Need-over-lines-requires
 over-lines-requires c κs =
@@ -147,7 +147,7 @@ is-ml-basic-requires c κs = search needs
 lex-ml-basic-string-requires : tie.Need-lex-ml-basic-string-requires
 lex-ml-basic-string-requires c κs =
     let is = c .before .before .before .before .before .args in
-    triple-fits-at 34 (is .doc .now) (is .at) (omega arith) (sym (c .before .is-ml-basic .ensures) ∙ c .if2 .taken)
+    triple-fits-at 34 (is .doc .now) (is .at) (sym (c .before .is-ml-basic .ensures) ∙ c .if2 .taken)
 
 over-lines-requires-2 : tie.Need-over-lines-requires-2
 over-lines-requires-2 c κs =

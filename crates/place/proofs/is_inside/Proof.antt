@@ -1,10 +1,10 @@
--- `is_inside` is right because what `getD` gives beyond the end is no continuation byte.
+-- `is_inside` is right because beyond the end stands no byte.
 -- Assumes nothing.
-use mathlib.Core.Path.{_≡_, sym, ap}
-use lib.ListN.{List·getD-eq-default, getD}
-use Rattle.classes.specs.Classes.{continuation}
+use mathlib.Core.Path.{sym, _∙_}
 use borrow.Author.Needs.{needs}
 use native.Mathlib.Omega.{arith}
+use Rattle.classes.specs.Classes.{continuation}
+use Rattle.classes.proofs.FirstLaws.{first-there, first-beyond}
 use Rattle.place.proofs.is_inside.Statement.{statement}
 use Rattle.place.proofs.is_inside.Tie as tie
 
@@ -15,13 +15,14 @@ is-continuation-requires : tie.Need-is-continuation-requires
 is-continuation-requires c κs = search needs
 
 returns : tie.Need-returns
-returns c = search needs
+returns c =
+    let is = c .before .before .before .before .args in
+    c .is-continuation .ensures ∙ sym (first-there continuation (is .doc .now) (is .at) (omega arith))
 
 returns-2 : tie.Need-returns-2
-unfolding continuation
-returns-2 c = let doc = c .before .before .args .doc .now in
-    let beyond : getD doc (c .before .before .args .at) 0 ≡ 0 = List·getD-eq-default doc 0 (omega arith) in
-    sym (ap continuation beyond)
+returns-2 c =
+    let is = c .before .before .args in
+    sym (first-beyond continuation (is .doc .now) (is .at) (omega arith))
 
 pub is-inside-spec : {M : Type 1} → statement M
 is-inside-spec =

@@ -18,7 +18,7 @@ returns c = search needs
 returns-2 : tie.Need-returns-2
 returns-2 c =
     let is = c .before .before .args in
-    le-ltb (is .i) (length (is .doc .now)) (omega arith) ∙ sym (triple-beyond 39 (is .doc .now) (is .i) (omega arith) (omega arith))
+    le-ltb (is .i) (length (is .doc .now)) (omega arith) ∙ sym (triple-beyond 39 (is .doc .now) (is .i) (omega arith))
 
 pub is-ml-literal-spec : {M : Type 1} → statement M
 is-ml-literal-spec = tie.close (tie.spec is-triple-requires returns returns-2)

@@ -58,7 +58,7 @@ fewer c = sym (c .before .is-triple .ensures) ∙ c .if2 .left
 three-fit : (c : tie.Then2 Inv-loop μ-loop) → place (c .before .before .before) + 3 ≤ length (doc (c .before .before .before))
 three-fit c =
     let t = c .before .before .before in
-    triple-fits-at (mark t) (doc t) (place t) (omega arith) (three c)
+    triple-fits-at (mark t) (doc t) (place t) (three c)
 
 -- where it stopped at no mark, the next byte is hidden
 abbrev Hidden : Turn → Type 0
