@@ -2,7 +2,8 @@
 """Makes what the program `answers` is run on and held to: crates/answers/stdin and crates/answers/stdout.
 
     tests/make_answers.py            writes them, and prints how many lines each section has
-    tests/make_answers.py --check    writes nothing; fails if what is committed is not what would be written
+    tests/make_answers.py --check    writes nothing; fails if what is committed is not what would be written,
+                                     and ends in 'N passed, M failed', the files that are and those that are not
 
 A line is a call; what is expected of it comes from its section's source, and the sections are held to
 each other: what tests/scope.txt, the published suite and the vectors expect is what tests/reference.py
@@ -36,7 +37,8 @@ def agreed(lines):
     """Lines whose answers have a source of their own: the second implementation has to answer the same."""
     for line, answer in lines:
         if reference.answer(line) != answer:
-            sys.exit('%s: expected %s, tests/reference.py says %s' % (line.decode(), answer.decode(), reference.answer(line).decode()))
+            sys.exit('FAILED: %s: expected %s, tests/reference.py says %s: one of the two is wrong, by docs/RULES.md'
+                     % (line.decode(), answer.decode(), reference.answer(line).decode()))
     return lines
 
 
@@ -284,11 +286,19 @@ def main():
     made = {CRATE / 'stdin': b'\n'.join(line for line, _ in lines),
             CRATE / 'stdout': b''.join(line + b' => ' + answer + b'\n' for line, answer in lines),
             OUT_OF_SIGHT: out_of_sight()}
+    if sys.argv[1:] == ['--check']:
+        sys.exit(check(made))
     for path, data in made.items():
-        if sys.argv[1:] != ['--check']:
-            path.write_bytes(data)
-        elif not path.exists() or path.read_bytes() != data:
-            sys.exit('%s is not what this script makes' % path.relative_to(TESTS.parent))
+        path.write_bytes(data)
+
+
+def check(made):
+    """Says which files are not what is made, and how many are; whether any is not."""
+    wrong = [path for path, data in made.items() if not path.exists() or path.read_bytes() != data]
+    for path in wrong:
+        print('FAILED: %s is not what this script makes: run tests/make_answers.py and read the difference' % path.relative_to(TESTS.parent))
+    print('%d passed, %d failed' % (len(made) - len(wrong), len(wrong)))
+    return bool(wrong)
 
 
 if __name__ == '__main__':

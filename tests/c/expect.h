@@ -1,5 +1,5 @@
 /* Counting what is expected: each expectation stands behind a FROM that names its source, and a failure
- * prints the source with it. */
+ * prints the source with it. A test is a function of such expectations: it passed where they all hold. */
 #ifndef EXPECT_H
 #define EXPECT_H
 
@@ -8,19 +8,33 @@
 #include <stdio.h>
 #include <string.h>
 
+static int held, broke;
 static int passed, failed;
 static const char *source = "";
 
 static void expect(int ok, const char *what, int line)
 {
     if (ok) {
+        held++;
+        return;
+    }
+    broke++;
+    printf("FAILED at line %d, which %s says: %s\n", line, source, what);
+}
+
+static void run(void (*test)(void), const char *name)
+{
+    int before = broke;
+    test();
+    if (broke == before) {
         passed++;
         return;
     }
     failed++;
-    printf("FAILED at line %d, which %s says: %s\n", line, source, what);
+    printf("FAILED: the test %s\n", name);
 }
 
+#define RUN(test) run((test), #test)
 #define FROM(where) (source = (where))
 #define EXPECT(condition) expect((condition), #condition, __LINE__)
 

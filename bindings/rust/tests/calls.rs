@@ -46,6 +46,30 @@ fn refusals() {
     assert_eq!(TokenKind::from_number(5), Err(Refusal::NoKind { number: 5 }));
 }
 
+/// The limit, written out here and not taken from the crate: so many bytes are taken by every call, and not one more.
+#[test]
+fn documents_of_16777216_bytes_are_taken() {
+    let len = 16_777_216;
+    assert_eq!(LIMIT, len);
+    // one comment as a document, and a text of a string without its marks: few tokens and few errors come back
+    let doc = vec![b'#'; len + 1];
+    let calls: [(&str, fn(&[u8]) -> Result<(), Refusal>); 9] = [
+        ("check_utf8", check_utf8),
+        ("Lexer::new", |doc| Lexer::new(doc).map(|_| ())),
+        ("Lexer::next", |doc| Lexer::at(doc, 0, false, 1).next().expect("a token or a refusal").map(|_| ())),
+        ("lex", |doc| lex(doc).map(|_| ())),
+        ("check_span", |doc| check_span(doc, Span::new(0, 1))),
+        ("text", |doc| text(doc, Span::new(0, 1)).map(|_| ())),
+        ("position", |doc| position(doc, 1).map(|_| ())),
+        ("decode", |doc| decode(doc, Encoding::BasicString).map(|_| ())),
+        ("decode_in", |doc| decode_in(doc, Encoding::BasicString, Edition::Toml11).map(|_| ())),
+    ];
+    for (name, call) in calls {
+        assert_eq!(call(&doc[..len]), Ok(()), "{name}");
+        assert_eq!(call(&doc), Err(Refusal::TooLong), "{name}");
+    }
+}
+
 #[test]
 fn strings_without_error() {
     let decoded = decode(br#""\uD7FF""#, Encoding::BasicString).expect("decoded");
