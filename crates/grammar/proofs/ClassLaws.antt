@@ -35,7 +35,7 @@ wschar-is b h =
 
 -- ---- non-ascii
 
-non-ascii-of : (c : ℕ) → Scalar c → 0x80 ≤ c → NonAscii c
+pub non-ascii-of : (c : ℕ) → Scalar c → 0x80 ≤ c → NonAscii c
 non-ascii-of c (inl h) k = x80-D7FF k (omega arith)
 non-ascii-of c (inr h) k = xE000-10FFFF (h .0) (omega arith)
 

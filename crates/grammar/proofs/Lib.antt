@@ -18,4 +18,5 @@ pub mod Values
 pub mod TokenFacts
 pub mod CallLaws
 pub mod Demand3Laws
+pub mod ScalarTexts
 pub mod Teeth

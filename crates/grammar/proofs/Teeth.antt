@@ -51,7 +51,7 @@ unlexed-long = refl
 
 pub unlexed-not-derived : (v : List ℕ) → Derived Toml10 ml-literal unlexed v → ⊥
 unlexed-not-derived v d =
-    let t = derived-token Toml10 ml-literal unlexed v [] d (λ z. omega arith) in omega (arith, t .1, unlexed-short, unlexed-long)
+    let t = derived-token Toml10 ml-literal unlexed v [] d refl in omega (arith, t .1, unlexed-short, unlexed-long)
 
 -- ---- "\q" has no derivation
 

@@ -1,5 +1,5 @@
--- RULE. Demand 3, in full, for each edition of TOML: its grammar of strings against the lexer and the decoders. The statement
--- only; it is proved in proofs/Demand3Laws.antt, `demand-3`.
+-- STATEMENT. Demand 3, in full, for each edition of TOML: its grammar of strings against the lexer and the decoders. Proved in
+-- proofs/Demand3Laws.antt, `demand-3`.
 --
 -- For every token of a string kind that lexing gives of a document in UTF-8 and within the limit: decoding its text has no
 -- error exactly where the grammar derives the text with escapes that name scalar values; the decoded bytes are then the
@@ -14,27 +14,16 @@
 -- (Grammar.antt, `MlbContent.newline`; the value of an ml-literal-body is its text), and the bytes are that value's.
 -- Assumes nothing.
 use Prim.Native.Nat.{ℕ, _+_, _≤_, _<_}
-use mathlib.Core.Path.{_≡_}
-use mathlib.Core.Logic.{_↔_}
-use mathlib.Core.List.{List, [], _++_, List·Memᴰ}
-use lib.ListN.{length, drop}
-use Rattle.text.specs.Utf8.{Scalar, encodes, All, Utf8}
-use Rattle.text.specs.Refusals.{limit}
-use Rattle.strings.specs.declared.Edition.{Edition}
-use Rattle.strings.specs.declared.Decoded.{Decoded}
-use Rattle.strings.specs.declared.Decoded.the-variants.{Written}
-use Rattle.strings.specs.Encodings.{choiceBy, editionNumber}
-use Rattle.strings.specs.Decoding.{bytesOf, errorsOf, bytesBy, decodeIn, after, decodedNumber}
-use Rattle.token.specs.KindNumbers.{kindNumber}
-use Rattle.token.specs.Records.{tokenOf, textOf}
-use Rattle.token.specs.declared.Token.{Token}
-use Rattle.lexer.specs.Tokens.{tokensOf}
-use Rattle.lexer.specs.Lines.{lineFeeds, lineOf}
-use Rattle.lexer.specs.Steps.{cursorOf, startAnswer, stepOf}
-use Rattle.lexer.specs.declared.Cursor.{Cursor}
-use Rattle.lexer.specs.declared.Start.the-variants.{At}
-use Rattle.lexer.specs.declared.Step.the-variants.{Token as Given}
-use Rattle.grammar.specs.Strings.{StringKind, tokenKind, encoding, mark, Apart, Derived, Means}
+use mathlib.Core.{Path._≡_, Logic._↔_, List.List, List.[], List._++_, List.List·Memᴰ}
+use lib.{ListN.length, ListN.drop}
+use Rattle.text.specs.{Utf8.Scalar, Utf8.encodes, Utf8.All, Utf8.Utf8, Refusals.limit}
+use Rattle.strings.specs.declared.{Edition.Edition, Decoded.Decoded, Decoded.the-variants.Written}
+use Rattle.strings.specs.{Encodings.choiceBy, Encodings.editionNumber, Decoding.bytesOf, Decoding.errorsOf, Decoding.bytesBy, Decoding.decodeIn, Decoding.after, Decoding.decodedNumber}
+use Rattle.token.specs.{KindNumbers.kindNumber, Records.tokenOf, Records.textOf}
+use Rattle.token.specs.declared.{Token.Token}
+use Rattle.lexer.specs.{Tokens.tokensOf, Lines.lineFeeds, Lines.lineOf, Steps.cursorOf, Steps.startAnswer, Steps.stepOf}
+use Rattle.lexer.specs.declared.{Cursor.Cursor, Start.the-variants.At, Step.the-variants.Token as Given}
+use Rattle.grammar.specs.{Strings.StringKind, Strings.tokenKind, Strings.encoding, Strings.mark, Strings.Apart, Strings.Derived, Strings.Means}
 
 -- ---- texts, in bytes
 

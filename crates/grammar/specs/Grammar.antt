@@ -5,10 +5,8 @@
 -- A repetition `*rule` is `stop` or `more`; an option `[ rule ]` is `absent` or `present`.
 -- Assumes nothing.
 use Prim.Native.Nat.{ℕ, suc, _+_, _*_, _≤_, _<_}
-use mathlib.Core.Path.{_≡_}
-use mathlib.Core.List.{List, [], _∷_, _++_}
-use Rattle.strings.specs.declared.Edition.{Edition}
-use Rattle.strings.specs.declared.Edition.the-variants.{Toml11}
+use mathlib.Core.{Path._≡_, List.List, List.[], List._∷_, List._++_}
+use Rattle.strings.specs.declared.{Edition.Edition, Edition.the-variants.Toml11}
 
 -- ---- Whitespace
 

@@ -3,11 +3,9 @@
 -- grammar alone lets a derivation keep some of either.
 -- Assumes nothing.
 use Prim.Native.Nat.{ℕ}
-use mathlib.Core.Path.{_≡_}
-use mathlib.Core.Bool.{Bool, false, _&&_, _||_}
-use mathlib.Core.List.{List, [], _∷_, _++_}
-use lib.Dec.{eqb}
-use Rattle.strings.specs.declared.Edition.{Edition}
+use mathlib.Core.{Path._≡_, Bool.Bool, Bool.false, Bool._&&_, Bool._||_, List.List, List.[], List._∷_, List._++_}
+use lib.{Dec.eqb}
+use Rattle.strings.specs.declared.{Edition.Edition}
 use Rattle.grammar.specs.Grammar.{OptNewline, MlLiteralString, ml-literal-string, MlbContent, mlb-char, newline, escaped-nl, MlbContents, MlbContents1, some-content, MlbGroups, MlBasicBody, ml-basic-body, MlBasicString, ml-basic-string}
 
 -- a newline stands at the front

@@ -2,9 +2,9 @@
 -- always: two digits reach U+00FF.
 -- Assumes nothing.
 use Prim.Native.Nat.{ℕ}
-use mathlib.Core.List.{List}
-use Rattle.text.specs.Utf8.{Scalar}
-use Rattle.strings.specs.declared.Edition.{Edition}
+use mathlib.Core.{List.List}
+use Rattle.text.specs.{Utf8.Scalar}
+use Rattle.strings.specs.declared.{Edition.Edition}
 use Rattle.grammar.specs.Grammar.{EscapeSeqChar, x22, x5C, x62, x66, x6E, x72, x74, x75, x55, x65, x78, Escaped, escaped, BasicChar, BasicChars, BasicString, basic-string, MlbChar, MlbContent, mlb-char, newline, escaped-nl, MlbContents, MlbContents1, some-content, MlbGroups, MlBasicBody, ml-basic-body, MlBasicString, ml-basic-string}
 
 -- ---- in an escape

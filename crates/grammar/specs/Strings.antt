@@ -2,18 +2,13 @@
 -- derived, and to mean a value.
 -- Assumes nothing.
 use Prim.Native.Nat.{ℕ}
-use mathlib.Core.Path.{_≡_}
-use mathlib.Core.Bool.{false}
-use mathlib.Core.List.{List}
-use Rattle.classes.specs.Runs.{stands}
-use Rattle.token.specs.declared.TokenKind.{TokenKind}
+use mathlib.Core.{Path._≡_, Bool.false, List.List}
+use Rattle.classes.specs.{Runs.stands}
+use Rattle.token.specs.declared.{TokenKind.TokenKind}
 use Rattle.token.specs.declared.TokenKind.the-variants.{LiteralString as LiteralToken, BasicString as BasicToken, MlLiteralString as MlLiteralToken, MlBasicString as MlBasicToken}
-use Rattle.strings.specs.declared.Edition.{Edition}
-use Rattle.strings.specs.declared.Encoding.{Encoding}
+use Rattle.strings.specs.declared.{Edition.Edition, Encoding.Encoding}
 use Rattle.strings.specs.declared.Encoding.the-variants.{LiteralString as LiteralText, BasicString as BasicText, MlLiteralString as MlLiteralText, MlBasicString as MlBasicText}
-use Rattle.grammar.specs.Grammar.{apostrophe, quotation-mark, LiteralString, BasicString, MlLiteralString, MlBasicString}
-use Rattle.grammar.specs.Scalars.{BasicNames, MlBasicNames}
-use Rattle.grammar.specs.Prose.{MlLiteralObeys, MlBasicObeys}
+use Rattle.grammar.specs.{Grammar.apostrophe, Grammar.quotation-mark, Grammar.LiteralString, Grammar.BasicString, Grammar.MlLiteralString, Grammar.MlBasicString, Scalars.BasicNames, Scalars.MlBasicNames, Prose.MlLiteralObeys, Prose.MlBasicObeys}
 
 -- string = ml-basic-string / basic-string / ml-literal-string / literal-string
 pub data StringKind : Type 0 where

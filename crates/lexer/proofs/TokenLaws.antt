@@ -1,7 +1,7 @@
 -- A token has at least one byte and stays within the document; whole lexing goes from token to token, without a gap.
 -- Assumes nothing.
 use Prim.Native.Nat.{ℕ, zero, suc, pred, _+_, _≤_, _<_, suc-le-suc}
-use mathlib.Core.Path.{_≡_, ap, _∙_}
+use mathlib.Core.Path.{_≡_, refl, ap, _∙_}
 use mathlib.Core.Bool.{Bool, true, false, not, _&&_}
 use mathlib.Core.List.{List, [], _∷_}
 use native.Mathlib.Omega.{arith}
@@ -104,6 +104,12 @@ walk-pass : (n at line b : ℕ) (s : List ℕ) → 0 < n → n ≤ suc (length s
 walk-pass zero at line b s h l = absurd (omega arith)
 walk-pass (suc n) at line b s h l =
     walk-skip n (at + 1) (lineBehind line b) s (omega arith) ∙ same-walk (drop n s) (omega arith) (behind-front line b (take n s))
+
+-- What `walk` says, without its counter: the tokens of no bytes are Eof; those of others are the first token, then the
+-- tokens of what is left behind it.
+pub tokens-none : (at line : ℕ) → tokensFrom at line [] ≡ eofAt at line ∷ []
+unfolding tokensFrom walk
+tokens-none at line = refl
 
 pub tokens-cons : (at line : ℕ) (s : List ℕ) → 0 < length s
     → tokensFrom at line s ≡ tokenAt at line s ∷ tokensFrom (at + tokenLen s) (lineAfter line s) (drop (tokenLen s) s)

@@ -25,7 +25,7 @@ abbrev pub lineAfter : ℕ → List ℕ → ℕ
 lineAfter line s = line + lineFeeds (take (tokenLen s) s)
 
 -- tokens without gap to the end, then one Eof; `skip` counts the bytes of a token that are still to be passed, and each LF
--- that is passed is a line more
+-- that is passed is a line more. `tokens-none` and `tokens-cons` in proofs/TokenLaws.antt say it without the counter
 unfoldable pub walk : ℕ → ℕ → ℕ → List ℕ → List Token
 walk at line skip [] = eofAt at line ∷ []
 walk at line zero (b ∷ s) = tokenAt at line (b ∷ s) ∷ walk (at + 1) (lineBehind line b) (pred (tokenLen (b ∷ s))) s
