@@ -30,7 +30,8 @@ use Rattle.grammar.proofs.LiteralStrings.{literal-sound, literal-comple
 use Rattle.grammar.proofs.BasicStrings.{basic-sound, basic-complete}
 use Rattle.grammar.proofs.MlLiteralStrings.{ml-literal-sound, ml-literal-complete}
 use Rattle.grammar.proofs.MlBasicStrings.{ml-basic-sound, ml-basic-complete}
-use Rattle.grammar.proofs.Values.{value-scalars}
+use Rattle.grammar.proofs.NameLaws.{basic-names, ml-basic-names}
+use Rattle.grammar.proofs.Values.{value-scalars, basic-value, ml-basic-value}
 use Rattle.grammar.proofs.Lexing.{IsToken, derived-token}
 use Rattle.grammar.proofs.TokenFacts.{listed-is, step-gave, step-there, reached-cut, reached-listed}
 use Rattle.grammar.proofs.CallLaws.{called-is}
@@ -43,19 +44,19 @@ module _ (ed : Edition) where
   means-derives literal cs v d = d
   means-derives basic cs v d = d
   means-derives ml-literal cs v (d, o) = d
-  means-derives ml-basic cs v (d, n, o) = (d, n)
+  means-derives ml-basic cs v (d, o, h) = (d, h)
 
   complete : (s : StringKind) (cs v : List ℕ) → Derived ed s cs v → errorsOf (encoding ed s) (encodes cs) ≡ []
   complete literal cs v d = literal-complete d .0
-  complete basic cs v (d, n) = basic-complete ed d n .0
+  complete basic cs v (d, h) = basic-complete ed d (basic-names d h) .0
   complete ml-literal cs v d = ml-literal-complete d .0
-  complete ml-basic cs v (d, n) = ml-basic-complete ed d n .0
+  complete ml-basic cs v (d, h) = ml-basic-complete ed d (ml-basic-names d h) .0
 
   bytes : (s : StringKind) (cs v : List ℕ) → Means ed s cs v → bytesOf (encoding ed s) (encodes cs) ≡ encodes v
   bytes literal cs v d = literal-complete d .1
-  bytes basic cs v (d, n) = basic-complete ed d n .1
+  bytes basic cs v (d, h) = basic-complete ed d (basic-names d h) .1
   bytes ml-literal cs v (d, o) = ml-literal-complete d .1 o
-  bytes ml-basic cs v (d, n, o) = ml-basic-complete ed d n .1 o
+  bytes ml-basic cs v (d, o, h) = ml-basic-complete ed d (ml-basic-names d h) .1 o
 
   long-of : (k : TokenKind) (t rest : List ℕ) → IsToken k t rest → extent k (t ++ rest) ≡ length t
   unfolding tokenLen
@@ -66,13 +67,13 @@ module _ (ed : Edition) where
       → (v : List ℕ) × Means ed s cs v
   unfolding extent
   sound literal cs rest h t e = literal-sound cs h e
-  sound basic cs rest h t e = let x = basic-sound ed cs h e in (x .0, (x .1, x .2))
+  sound basic cs rest h t e = let x = basic-sound ed cs h e in (x .0, (x .1, basic-value ed (x .1) (x .2)))
   sound ml-literal cs rest h t e =
       let x = ml-literal-sound cs rest h (long-of (tokenKind ml-literal) (encodes cs) rest t) e in
       (x .0, (x .1, x .2))
   sound ml-basic cs rest h t e =
       let x = ml-basic-sound ed cs rest h (long-of (tokenKind ml-basic) (encodes cs) rest t) e in
-      (x .0, (x .1, x .2, x .3))
+      (x .0, (x .1, x .3, ml-basic-value ed (x .1) (x .2)))
 
   -- ---- a token's text
 

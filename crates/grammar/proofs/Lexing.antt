@@ -16,6 +16,7 @@ use Rattle.strings.specs.declared.Edition.{Edition}
 use Rattle.grammar.specs.Grammar.{LiteralChars, LiteralString, literal-string, BasicUnescaped, EscapeSeqChar, escaped, basic-unescaped, escaped-char, BasicChars, BasicString, basic-string, MlLiteralString, ml-literal-string, MlBasicString, ml-basic-string}
 use Rattle.grammar.specs.Strings.{StringKind, literal, basic, ml-literal, ml-basic, tokenKind, mark, Apart, Derived}
 use Rattle.grammar.proofs.ListLaws.{all-weaken}
+use Rattle.grammar.proofs.NameLaws.{ml-basic-names}
 use Rattle.grammar.proofs.Encoded.{char-bytes, chars-bytes, encodes-ascii}
 use Rattle.grammar.proofs.Escapes.{shape, escape-ascii}
 use Rattle.grammar.proofs.LineMarks.{marked, marked-long, encodes-marked}
@@ -150,8 +151,9 @@ module _ (ed : Edition) where
       → IsToken (tokenKind s) (encodes cs) rest
   unfolding extent
   derived-token literal cs v rest d h = literal-token d rest h
-  derived-token basic cs v rest (d, n) h = basic-token d rest h
+  derived-token basic cs v rest (d, k) h = basic-token d rest h
   derived-token ml-literal cs v rest d h =
       token-of (tokenKind ml-literal) (encodes cs) rest (ml-literal-kind d rest) (ml-literal-lexed d rest h)
-  derived-token ml-basic cs v rest (d, n) h =
-      token-of (tokenKind ml-basic) (encodes cs) rest (ml-basic-kind d rest) (ml-basic-lexed ed d n rest h)
+  derived-token ml-basic cs v rest (d, k) h =
+      token-of (tokenKind ml-basic) (encodes cs) rest (ml-basic-kind d rest)
+      (ml-basic-lexed ed d (ml-basic-names d k) rest h)

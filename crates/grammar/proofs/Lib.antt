@@ -2,6 +2,7 @@ pub mod ListLaws
 pub mod Encoded
 pub mod Reading
 pub mod ClassLaws
+pub mod NameLaws
 pub mod Escapes
 pub mod LineMarks
 pub mod LiteralStrings
@@ -14,9 +15,9 @@ pub mod MlBasicPieces
 pub mod MlBasicRuns
 pub mod MlBasicStrings
 pub mod Lexing
+pub mod ScalarTexts
 pub mod Values
 pub mod TokenFacts
 pub mod CallLaws
 pub mod Demand3Laws
-pub mod ScalarTexts
 pub mod Teeth

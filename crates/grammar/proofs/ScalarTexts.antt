@@ -201,8 +201,15 @@ ml-literal-scalars (ml-literal-string n (ml-literal-body a g q)) =
 
 -- ---- the kinds
 
+module _ {ed : Edition} where
+  pub basic-text : {t v : List ℕ} → BasicString ed t v → All Scalar t
+  basic-text d = basic-scalars d .each
+
+  pub ml-basic-text : {t v : List ℕ} → MlBasicString ed t v → All Scalar t
+  ml-basic-text d = ml-basic-scalars d .each
+
 pub derived-scalar : DerivedScalar
-derived-scalar ed ml-basic cs v (d, names) = ml-basic-scalars d .each
-derived-scalar ed basic cs v (d, names) = basic-scalars d .each
+derived-scalar ed ml-basic cs v (d, h) = ml-basic-text d
+derived-scalar ed basic cs v (d, h) = basic-text d
 derived-scalar ed ml-literal cs v d = ml-literal-scalars d .each
 derived-scalar ed literal cs v d = literal-scalars d .each

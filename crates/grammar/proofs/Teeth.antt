@@ -25,6 +25,7 @@ use Rattle.grammar.specs.Grammar.{Wschar, Ws, Newline, OptNewline, NonAs
 use Rattle.grammar.specs.Prose.{startsNewline, startsBlank}
 use Rattle.grammar.specs.Strings.{StringKind, literal, basic, ml-literal, ml-basic, encoding, Derived, Means}
 use Rattle.grammar.proofs.ClassLaws.{basic-at}
+use Rattle.grammar.proofs.NameLaws.{basic-names}
 use Rattle.grammar.proofs.BasicStrings.{basic-complete}
 use Rattle.grammar.proofs.Lexing.{derived-token}
 
@@ -106,7 +107,7 @@ unfolding encodeScalar errorsOf lineEnds notes basicPiece run basicUnescaped bas
 surrogate-error = refl
 
 pub surrogate-not-derived : (v : List ℕ) → Derived Toml10 basic surrogate v → ⊥
-surrogate-not-derived v (d, n) = cons≢nil (sym surrogate-error ∙ basic-complete Toml10 d n .0)
+surrogate-not-derived v (d, h) = cons≢nil (sym surrogate-error ∙ basic-complete Toml10 d (basic-names d h) .0)
 
 -- ---- the grammar alone reads ''' LF a''' in two ways: only the prose rule says which is meant
 
@@ -152,7 +153,7 @@ basic-means = (
       (HexDigits.more (HexDig.upper {d = 14} refl (omega arith) (omega arith))
       (HexDigits.more (HexDig.digit {d = 9} refl (omega arith)) HexDigits.stop)))))))
       (BasicChars.more (BasicChar.escaped-char (escaped EscapeSeqChar.x6E)) BasicChars.stop))),
-  (tt, (inl (omega arith), (tt, tt))),
+  (inl (omega arith), (inl (omega arith), (inl (omega arith), tt))),
 )
 
 pub basic-decodes : Decodes Toml10 basic (encodes basic-text) (97 ∷ 0xC3 ∷ 0xA9 ∷ 10 ∷ [])
@@ -201,8 +202,8 @@ ml-basic-means =
           (MlbContents.more (mlb 97 (omega arith) (omega arith)) (MlbContents.more line-end MlbContents.stop))
           (MlbGroups.more MlbQuotes.one (MlbContents1.some-content (mlb 98 (omega arith) (omega arith)) line) MlbGroups.stop)
           OptMlbQuotes.absent),
-      ((tt, (tt, tt)), ((tt, (tt, tt)), tt)),
       (refl, ((tt, (refl, tt)), ((tt, (tt, tt)), tt))),
+      (inl (omega arith), (inl (omega arith), (inl (omega arith), (inl (omega arith), (inl (omega arith), tt))))),
     )
 
 pub ml-basic-decodes : Decodes Toml10 ml-basic (encodes ml-basic-text) (97 ∷ 34 ∷ 98 ∷ 13 ∷ 10 ∷ [])
@@ -220,7 +221,7 @@ later-means = (
       (BasicChars.more (BasicChar.escaped-char (escaped (EscapeSeqChar.x78
       (HexDigits.more (HexDig.digit {d = 4} refl (omega arith))
       (HexDigits.more (HexDig.digit {d = 1} refl (omega arith)) HexDigits.stop))))) BasicChars.stop)),
-  (tt, (tt, tt)),
+  (inl (omega arith), (inl (omega arith), tt)),
 )
 
 pub later-decodes : Decodes Toml11 basic (encodes later-text) (0x1B ∷ 0x41 ∷ [])
@@ -232,4 +233,4 @@ unfolding encodeScalar errorsOf lineEnds notes basicPiece run basicUnescaped bas
 later-error = refl
 
 pub later-not-derived : (v : List ℕ) → Derived Toml10 basic later-text v → ⊥
-later-not-derived v (d, n) = cons≢nil (sym later-error ∙ basic-complete Toml10 d n .0)
+later-not-derived v (d, h) = cons≢nil (sym later-error ∙ basic-complete Toml10 d (basic-names d h) .0)

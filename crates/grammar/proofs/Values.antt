@@ -1,4 +1,4 @@
--- The value of a derived text of scalar values is scalar values.
+-- The value of a derived text is of scalar values, and where its escapes name scalar values is what that says.
 -- Assumes nothing.
 use Prim.Native.Nat.{ℕ}
 use mathlib.Core.Logic.{inl}
@@ -9,9 +9,11 @@ use Rattle.text.specs.Utf8.{Scalar, All}
 use Rattle.text.proofs.CutLaws.{all-append, all-parts}
 use Rattle.strings.specs.declared.Edition.{Edition}
 use Rattle.grammar.specs.Grammar.{apostrophe, quotation-mark, LiteralString, literal-string, EscapeSeqChar, x22, x5C, x62, x66, x6E, x72, x74, x75, x55, x65, x78, Escaped, escaped, BasicChar, BasicChars, BasicString, basic-string, ml-literal-string-delim, MlLiteralString, ml-literal-string, MlbChar, MlbContent, mlb-char, newline, escaped-nl, ml-basic-string-delim, MlBasicString, ml-basic-string}
-use Rattle.grammar.specs.Scalars.{Names, EscapedNames, CharNames, CharsName, BasicNames, MlbCharNames, ContentNames, MlBasicNames}
+use Rattle.grammar.specs.Scalars.{Names, EscapedNames, CharNames, CharsName, BasicNames, MlbCharNames, ContentNames, MlBasicNames, NamesMean}
 use Rattle.grammar.specs.Strings.{StringKind, literal, basic, ml-literal, ml-basic, Derived}
 use Rattle.grammar.proofs.ClassLaws.{no-true}
+use Rattle.grammar.proofs.NameLaws.{basic-names, ml-basic-names}
+use Rattle.grammar.proofs.ScalarTexts.{basic-text, ml-basic-text}
 use Rattle.grammar.proofs.Escapes.{two-scalar}
 use Rattle.grammar.proofs.Passing.{Seen}
 use Rattle.grammar.proofs.MlRuns.{end, mark0, mark1, content}
@@ -86,8 +88,21 @@ module _ (ed : Edition) where
   ml-basic-scalars (ml-basic-string {n} {b} o d) m h =
       run-scalars ((body-run ed) false d m (λ e. no-true e)) (inner n b ml-basic-string-delim h)
 
+  pub basic-value : {cs v : List ℕ} (d : BasicString ed cs v) → BasicNames d → All Scalar v
+  basic-value d n = basic-scalars d n (basic-text d)
+
+  pub ml-basic-value : {cs v : List ℕ} (d : MlBasicString ed cs v) → MlBasicNames d → All Scalar v
+  ml-basic-value d n = ml-basic-scalars d n (ml-basic-text d)
+
   pub value-scalars : (s : StringKind) (cs v : List ℕ) → Derived ed s cs v → All Scalar cs → All Scalar v
   value-scalars literal cs v d h = literal-scalars d h
-  value-scalars basic cs v (d, n) h = basic-scalars d n h
+  value-scalars basic cs v (d, k) h = k
   value-scalars ml-literal cs v d h = ml-literal-scalars d h
-  value-scalars ml-basic cs v (d, n) h = ml-basic-scalars d n h
+  value-scalars ml-basic cs v (d, k) h = k
+
+pub names-mean : NamesMean
+names-mean =
+    record {
+      basic = λ {ed} d. (basic-value ed d, basic-names d);
+      ml-basic = λ {ed} d. (ml-basic-value ed d, ml-basic-names d);
+    }

@@ -1,9 +1,10 @@
--- RULE. TOML's prose: each \u and \U names a Unicode scalar value. The grammar alone takes any digits. What \x names is one
--- always: two digits reach U+00FF.
+-- STATEMENT. TOML's prose: each \u and \U names a Unicode scalar value. The grammar alone takes any digits. Here that is said
+-- of each escape of a derivation; Strings.antt says it of the value, and `names-mean` in proofs/Values.antt proves that both
+-- say the same. What \x names is a scalar value always: two digits reach U+00FF.
 -- Assumes nothing.
 use Prim.Native.Nat.{ℕ}
-use mathlib.Core.{List.List}
-use Rattle.text.specs.{Utf8.Scalar}
+use mathlib.Core.{Logic._↔_, List.List}
+use Rattle.text.specs.{Utf8.Scalar, Utf8.All}
 use Rattle.strings.specs.declared.{Edition.Edition}
 use Rattle.grammar.specs.Grammar.{EscapeSeqChar, x22, x5C, x62, x66, x6E, x72, x74, x75, x55, x65, x78, Escaped, escaped, BasicChar, BasicChars, BasicString, basic-string, MlbChar, MlbContent, mlb-char, newline, escaped-nl, MlbContents, MlbContents1, some-content, MlbGroups, MlBasicBody, ml-basic-body, MlBasicString, ml-basic-string}
 
@@ -65,3 +66,9 @@ BodyNames (ml-basic-body a g q) = ContentsName a × GroupsName g
 
 abbrev pub MlBasicNames : {ed : Edition} {t w : List ℕ} → MlBasicString ed t w → Type 0
 MlBasicNames (ml-basic-string n b) = BodyNames b
+
+-- ---- `names-mean`: each escape names a scalar value exactly where the whole value is of scalar values
+
+pub record NamesMean : Type 0 where
+  pub basic : {ed : Edition} {t v : List ℕ} (d : BasicString ed t v) → BasicNames d ↔ All Scalar v
+  pub ml-basic : {ed : Edition} {t v : List ℕ} (d : MlBasicString ed t v) → MlBasicNames d ↔ All Scalar v

@@ -4,11 +4,12 @@
 use Prim.Native.Nat.{ℕ}
 use mathlib.Core.{Path._≡_, Bool.false, List.List}
 use Rattle.classes.specs.{Runs.stands}
+use Rattle.text.specs.{Utf8.Scalar, Utf8.All}
 use Rattle.token.specs.declared.{TokenKind.TokenKind}
 use Rattle.token.specs.declared.TokenKind.the-variants.{LiteralString as LiteralToken, BasicString as BasicToken, MlLiteralString as MlLiteralToken, MlBasicString as MlBasicToken}
 use Rattle.strings.specs.declared.{Edition.Edition, Encoding.Encoding}
 use Rattle.strings.specs.declared.Encoding.the-variants.{LiteralString as LiteralText, BasicString as BasicText, MlLiteralString as MlLiteralText, MlBasicString as MlBasicText}
-use Rattle.grammar.specs.{Grammar.apostrophe, Grammar.quotation-mark, Grammar.LiteralString, Grammar.BasicString, Grammar.MlLiteralString, Grammar.MlBasicString, Scalars.BasicNames, Scalars.MlBasicNames, Prose.MlLiteralObeys, Prose.MlBasicObeys}
+use Rattle.grammar.specs.{Grammar.apostrophe, Grammar.quotation-mark, Grammar.LiteralString, Grammar.BasicString, Grammar.MlLiteralString, Grammar.MlBasicString, Prose.MlLiteralObeys, Prose.MlBasicObeys}
 
 -- string = ml-basic-string / basic-string / ml-literal-string / literal-string
 pub data StringKind : Type 0 where
@@ -39,17 +40,18 @@ mark literal = apostrophe
 abbrev pub Apart : ℕ → List ℕ → Type 0
 Apart q s = stands q s ≡ false
 
--- in an edition the kind's rule derives the code points cs with the value v, and each \u and \U in them names a scalar value
+-- in an edition the kind's rule derives the code points cs with the value v, and each \u and \U in them names a scalar value:
+-- v is of scalar values, as all else in a text is anyhow (`names-mean` in proofs/Values.antt)
 abbrev pub Derived : Edition → StringKind → List ℕ → List ℕ → Type 0
-Derived ed ml-basic cs v = (d : MlBasicString ed cs v) × MlBasicNames d
-Derived ed basic cs v = (d : BasicString ed cs v) × BasicNames d
+Derived ed ml-basic cs v = MlBasicString ed cs v × All Scalar v
+Derived ed basic cs v = BasicString ed cs v × All Scalar v
 Derived ed ml-literal cs v = MlLiteralString cs v
 Derived ed literal cs v = LiteralString cs v
 
 -- and the derivation obeys the two prose rules: the newline after the opening is dropped, and a line-ending backslash drops
 -- all that it can
 abbrev pub Means : Edition → StringKind → List ℕ → List ℕ → Type 0
-Means ed ml-basic cs v = (d : MlBasicString ed cs v) × MlBasicNames d × MlBasicObeys d
-Means ed basic cs v = (d : BasicString ed cs v) × BasicNames d
+Means ed ml-basic cs v = (d : MlBasicString ed cs v) × MlBasicObeys d × All Scalar v
+Means ed basic cs v = BasicString ed cs v × All Scalar v
 Means ed ml-literal cs v = (d : MlLiteralString cs v) × MlLiteralObeys d
 Means ed literal cs v = LiteralString cs v
