@@ -1,6 +1,5 @@
 -- RULE. The byte sets of the lexer and the decoders, each with the line of TOML 1.0.0's ABNF that it follows, if any.
 -- A set of bytes stands for a set of characters: every byte of a character beyond ASCII is 80 to FF.
--- Assumes nothing.
 use Prim.Native.Nat.{ℕ}
 use mathlib.Core.{Bool.Bool, Bool._&&_, Bool._||_}
 use lib.{Dec.leb, Dec.eqb}

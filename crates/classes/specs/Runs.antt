@@ -1,5 +1,4 @@
 -- RULE. Bytes that pass a test: how many in front, and whether the first does.
--- Assumes nothing.
 use Prim.Native.Nat.{ℕ, suc}
 use mathlib.Core.{Bool.Bool, Bool.false, Bool.cond, List.List, List.[], List._∷_}
 use lib.{Dec.eqb}

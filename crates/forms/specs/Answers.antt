@@ -13,7 +13,7 @@ use Rattle.token.specs.declared.Token.{Token}
 use Rattle.token.specs.declared.Answer.{Answer as Described}
 use Rattle.token.specs.declared.Answer.the-variants.{Given, Refused as Undescribed}
 use Rattle.token.specs.Records.{recordOf}
-use Rattle.lexer.specs.Steps.{bitOf}
+use Rattle.lexer.specs.Told.{bitOf}
 use Rattle.lexer.specs.declared.Cursor.{Cursor}
 use Rattle.lexer.specs.declared.Lexed.{Lexed}
 use Rattle.lexer.specs.declared.Lexed.the-variants.{Tokens, Refused as Unlexed}

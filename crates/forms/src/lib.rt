@@ -1,7 +1,7 @@
 // What the result of each call, and a line's fault, come to as an answer: a form and the numbers that
 // fill it. Definitions: specs/Answers.antt.
 ghost use mathlib.Core.Path.{_≡_};
-ghost use Rattle.lexer.specs.Steps.{bitOf};
+ghost use Rattle.lexer.specs.Told.{bitOf};
 ghost use Rattle.forms.specs.Answers.{filledBy, answeredBy, threeBy, refusedAs, refusedWhole, faultAs, faultForm};
 ghost use Rattle.forms.specs.Answers.{tokensAs, tokenLinesAs, tokenCountAs, decodedAs, decodedCountAs, checkedAs, faultedAs};
 ghost use Rattle.forms.specs.Answers.{spanCheckedAs, startedAs, positionedAs, steppedAs, steppedLineAs, nextAs, nextLineAs};

@@ -3,7 +3,6 @@
 -- made of. The two differ in escape-seq-char alone: that rule, and those that reach it, take the edition. A family's last
 -- index is the value that TOML gives the text; where the value is the text itself it has no such index.
 -- A repetition `*rule` is `stop` or `more`; an option `[ rule ]` is `absent` or `present`.
--- Assumes nothing.
 use Prim.Native.Nat.{ℕ, suc, _+_, _*_, _≤_, _<_}
 use mathlib.Core.{Path._≡_, List.List, List.[], List._∷_, List._++_}
 use Rattle.strings.specs.declared.{Edition.Edition, Edition.the-variants.Toml11}

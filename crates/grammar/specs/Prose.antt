@@ -1,7 +1,6 @@
 -- RULE. The two prose rules of TOML that make the reading of a multi-line string unique: the newline right after the opening
 -- is always dropped, and a line-ending backslash drops all whitespace and newlines up to the next other character. The
 -- grammar alone lets a derivation keep some of either.
--- Assumes nothing.
 use Prim.Native.Nat.{ℕ}
 use mathlib.Core.{Path._≡_, Bool.Bool, Bool.false, Bool._&&_, Bool._||_, List.List, List.[], List._∷_, List._++_}
 use lib.{Dec.eqb}

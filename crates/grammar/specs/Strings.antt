@@ -1,6 +1,5 @@
 -- RULE. TOML's four kinds of string: which token and which encoding each is, and what it is for a text of code points to be
 -- derived, and to mean a value.
--- Assumes nothing.
 use Prim.Native.Nat.{ℕ}
 use mathlib.Core.{Path._≡_, Bool.false, List.List}
 use Rattle.classes.specs.{Runs.stands}

@@ -13,7 +13,7 @@ use Rattle.classes.proofs.Conds.{cond-case}
 use Rattle.token.specs.declared.TokenKind.{TokenKind}
 use Rattle.token.specs.declared.TokenKind.the-variants.{Dot, Equals, Comma, LeftSquareBracket, RightSquareBracket, LeftCurlyBracket, RightCurlyBracket, Whitespace, Comment, Newline, LiteralString, BasicString, MlLiteralString, MlBasicString, Atom}
 use Rattle.token.specs.Records.{tokenOf}
-use Rattle.scans.specs.Bytes.{eol}
+use Rattle.scans.specs.Extents.{eol}
 use Rattle.scans.specs.Extents.{triple}
 use Rattle.lexer.specs.Table.{kindBy, kindOf, tokenLen}
 use Rattle.lexer.specs.Tokens.{tokenBy, tokenAt}

@@ -18,7 +18,7 @@ use Rattle.classes.proofs.Conds.{cond-case, both-left, both-right, not-both}
 use Rattle.classes.proofs.RunLaws.{there}
 use Rattle.token.specs.declared.TokenKind.{TokenKind}
 use Rattle.token.specs.declared.TokenKind.the-variants.{Dot, Equals, Comma, LeftSquareBracket, RightSquareBracket, LeftCurlyBracket, RightCurlyBracket, Whitespace, Comment, Newline, LiteralString, BasicString, MlLiteralString, MlBasicString, Atom, Eof}
-use Rattle.scans.specs.Bytes.{hides, closes, inComment, inAtom}
+use Rattle.scans.specs.Extents.{hides, closes, inComment, inAtom}
 use Rattle.scans.specs.Extents.{lineTail, triple, newlineTail}
 use Rattle.lexer.specs.Lines.{lineFeeds, lineBehind}
 use Rattle.lexer.specs.Tokens.{hasBom, startOf}

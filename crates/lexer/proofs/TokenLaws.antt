@@ -16,7 +16,7 @@ use Rattle.classes.proofs.RunLaws.{run-le, there}
 use Rattle.classes.proofs.FirstLaws.{first-within}
 use Rattle.token.specs.declared.TokenKind.{TokenKind}
 use Rattle.token.specs.declared.Token.{Token}
-use Rattle.scans.specs.Bytes.{hides, closes, inComment, inAtom}
+use Rattle.scans.specs.Extents.{hides, closes, inComment, inAtom}
 use Rattle.scans.specs.Extents.{lineTail, triple, upToTwo, mlTail, newlineTail}
 use Rattle.lexer.specs.Lines.{lineFeeds, lineBehind}
 use Rattle.lexer.specs.Table.{kindOf, extent, tokenLen}

@@ -1,5 +1,4 @@
 -- RULE. Lines: the line of an offset is 1 plus the LFs before it. A CR alone ends none.
--- Assumes nothing.
 use Prim.Native.Nat.{ℕ, suc, _+_}
 use mathlib.Core.{Bool.cond, List.List, List.[], List._∷_}
 use lib.{ListN.take, Dec.eqb}

@@ -1,5 +1,4 @@
 -- RULE. The starting cursor and one step, for every document and every cursor.
--- Assumes nothing.
 use Prim.Native.Nat.{ℕ, _+_}
 use mathlib.Core.{Bool.Bool, Bool.true, Bool.false, Bool.cond, Bool._||_, List.List}
 use lib.{ListN.length, ListN.drop, Dec.ltb, Dec.eqb}
@@ -10,11 +9,6 @@ use Rattle.lexer.specs.declared.{Cursor.Cursor, Start.Start, Start.the-v
 
 abbrev pub cursorOf : ℕ → ℕ → Bool → Cursor
 cursorOf place line ended = record { place = place; line = line; ended = ended }
-
--- whether it is ended, as a number: 1 for yes
-abbrev pub bitOf : Bool → ℕ
-bitOf true = 1
-bitOf false = 0
 
 -- the start: refusal 2; else past a byte order mark, on line 1, not ended
 unfoldable pub startAnswer : List ℕ → Start

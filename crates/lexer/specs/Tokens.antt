@@ -1,5 +1,4 @@
 -- RULE. The tokens of a document.
--- Assumes nothing.
 use Prim.Native.Nat.{ℕ, zero, suc, pred, _+_}
 use mathlib.Core.{Bool.Bool, Bool.cond, Bool._&&_, List.List, List.[], List._∷_}
 use lib.{ListN.take, ListN.drop}

@@ -2,11 +2,16 @@
 -- they come to for the arguments. Proved by `started`, `stepped` and `lexed` in proofs/NumberLaws.antt.
 -- Assumes nothing.
 use Prim.Native.Nat.{ℕ}
-use mathlib.Core.{Bool.cond, List.List}
+use mathlib.Core.{Bool.Bool, Bool.true, Bool.false, Bool.cond, List.List}
 use lib.{ListN.length, Dec.ltb, Dec.eqb}
 use Rattle.text.specs.{Refusals.limit, Refusals.refusalNumber, Refusals.refusalValue, Refusals.refusalLength, Utf8Read.validPrefix}
 use Rattle.lexer.specs.{Steps.astray, Whole.tokenCount}
 use Rattle.lexer.specs.declared.{Cursor.Cursor, Start.Start, Start.the-variants.At, Start.the-variants.Refused as Unstarted, Step.Step, Step.the-variants.Token as Given, Step.the-variants.End, Step.the-variants.Refused, Lexed.Lexed, Lexed.the-variants.Tokens, Lexed.the-variants.Refused as Unlexed}
+
+-- whether a cursor is ended, as a number: 1 for yes
+abbrev pub bitOf : Bool → ℕ
+bitOf true = 1
+bitOf false = 0
 
 -- ---- the start
 

@@ -1,5 +1,4 @@
 -- RULE. Whole lexing into lent records of four numbers.
--- Assumes nothing.
 use Prim.Native.Nat.{ℕ}
 use mathlib.Core.{Bool.cond, List.List, List._++_, List.map}
 use lib.{ListN.length, ListN.drop, Dec.ltb}

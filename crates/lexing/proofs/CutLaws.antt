@@ -13,7 +13,7 @@ use Rattle.classes.specs.Runs.{run}
 use Rattle.classes.proofs.Conds.{cond-case, both-right, not-both}
 use Rattle.classes.proofs.ByteTable.{allOf, and-left as front-of, and-right as rest-of}
 use Rattle.token.specs.declared.TokenKind.{TokenKind}
-use Rattle.scans.specs.Bytes.{eol, hides, closes, inComment, inAtom}
+use Rattle.scans.specs.Extents.{eol, hides, closes, inComment, inAtom}
 use Rattle.scans.specs.Extents.{lineTail, triple, upToTwo, mlTail, newlineTail}
 use Rattle.lexer.specs.Table.{kindOf, extent, tokenLen}
 use Rattle.lexer.proofs.KindLaws.{by-kind}

@@ -18,7 +18,7 @@ use Rattle.classes.proofs.Conds.{cond-case}
 use Rattle.classes.proofs.FirstLaws.{first-take}
 use Rattle.token.specs.declared.TokenKind.{TokenKind}
 use Rattle.token.specs.declared.TokenKind.the-variants.{Dot, Equals, Comma, LeftSquareBracket, RightSquareBracket, LeftCurlyBracket, RightCurlyBracket, Whitespace, Comment, Newline, LiteralString, BasicString, MlLiteralString, MlBasicString, Atom, Eof}
-use Rattle.scans.specs.Bytes.{hides, closes, inComment, inAtom}
+use Rattle.scans.specs.Extents.{hides, closes, inComment, inAtom}
 use Rattle.scans.specs.Extents.{lineTail, triple, upToTwo, mlTail, newlineTail}
 use Rattle.lexer.specs.Table.{kindBy, kindOf, extent, tokenLen}
 use Rattle.lexer.proofs.TokenLaws.{token-long}

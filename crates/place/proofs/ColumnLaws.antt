@@ -21,7 +21,7 @@ use Rattle.text.proofs.ReadLaws.{scalars-of}
 use Rattle.lexer.specs.Tokens.{hasBom, startOf}
 use Rattle.lexer.proofs.LineLaws.{mark-bytes}
 use Rattle.place.specs.Positions.{columnBehind, columnOf}
-use Rattle.place.specs.ColumnMeans.{begun, unmarked, onLine}
+use Rattle.place.specs.Positions.{begun, unmarked, onLine}
 use Rattle.place.proofs.PositionLaws.{turned}
 
 -- ---- the bytes of one character

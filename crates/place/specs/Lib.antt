@@ -1,4 +1,3 @@
 pub mod Spans
 pub mod Positions
 pub mod Told
-pub mod ColumnMeans

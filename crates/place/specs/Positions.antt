@@ -1,5 +1,4 @@
 -- RULE. The line and column of an offset; what a line is stands in crate `lexer`, whose tokens bear it too.
--- Assumes nothing.
 use Prim.Native.Nat.{ℕ, _+_}
 use mathlib.Core.{Bool.cond, List.List, List.[], List._∷_}
 use lib.{ListN.length, ListN.take, ListN.drop, Dec.ltb, Dec.eqb}
@@ -25,3 +24,21 @@ positionAnswer doc offset =
     cond (ltb limit (length doc)) (Refused TooLong)
     (cond (ltb (length doc) offset) (Refused (OutOfPlace (length doc)))
     (At (lineOf doc offset) (columnOf doc offset)))
+
+-- What a column says of a document that is UTF-8: it counts scalar values. `column-means` in proofs/ColumnLaws.antt proves it,
+-- over what follows.
+
+-- the scalar values, of those that are encoded one behind another, whose encodings begin before an offset
+unfoldable pub begun : ℕ → List ℕ → List ℕ
+begun n [] = []
+begun n (c ∷ cs) = cond (ltb 0 n) (c ∷ begun (n - length (encodeScalar c)) cs) []
+
+-- without a byte order mark at the front, U+FEFF
+abbrev pub unmarked : List ℕ → List ℕ
+unmarked [] = []
+unmarked (c ∷ cs) = cond (eqb c 0xFEFF) cs (c ∷ cs)
+
+-- how many stand behind the last LF, where n on its line stand before them
+unfoldable pub onLine : ℕ → List ℕ → ℕ
+onLine n [] = n
+onLine n (c ∷ cs) = onLine (cond (eqb c 0x0A) 0 (n + 1)) cs

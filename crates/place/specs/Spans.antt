@@ -1,5 +1,4 @@
 -- RULE. Spans of a document: which are refused, and the text of one.
--- Assumes nothing.
 use Prim.Native.Nat.{ℕ, _-_}
 use mathlib.Core.{Bool.Bool, Bool.cond, Bool._||_, List.List, List.[]}
 use lib.{ListN.length, ListN.take, ListN.drop, Dec.ltb}

@@ -1,3 +1,4 @@
 pub mod TokenMemory
+pub mod Eight
 pub mod Turns
 pub mod Agreement

@@ -14,7 +14,7 @@ use lib.Seq.{drop-cons, drop-drop, getD-drop}
 use Rattle.classes.specs.Runs.{run}
 use Rattle.classes.proofs.Conds.{cond-case, not-both}
 use Rattle.classes.proofs.RunLaws.{run-le, SameEnd}
-use Rattle.scans.specs.Bytes.{hides, closes, inComment}
+use Rattle.scans.specs.Extents.{hides, closes, inComment}
 use Rattle.scans.specs.Extents.{lineTail, triple, upToTwo, mlTail}
 use Rattle.scans.specs.Scans.{noneOf, escapeOf}
 use Rattle.scans.proofs.BlockLaws.{run-same}

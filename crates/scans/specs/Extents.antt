@@ -1,10 +1,31 @@
--- RULE. How far each kind of token reaches, on the list of bytes from a place on, for all bytes.
--- Assumes nothing.
+-- RULE. How far each kind of token reaches, on the list of bytes from a place on, for all bytes: first which bytes end it, close
+-- it, and hide the byte behind them.
 use Prim.Native.Nat.{ℕ, suc, _+_}
-use mathlib.Core.{Bool.Bool, Bool.not, Bool.cond, Bool._&&_, List.List, List.[], List._∷_}
+use mathlib.Core.{Bool.Bool, Bool.not, Bool.cond, Bool._&&_, Bool._||_, List.List, List.[], List._∷_}
 use lib.{ListN.drop, Dec.eqb}
-use Rattle.classes.specs.Runs.{stands}
-use Rattle.scans.specs.{Bytes.hides, Bytes.closes}
+use Rattle.classes.specs.{Classes.tokenStart, Runs.stands}
+
+-- CR or LF
+abbrev pub eol : ℕ → Bool
+eol b = eqb b 0x0D || eqb b 0x0A
+
+-- goes on with a comment
+abbrev pub inComment : ℕ → Bool
+inComment b = not (eol b)
+
+-- goes on with an atom
+abbrev pub inAtom : ℕ → Bool
+inAtom b = not (tokenStart b)
+
+-- In a string with the quote mark q, at a byte that is hidden or not: does b hide the next byte? In the basic kinds a
+-- backslash does. So said, it hides any byte; that only a backslash or the mark matters is proved, as `line-hidden-other`
+-- and `ml-hidden-other` in proofs/TailLaws.antt.
+abbrev pub hides : ℕ → Bool → ℕ → Bool
+hides q h b = not h && (eqb q 0x22 && eqb b 0x5C)
+
+-- does b, hidden or not, close a string on one line with the quote mark q?
+abbrev pub closes : ℕ → Bool → ℕ → Bool
+closes q h b = not h && eqb b q
 
 -- behind the opening mark q of a string on one line: through the first q that is not hidden, else up to the next LF,
 -- whichever is first, else to the end; h says whether the first byte is hidden. A CR does not stop it

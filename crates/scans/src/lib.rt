@@ -1,6 +1,6 @@
 // Scanning: how far a run of bytes, or a string behind its opening, reaches. Each function that others call takes the
 // document and any place, and answers the place behind, which beyond the end is that place itself.
-// Rules: specs/Bytes.antt, Extents.antt.
+// Rules: specs/Extents.antt.
 ghost use mathlib.Core.Path.{_≡_};
 ghost use mathlib.Core.Bool.{true, false};
 ghost use Prim.Native.Nat.{_+_, _≤_, _<_};
@@ -8,7 +8,7 @@ ghost use lib.ListN.{length, drop, getD};
 ghost use Rattle.classes.specs.Classes.{wschar};
 ghost use Rattle.classes.specs.Runs.{run, stands};
 ghost use Rattle.classes.proofs.RunLaws.{Block, SameEnd};
-ghost use Rattle.scans.specs.Bytes.{inComment, inAtom};
+ghost use Rattle.scans.specs.Extents.{inComment, inAtom};
 ghost use Rattle.scans.specs.Extents.{lineTail, triple, upToTwo, mlTail};
 ghost use Rattle.scans.specs.Scans.{oneOf, noneOf, escapeOf};
 

@@ -16,7 +16,7 @@ use borrow.Author.Tests.{eq-eqb, ne-eqb}
 use Rattle.text.specs.declared.utf8.Lead.{Lead}
 use Rattle.text.specs.Utf8.{encodeScalar}
 use Rattle.text.specs.Utf8Read.{guess}
-use Rattle.text.specs.Faults.{Begins, LongestBegun, faulty, Fault}
+use Rattle.text.specs.CheckMeans.{Begins, LongestBegun, faulty, Fault}
 use Rattle.text.specs.Lead.{leadOf, Among, Begun, BegunAt, begunLen, faultLen}
 use Rattle.classes.proofs.Conds.{by-eq}
 use Rattle.text.proofs.EncodeLaws.{encode-length, size}

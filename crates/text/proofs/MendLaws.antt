@@ -12,7 +12,7 @@ use lib.Seq.{take-length, take-append-seam, take-append-le, length-take-le}
 use borrow.Author.Tests.{eq-eqb}
 use Rattle.text.specs.Utf8.{Scalar, encodeScalar, encodes, All, Utf8}
 use Rattle.text.specs.Utf8Read.{validPrefix}
-use Rattle.text.specs.Faults.{Begins, faulty}
+use Rattle.text.specs.CheckMeans.{Begins, faulty}
 use Rattle.text.specs.Answers.{checkOf}
 use Rattle.text.specs.CheckMeans.{Longest}
 use Rattle.text.specs.LengthTells.{Mendable, LengthTells, LengthElse}

@@ -1,5 +1,4 @@
 -- RULE. What the calls of this crate answer.
--- Assumes nothing.
 use Prim.Native.Nat.{ℕ, _-_}
 use mathlib.Core.{Bool.cond, List.List, List.[], List._++_}
 use lib.{ListN.length, ListN.drop, ListN.replicate, Dec.ltb, Dec.eqb}

@@ -1,6 +1,5 @@
 pub mod Refusals
 pub mod Utf8
-pub mod Faults
 pub mod CheckMeans
 pub mod Answers
 pub mod Told

@@ -1,5 +1,4 @@
 -- RULE. The refusals and the numbers that go with them, in the order of their table.
--- Assumes nothing.
 use Prim.Native.Nat.{ℕ}
 use Rattle.text.specs.declared.{refusal.Refusal.Refusal}
 use Rattle.text.specs.declared.refusal.Refusal.the-variants.{NotUtf8, TooLong, FewTokens, ShortOutput, FewErrors, OutOfPlace, NoKind, NoEdition}

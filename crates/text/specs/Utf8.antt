@@ -1,5 +1,4 @@
 -- RULE. UTF-8 as RFC 3629 has it: scalar values, their encodings, and the bytes that are such encodings, joined.
--- Assumes nothing.
 use Prim.Native.Nat.{ℕ, _+_, _/_, _%_, _≤_, _<_}
 use mathlib.Core.{Path._≡_, Logic._⊎_, List.List, List.[], List._∷_, List._++_, Bool.cond}
 use lib.{Dec.ltb}

@@ -1,5 +1,4 @@
 -- RULE. What a kind is called, in ASCII: at most 25 bytes.
--- Assumes nothing.
 use Prim.Native.Nat.{ℕ, _-_}
 use Prim.Native.Char.{code}
 use Prim.Native.String.{String, [] as none, _∷_ as _then_}

@@ -1,5 +1,4 @@
 -- RULE. The sixteen kinds of token and their numbers.
--- Assumes nothing.
 use Prim.Native.Nat.{ℕ}
 use mathlib.Core.{Bool.cond, List.List, List.[], List._∷_}
 use lib.{Dec.eqb}

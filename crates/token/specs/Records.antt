@@ -1,5 +1,4 @@
 -- RULE. A token is its kind, its span and the line of its first byte; its record is four numbers.
--- Assumes nothing.
 use Prim.Native.Nat.{ℕ, _-_}
 use mathlib.Core.{List.List, List.[], List._∷_}
 use lib.{ListN.take, ListN.drop}

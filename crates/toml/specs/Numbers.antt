@@ -9,7 +9,7 @@ use Rattle.text.specs.{Refusals.refusalNumber, Refusals.refusalValue, Refusals.
 use Rattle.text.specs.declared.{refusal.Refusal.Refusal, utf8.Utf8Check.Utf8Check, utf8.Utf8Check.the-variants.Valid, utf8.Utf8Check.the-variants.Refused as Broken}
 use Rattle.token.specs.{KindNumbers.kindNumber}
 use Rattle.token.specs.declared.{Answer.Answer, Answer.the-variants.Given as Told, Answer.the-variants.Refused as Untold, Description.Description, Encoding.Encoding}
-use Rattle.lexer.specs.{Steps.cursorOf, Steps.bitOf}
+use Rattle.lexer.specs.{Steps.cursorOf, Told.bitOf}
 use Rattle.lexer.specs.declared.{Cursor.Cursor, Start.Start, Start.the-variants.At, Start.the-variants.Refused as Unstarted, Step.Step, Step.the-variants.Token, Step.the-variants.End, Step.the-variants.Refused as Unstepped, Lexed.Lexed, Lexed.the-variants.Tokens, Lexed.the-variants.Refused as Unlexed}
 use Rattle.place.specs.declared.{SpanCheck.SpanCheck, SpanCheck.the-variants.Whole, SpanCheck.the-variants.Refused as Misplaced, Position.Position, Position.the-variants.At as Placed, Position.the-variants.Refused as Unplaced}
 use Rattle.strings.specs.{Encodings.choiceBy, Decoding.decodeIn, Decoding.bytesBy, Decoding.errorsBy, Decoding.after}

@@ -51,7 +51,8 @@ use denote.Exit.{yes}
 use denote.Signature.{plain}
 use Rattle.lexer.specs.Tokens.{eofAt}
 use Rattle.lexer.specs.Whole.{lexAnswer}
-use Rattle.records.specs.TokenMemory.{tokenMemory, eightBlank, eightOf}
+use Rattle.records.specs.TokenMemory.{tokenMemory}
+use Rattle.records.specs.Eight.{eightBlank, eightOf}
 use Rattle.token.specs.declared.TokenKind.the-variants.{Eof}
 use Rattle.token.specs.declared.Token.{Token}
 use Rattle.lexer.specs.declared.Lexed.{Lexed}

@@ -4,7 +4,7 @@ use Prim.Native.Nat.{_≤_}
 use mathlib.Core.Path.{sym, ap, subst, _∙_}
 use Rattle.lexer.specs.declared.Lexed.{Lexed}
 use Rattle.records.specs.declared.LexedEight.{LexedEight}
-use Rattle.records.specs.TokenMemory.{eightBlank}
+use Rattle.records.specs.Eight.{eightBlank}
 use Rattle.records.specs.Turns.{writesOf}
 use Rattle.records.proofs.TurnLaws.{writes-fit}
 use borrow.Author.Needs.{needs}

@@ -6,7 +6,7 @@ use mathlib.Core.Bool.{not}
 use lib.ListN.{length, drop}
 use Rattle.classes.specs.Runs.{run}
 use Rattle.classes.proofs.RunLaws.{run-step, run-stop, run-end}
-use Rattle.scans.specs.Bytes.{inAtom}
+use Rattle.scans.specs.Extents.{inAtom}
 use borrow.Author.Needs.{needs}
 use native.Mathlib.Omega.{arith}
 use Rattle.scans.proofs.atom_rest.Statement.{statement}

@@ -7,7 +7,7 @@ use mathlib.Core.List.{List}
 use lib.ListN.{length}
 use Rattle.classes.specs.Runs.{run}
 use Rattle.classes.proofs.RunLaws.{run-step, run-stop, run-end, SameEnd, Block, block-step}
-use Rattle.scans.specs.Bytes.{inAtom}
+use Rattle.scans.specs.Extents.{inAtom}
 use borrow.Author.Needs.{needs}
 use native.Mathlib.Omega.{arith}
 use Rattle.scans.proofs.atom_run.Statement.{statement}

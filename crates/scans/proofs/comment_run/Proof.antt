@@ -4,7 +4,7 @@ use Prim.Native.Nat.{ℕ, _+_}
 use mathlib.Core.Path.{ap, _∙_}
 use lib.ListN.{drop}
 use Rattle.classes.proofs.RunLaws.{run-end}
-use Rattle.scans.specs.Bytes.{inComment}
+use Rattle.scans.specs.Extents.{inComment}
 use Rattle.scans.proofs.TailLaws.{comment-bytes}
 use borrow.Author.Needs.{needs}
 use native.Mathlib.Omega.{arith}
