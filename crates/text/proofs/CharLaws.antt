@@ -6,7 +6,7 @@ use mathlib.Core.List.{List}
 use native.Mathlib.Omega.{arith}
 use lib.ListN.{length, getD, drop}
 use Rattle.text.specs.declared.utf8.Lead.{Lead}
-use Rattle.text.specs.Lead.{row, leadOf, Among, Asked, Character, BegunAt}
+use Rattle.text.specs.Lead.{row, leadOf, Among, Asked, CharacterAt, BegunAt}
 use Rattle.text.specs.Utf8Read.{charLen, validPrefix, Along}
 use Rattle.text.proofs.LeadLaws.{all-begun, row-is}
 use Rattle.text.proofs.BegunLaws.{begun-1}
@@ -36,8 +36,7 @@ module _ (s : List ℕ) (start i : ℕ) where
       let one = one-byte l in
       on 1 (omega arith) (omega arith) one (begun-1 (omega arith) (λ k m n. omega arith)) along
 
-  pub along-whole : i + 4 ≤ length s → (n : ℕ)
-      → Character a (getD s (i + 1) 0) (getD s (i + 2) 0) (getD s (i + 3) 0) n → Along s start i → Along s start (i + n)
+  pub along-whole : i + 4 ≤ length s → (n : ℕ) → CharacterAt s i n → Along s start i → Along s start (i + n)
   along-whole h n w along =
       let few = w .some in
       let len = w .asked .0 in

@@ -6,6 +6,7 @@ pub mod OnesLaws
 pub mod BegunLaws
 pub mod CharLaws
 pub mod WordLaws
+pub mod FourLaws
 pub mod FaultLaws
 pub mod CutLaws
 pub mod AnswerLaws

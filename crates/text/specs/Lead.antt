@@ -47,6 +47,9 @@ pub record Character (a b c d n : ℕ) : Type 0 where
   pub third : 3 ≤ n → Among 0x80 0xBF c
   pub fourth : 4 ≤ n → Among 0x80 0xBF d
 
+abbrev pub CharacterAt : List ℕ → ℕ → ℕ → Type 0
+CharacterAt s i n = Character (getD s i 0) (getD s (i + 1) 0) (getD s (i + 2) 0) (getD s (i + 3) 0) n
+
 -- r bytes, of `left` that are there, are as the first one asks; the next one is not, or is not asked for, or is not there.
 -- The second to the fourth byte are b, c and d.
 pub record Begun (l : Lead) (left b c d r : ℕ) : Type 0 where

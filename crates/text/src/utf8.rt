@@ -2,13 +2,13 @@
 // Rules: specs/Utf8.antt, Answers.antt, and what the answers mean, CheckMeans.antt and CheckMeans.antt.
 ghost use mathlib.Core.Path.{_≡_};
 ghost use mathlib.Core.Bool.{true, false};
-ghost use Prim.Native.Nat.{_+_, _*_, _^_, _%_, _<_, _≤_};
+ghost use Prim.Native.Nat.{ℕ, _+_, _*_, _^_, _%_, _<_, _≤_};
 ghost use lib.ListN.{length, drop};
 ghost use Rattle.classes.specs.Runs.{run};
 ghost use Rattle.classes.proofs.RunLaws.{Block, SameEnd};
 ghost use Rattle.text.specs.Utf8.{encodeScalar};
 ghost use Rattle.text.specs.Utf8Read.{isScalar, ascii, charLen, Passed, Along};
-ghost use Rattle.text.specs.Lead.{leadOf, onesOf, Among, Asked, Character, BegunAt, faultLen};
+ghost use Rattle.text.specs.Lead.{leadOf, onesOf, Among, Asked, Character, CharacterAt, BegunAt, faultLen};
 ghost use Rattle.text.specs.Answers.{padded, encodedOf, checkOf};
 ghost use Rattle.text.specs.Told.{checkNumber, checkValue, checkLength, checkRefusal, checkReturned, checkFault};
 use crate::refusal::LIMIT;
@@ -59,7 +59,8 @@ fn passed(s: &[u8], at: usize) -> usize
 }
 
 // Over whole characters as long as four bytes are there to be read, so that none is asked for that is not there; up to
-// eight in a row of ASCII, which `ascii_run` is quicker over.
+// eight in a row of ASCII, which `ascii_run` is quicker over. The count of leading ones is a character's length, and only
+// compared with constants, so that the compiler makes a comparison of each.
 fn chars_run(s: &[u8], start: usize) -> usize
     requires { ⌜ start ≤ length (now s) ⌝ }
     ensures { λ r. ⌜ Along (now (s .entry)) start r ⌝ }
@@ -71,64 +72,92 @@ fn chars_run(s: &[u8], start: usize) -> usize
     let last = s.len() - 4;
     while i <= last {
         let a = s[i];
+        let ones = u8::leading_zeros(!a) as usize;
         if a < 0x80 {
             if is_ascii_word(s, i) {
                 return i;
             }
             i += 1;
-        } else {
-            let n = whole(a, s[i + 1], s[i + 2], s[i + 3]);
-            // Each length is added by itself, as a constant: so the next character waits for no sum.
-            if n == 0 {
+        } else if ones < 3 {
+            if !is_two(a, s[i + 1]) {
                 return i;
             }
-            if n == 2 {
-                i += 2;
-            } else if n == 3 {
-                i += 3;
-            } else {
-                i += 4;
+            i += 2;
+        } else if ones == 3 {
+            if !is_three(a, s[i + 1], s[i + 2]) {
+                return i;
             }
+            i += 3;
+        } else {
+            if !is_four(a, s[i + 1], s[i + 2], s[i + 3]) {
+                return i;
+            }
+            i = fours_run(s, i + 4, last);
         }
     }
     i
 }
 
-// The length of the character that four bytes begin with, beyond ASCII: the count of leading ones; 0 where none begins
-// so. Tests of constants, so that the compiler makes a comparison of each.
-fn whole(a: u8, b: u8, c: u8, d: u8) -> usize
-    requires { ⌜ 0x80 ≤ a ⌝ }
-    ensures { λ r. ⌜ (0 < r → Character a b c d r) ⌝ }
+// Over characters of four bytes up to the place `last`, where another could begin: they come in rows, as emoji do.
+fn fours_run(s: &[u8], start: usize, last: usize) -> usize
+    requires { ⌜ (start ≤ length (now s)) × (last + 4 ≤ length (now s)) ⌝ }
+    ensures { λ r. ⌜ Along (now (s .entry)) start r ⌝ }
 {
-    let ones = u8::leading_zeros(!a) as usize;
-    if ones < 3 {
-        if a < 0xC2 {
-            return 0;
+    let mut i = start;
+    while i <= last {
+        if !is_four_word(s, i) {
+            return i;
         }
-        if !is_among(b, 0x80, 0xBF) {
-            return 0;
-        }
-        return 2;
+        i += 4;
     }
-    if ones == 3 {
-        if !is_second_of_three(a, b) {
-            return 0;
-        }
-        if !is_among(c, 0x80, 0xBF) {
-            return 0;
-        }
-        return 3;
+    i
+}
+
+// Whether a character of four bytes stands at i that begins with F0 to F3: the marks of all four are asked for in the
+// number that they make together, which the compiler reads at once. Then it is overlong only where the first byte is F0
+// and the second under 90: where all bits are off that tell them apart.
+fn is_four_word(s: &[u8], i: usize) -> bool
+    requires { ⌜ i + 4 ≤ length (now s) ⌝ }
+    ensures { λ r. ⌜ (r ≡ true → CharacterAt (now (s .entry)) i 4) ⌝ }
+{
+    let word = pair(s[i], s[i + 1]) | (pair(s[i + 2], s[i + 3]) << 16);
+    if word & 0xC0C0_C0FC != 0x8080_80F0 {
+        return false;
     }
+    word & 0x3003 != 0
+}
+
+fn is_two(a: u8, b: u8) -> bool
+    requires { ⌜ onesOf a < 3 ⌝ }
+    ensures { λ r. ⌜ (r ≡ true → (c : ℕ) (d : ℕ) → Character a b c d 2) ⌝ }
+{
+    if a < 0xC2 {
+        return false;
+    }
+    is_among(b, 0x80, 0xBF)
+}
+
+fn is_three(a: u8, b: u8, c: u8) -> bool
+    requires { ⌜ onesOf a ≡ 3 ⌝ }
+    ensures { λ r. ⌜ (r ≡ true → (d : ℕ) → Character a b c d 3) ⌝ }
+{
+    if !is_second_of_three(a, b) {
+        return false;
+    }
+    is_among(c, 0x80, 0xBF)
+}
+
+fn is_four(a: u8, b: u8, c: u8, d: u8) -> bool
+    requires { ⌜ 3 < onesOf a ⌝ }
+    ensures { λ r. ⌜ (r ≡ true → Character a b c d 4) ⌝ }
+{
     if !is_second_of_four(a, b) {
-        return 0;
+        return false;
     }
     if !is_among(c, 0x80, 0xBF) {
-        return 0;
+        return false;
     }
-    if !is_among(d, 0x80, 0xBF) {
-        return 0;
-    }
-    4
+    is_among(d, 0x80, 0xBF)
 }
 
 fn is_second_of_three(a: u8, b: u8) -> bool

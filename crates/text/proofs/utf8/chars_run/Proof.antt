@@ -1,9 +1,10 @@
--- `chars_run` is right because each turn goes over one whole character.
+-- `chars_run` is right because each turn goes over one whole character, or over several of four bytes.
 -- Assumes nothing.
-use Prim.Native.Nat.{ℕ, _+_, _-_, _≤_}
-use mathlib.Core.Path.{_≡_, subst}
+use Prim.Native.Nat.{_+_, _-_}
+use borrow.Author.Tests.{not-false}
 use native.Mathlib.Omega.{arith}
-use lib.ListN.{length}
+use lib.Count.{leading-le}
+use lib.ListN.{length, getD}
 use Rattle.text.specs.Utf8Read.{Along}
 use Rattle.text.proofs.CharLaws.{along-ascii, along-whole}
 use Rattle.text.proofs.utf8.chars_run.Statement.{statement}
@@ -14,20 +15,6 @@ Inv-loop s start i₀ last i = Along s start i
 
 abbrev μ-loop : tie.MeasureT-loop
 μ-loop s start i₀ last i = length s - i
-
--- a character that stands whole is two to four bytes long, and behind it the run goes on
-few : (c : tie.Else4 Inv-loop μ-loop) → let n = c .before .whole .result in (2 ≤ n) × (n ≤ 4)
-few c = c .before .whole .ensures (omega arith) .some
-
-on : (c : tie.Else4 Inv-loop μ-loop) (n : ℕ) → c .before .whole .result ≡ n
-    → let a = c .before .before .before .before .before .before .before .before .before .before .before .args in
-    Along (a .s .now) (a .start) (c .before .before .before .before .before .before .before .before .loop .i + n)
-on c n e =
-    let a = c .before .before .before .before .before .before .before .before .before .before .before .args in
-    let at = c .before .before .before .before .before .before .before .before .loop in
-    let w = c .before .whole in
-    subst (λ (k : ℕ). Along (a .s .now) (a .start) (at .i + k)) e
-    (along-whole (a .s .now) (a .start) (at .i) (omega arith) (w .result) (w .ensures (omega arith)) (at .inv))
 
 returns : tie.Need-returns Inv-loop μ-loop
 returns c = omega arith
@@ -40,6 +27,11 @@ loop-holds c = omega arith
 
 shared-slice-read-a : tie.Need-shared-slice-read-a Inv-loop μ-loop
 shared-slice-read-a c = omega arith
+
+cast-ones : tie.Need-cast-ones Inv-loop μ-loop
+cast-ones c =
+    let a = c .before .before .before .before .before .args in
+    omega (arith, leading-le 8 (255 - getD (a .s .now) (c .before .before .loop .i) 0))
 
 is-ascii-word-requires : tie.Need-is-ascii-word-requires Inv-loop μ-loop
 is-ascii-word-requires c κs = omega arith
@@ -59,29 +51,17 @@ loop-again c =
     let at = c .before .before .before .before .before .loop in
     along-ascii (a .s .now) (a .start) (at .i) (omega arith) (c .before .before .if2 .taken) (at .inv)
 
-add-whole : tie.Need-add-whole Inv-loop μ-loop
-add-whole c = omega arith
+add-is-two : tie.Need-add-is-two Inv-loop μ-loop
+add-is-two c = omega arith
 
-shared-slice-read-whole : tie.Need-shared-slice-read-whole Inv-loop μ-loop
-shared-slice-read-whole c = omega arith
+shared-slice-read-is-two : tie.Need-shared-slice-read-is-two Inv-loop μ-loop
+shared-slice-read-is-two c = omega arith
 
-add-whole-2 : tie.Need-add-whole-2 Inv-loop μ-loop
-add-whole-2 c = omega arith
-
-shared-slice-read-whole-2 : tie.Need-shared-slice-read-whole-2 Inv-loop μ-loop
-shared-slice-read-whole-2 c = omega arith
-
-add-whole-3 : tie.Need-add-whole-3 Inv-loop μ-loop
-add-whole-3 c = omega arith
-
-shared-slice-read-whole-3 : tie.Need-shared-slice-read-whole-3 Inv-loop μ-loop
-shared-slice-read-whole-3 c = omega arith
-
-whole-requires : tie.Need-whole-requires Inv-loop μ-loop
-whole-requires c κs = omega arith
+is-two-requires : tie.Need-is-two-requires Inv-loop μ-loop
+is-two-requires c κs = omega arith
 
 returns-3 : tie.Need-returns-3 Inv-loop μ-loop
-returns-3 c = c .before .before .before .before .before .before .before .before .loop .inv
+returns-3 c = c .before .before .before .before .before .before .before .loop .inv
 
 add-i-2 : tie.Need-add-i-2 Inv-loop μ-loop
 add-i-2 c = omega arith
@@ -90,7 +70,28 @@ loop-less-2 : tie.Need-loop-less-2 Inv-loop μ-loop
 loop-less-2 c = omega arith
 
 loop-again-2 : tie.Need-loop-again-2 Inv-loop μ-loop
-loop-again-2 c = on (c .before) 2 (c .if5 .taken)
+loop-again-2 c =
+    let a = c .before .before .before .before .before .before .before .before .before .before .args in
+    let at = c .before .before .before .before .before .before .before .loop in
+    along-whole (a .s .now) (a .start) (at .i) (omega arith) 2 (c .before .is-two .ensures (not-false _ (c .if5 .left)) _ _) (at .inv)
+
+add-is-three : tie.Need-add-is-three Inv-loop μ-loop
+add-is-three c = omega arith
+
+shared-slice-read-is-three : tie.Need-shared-slice-read-is-three Inv-loop μ-loop
+shared-slice-read-is-three c = omega arith
+
+add-is-three-2 : tie.Need-add-is-three-2 Inv-loop μ-loop
+add-is-three-2 c = omega arith
+
+shared-slice-read-is-three-2 : tie.Need-shared-slice-read-is-three-2 Inv-loop μ-loop
+shared-slice-read-is-three-2 c = omega arith
+
+is-three-requires : tie.Need-is-three-requires Inv-loop μ-loop
+is-three-requires c κs = omega arith
+
+returns-4 : tie.Need-returns-4 Inv-loop μ-loop
+returns-4 c = c .before .before .before .before .before .before .before .before .before .loop .inv
 
 add-i-3 : tie.Need-add-i-3 Inv-loop μ-loop
 add-i-3 c = omega arith
@@ -99,19 +100,54 @@ loop-less-3 : tie.Need-loop-less-3 Inv-loop μ-loop
 loop-less-3 c = omega arith
 
 loop-again-3 : tie.Need-loop-again-3 Inv-loop μ-loop
-loop-again-3 c = on (c .before .before) 3 (c .if6 .taken)
+loop-again-3 c =
+    let a = c .before .before .before .before .before .before .before .before .before .before .before .before .args in
+    let at = c .before .before .before .before .before .before .before .before .before .loop in
+    along-whole (a .s .now) (a .start) (at .i) (omega arith) 3 (c .before .is-three .ensures (not-false _ (c .if7 .left)) _) (at .inv)
 
-add-i-4 : tie.Need-add-i-4 Inv-loop μ-loop
-add-i-4 c = omega arith
+add-is-four : tie.Need-add-is-four Inv-loop μ-loop
+add-is-four c = omega arith
+
+shared-slice-read-is-four : tie.Need-shared-slice-read-is-four Inv-loop μ-loop
+shared-slice-read-is-four c = omega arith
+
+add-is-four-2 : tie.Need-add-is-four-2 Inv-loop μ-loop
+add-is-four-2 c = omega arith
+
+shared-slice-read-is-four-2 : tie.Need-shared-slice-read-is-four-2 Inv-loop μ-loop
+shared-slice-read-is-four-2 c = omega arith
+
+add-is-four-3 : tie.Need-add-is-four-3 Inv-loop μ-loop
+add-is-four-3 c = omega arith
+
+shared-slice-read-is-four-3 : tie.Need-shared-slice-read-is-four-3 Inv-loop μ-loop
+shared-slice-read-is-four-3 c = omega arith
+
+is-four-requires : tie.Need-is-four-requires Inv-loop μ-loop
+is-four-requires c κs = omega arith
+
+returns-5 : tie.Need-returns-5 Inv-loop μ-loop
+returns-5 c = c .before .before .before .before .before .before .before .before .before .before .loop .inv
+
+add-fours-run : tie.Need-add-fours-run Inv-loop μ-loop
+add-fours-run c = omega arith
+
+fours-run-requires : tie.Need-fours-run-requires Inv-loop μ-loop
+fours-run-requires c κs = omega arith
 
 loop-less-4 : tie.Need-loop-less-4 Inv-loop μ-loop
 loop-less-4 c = omega arith
 
 loop-again-4 : tie.Need-loop-again-4 Inv-loop μ-loop
-loop-again-4 c = on (c .before .before) 4 (omega (arith, few (c .before .before)))
+loop-again-4 c =
+    let a = c .before .before .before .before .before .before .before .before .before .before .before .before .before .before .args in
+    let at = c .before .before .before .before .before .before .before .before .before .before .before .loop in
+    let four = along-whole (a .s .now) (a .start) (at .i) (omega arith) 4 (c .before .before .is-four .ensures (not-false _ (c .before .if8 .left))) (at .inv) in
+    let more = c .fours-run .ensures in
+    (omega (arith, four, more), omega (arith, more), omega (arith, four, more))
 
-returns-4 : tie.Need-returns-4 Inv-loop μ-loop
-returns-4 c = c .before .loop .inv
+returns-6 : tie.Need-returns-6 Inv-loop μ-loop
+returns-6 c = c .before .loop .inv
 
 pub chars-run-spec : {M : Type 1} → statement M
 chars-run-spec =
@@ -123,26 +159,38 @@ chars-run-spec =
     sub-last
     loop-holds
     shared-slice-read-a
+    cast-ones
     is-ascii-word-requires
     returns-2
     add-i
     loop-less
     loop-again
-    add-whole
-    shared-slice-read-whole
-    add-whole-2
-    shared-slice-read-whole-2
-    add-whole-3
-    shared-slice-read-whole-3
-    whole-requires
+    add-is-two
+    shared-slice-read-is-two
+    is-two-requires
     returns-3
     add-i-2
     loop-less-2
     loop-again-2
+    add-is-three
+    shared-slice-read-is-three
+    add-is-three-2
+    shared-slice-read-is-three-2
+    is-three-requires
+    returns-4
     add-i-3
     loop-less-3
     loop-again-3
-    add-i-4
+    add-is-four
+    shared-slice-read-is-four
+    add-is-four-2
+    shared-slice-read-is-four-2
+    add-is-four-3
+    shared-slice-read-is-four-3
+    is-four-requires
+    returns-5
+    add-fours-run
+    fours-run-requires
     loop-less-4
     loop-again-4
-    returns-4)
+    returns-6)

@@ -1,0 +1,98 @@
+-- Four bytes as one number: where it has their marks, and not all those bits are off that tell an overlong form, they are
+-- a character. Assumes nothing.
+use Prim.Native.Nat.{ℕ, _+_, _*_, _^_, _/_, _%_, _≤_, _<_}
+use mathlib.Core.Path.{_≡_, sym, _∙_}
+use native.Mathlib.Nat.{mod-eq-of-lt}
+use native.Mathlib.Omega.{arith}
+use native.Mathlib.Decide.{decLt}
+use lib.Bits.{bitAnd, bitOr, and-block, and-high, and-le-r, and-mask, and-zero-r}
+use Rattle.text.specs.Lead.{row, leadOf, Among, Asked, Character}
+use Rattle.text.proofs.CharLaws.{asked}
+use Rattle.text.proofs.LeadLaws.{row-is}
+use Rattle.text.proofs.WordLaws.{joined}
+
+-- ---- what a mask leaves of two parts is what it leaves of each
+
+bytes-left : (a b r s u v : ℕ) → r < 256 → s < 256 → v < 256 → bitAnd (a * 2 ^ 8 + r) (b * 2 ^ 8 + s) ≡ u * 2 ^ 8 + v
+    → (bitAnd a b ≡ u) × (bitAnd r s ≡ v)
+bytes-left a b r s u v hr hs hv e =
+    let sum : bitAnd a b * 2 ^ 8 + bitAnd r s ≡ u * 2 ^ 8 + v = sym (and-block 8 a b r s hr hs) ∙ e in
+    let small : bitAnd r s ≤ s = and-le-r r s in
+    (omega arith, omega arith)
+
+pairs-left : (a b r s u v : ℕ) → r < 0x10000 → s < 0x10000 → v < 0x10000
+    → bitAnd (a * 2 ^ 16 + r) (b * 2 ^ 16 + s) ≡ u * 2 ^ 16 + v → (bitAnd a b ≡ u) × (bitAnd r s ≡ v)
+pairs-left a b r s u v hr hs hv e =
+    let sum : bitAnd a b * 2 ^ 16 + bitAnd r s ≡ u * 2 ^ 16 + v = sym (and-block 16 a b r s hr hs) ∙ e in
+    let small : bitAnd r s ≤ s = and-le-r r s in
+    (omega arith, omega arith)
+
+-- ---- the marks of a byte
+
+behind-mark : (b : ℕ) → b < 256 → bitAnd b 0xC0 ≡ 0x80 → Among 0x80 0xBF b
+behind-mark b h e =
+    let field : bitAnd b 0xC0 ≡ b / 2 ^ 6 % 2 ^ 2 * 2 ^ 6 = and-high b 2 6 in
+    let small : b / 2 ^ 6 % 2 ^ 2 ≡ b / 2 ^ 6 = mod-eq-of-lt (omega arith) in
+    omega arith
+
+first-mark : (a : ℕ) → a < 256 → bitAnd a 0xFC ≡ 0xF0 → Among 0xF0 0xF3 a
+first-mark a h e =
+    let field : bitAnd a 0xFC ≡ a / 2 ^ 2 % 2 ^ 6 * 2 ^ 2 = and-high a 6 2 in
+    let small : a / 2 ^ 2 % 2 ^ 6 ≡ a / 2 ^ 2 = mod-eq-of-lt (omega arith) in
+    omega arith
+
+second-asked : (a b : ℕ) → Among 0xF0 0xF3 a → Among 0x80 0xBF b → (a < 0xF1 → b < 0x90 → ⊥) → Asked a 4 b
+unfolding leadOf
+second-asked a b first second long =
+    elim (decLt a 0xF1) [
+      | yes l ↦ elim (decLt b 0x90) [
+        | yes k ↦ absurd (long l k)
+        | no k ↦ asked a 4 0x90 0xBF b (row-is (row 4 0x90 0xBF) 0xF0 1 tt a (omega arith) (omega arith)) (omega arith)
+      ]
+      | no l ↦ asked a 4 0x80 0xBF b (row-is (row 4 0x80 0xBF) 0xF1 3 tt a (omega arith) (omega arith)) second
+    ]
+
+-- ---- the number
+
+abbrev pub numberOf : ℕ → ℕ → ℕ
+numberOf p q = bitOr p ((q * 2 ^ 16) % 0x10000000000000000)
+
+module _ (a b c d : ℕ) (ha : a < 256) (hb : b < 256) (hc : c < 256) (hd : d < 256) where
+  abbrev low : ℕ
+  low = b * 2 ^ 8 + a
+
+  abbrev high : ℕ
+  high = d * 2 ^ 8 + c
+
+  number-is : numberOf low high ≡ high * 2 ^ 16 + low
+  number-is = joined 16 0x10000000000000000 low high (omega arith) (omega arith)
+
+  -- F0 and then a byte under 90 have none of these bits
+  overlong-off : Among 0xF0 0xF3 a → a < 0xF1 → Among 0x80 0xBF b → b < 0x90 → bitAnd (numberOf low high) 0x3003 ≡ 0
+  overlong-off first l second k =
+      let parts : bitAnd (high * 2 ^ 16 + low) 0x3003 ≡ bitAnd high 0 * 2 ^ 16 + bitAnd low 0x3003 =
+      and-block 16 high 0 low 0x3003 (omega arith) (omega arith) in
+      let bytes : bitAnd low 0x3003 ≡ bitAnd b 0x30 * 2 ^ 8 + bitAnd a 3 = and-block 8 b 0x30 a 3 ha (omega arith) in
+      let none : bitAnd high 0 ≡ 0 = and-zero-r high in
+      let left : bitAnd b 0x30 ≡ b / 2 ^ 4 % 2 ^ 2 * 2 ^ 4 = and-high b 2 4 in
+      let right : bitAnd a 3 ≡ a % 2 ^ 2 = and-mask a 2 in
+      rw number-is (omega arith)
+
+  number-four : bitAnd (numberOf low high) 0xC0C0C0FC ≡ 0x808080F0 → (bitAnd (numberOf low high) 0x3003 ≡ 0 → ⊥) → Character a b c d 4
+  number-four marks long =
+      let halves = pairs-left high 0xC0C0 low 0xC0FC 0x8080 0x80F0 (omega arith) (omega arith) (omega arith) (rw number-is at marks) in
+      let front = bytes-left b 0xC0 a 0xFC 0x80 0xF0 ha (omega arith) (omega arith) (halves .1) in
+      let back = bytes-left d 0xC0 c 0xC0 0x80 0x80 hc (omega arith) (omega arith) (halves .0) in
+      let first = first-mark a ha (front .1) in
+      let second = behind-mark b hb (front .0) in
+      record {
+        some = omega arith;
+        asked = second-asked a b first second (λ l k. long (overlong-off first l second k));
+        third = λ k. behind-mark c hc (back .1);
+        fourth = λ k. behind-mark d hd (back .0);
+      }
+
+  -- as the code has its two pairs
+  pub word-four : (p q : ℕ) → p ≡ low → q ≡ high → bitAnd (numberOf p q) 0xC0C0C0FC ≡ 0x808080F0
+      → (bitAnd (numberOf p q) 0x3003 ≡ 0 → ⊥) → Character a b c d 4
+  word-four p q ep eq marks long = number-four (rw (ep, eq) at marks) (rw (ep, eq) at long)
