@@ -36,8 +36,8 @@ module _ (s : List ℕ) (start i : ℕ) where
       let one = one-byte l in
       on 1 (omega arith) (omega arith) one (begun-1 (omega arith) (λ k m n. omega arith)) along
 
-  pub along-whole : i + 4 ≤ length s → (n : ℕ) → CharacterAt s i n → Along s start i → Along s start (i + n)
-  along-whole h n w along =
+  pub along-whole : (n : ℕ) → i + n ≤ length s → CharacterAt s i n → Along s start i → Along s start (i + n)
+  along-whole n h w along =
       let few = w .some in
       let len = w .asked .0 in
       on n (omega arith) (omega arith) len (record {

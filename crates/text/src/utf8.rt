@@ -8,7 +8,7 @@ ghost use Rattle.classes.specs.Runs.{run};
 ghost use Rattle.classes.proofs.RunLaws.{Block, SameEnd};
 ghost use Rattle.text.specs.Utf8.{encodeScalar};
 ghost use Rattle.text.specs.Utf8Read.{isScalar, ascii, charLen, Passed, Along};
-ghost use Rattle.text.specs.Lead.{leadOf, onesOf, Among, Asked, Character, CharacterAt, BegunAt, faultLen};
+ghost use Rattle.text.specs.Lead.{leadOf, onesOf, Among, Asked, Character, CharacterAt, fourAt, BegunAt, faultLen};
 ghost use Rattle.text.specs.Answers.{padded, encodedOf, checkOf};
 ghost use Rattle.text.specs.Told.{checkNumber, checkValue, checkLength, checkRefusal, checkReturned, checkFault};
 use crate::refusal::LIMIT;
@@ -79,10 +79,13 @@ fn chars_run(s: &[u8], start: usize) -> usize
             }
             i += 1;
         } else if ones < 3 {
-            if !is_two(a, s[i + 1]) {
+            if is_two_twice(s, i) {
+                i += 4;
+            } else if is_two(a, s[i + 1]) {
+                i += 2;
+            } else {
                 return i;
             }
-            i += 2;
         } else if ones == 3 {
             if !is_three(a, s[i + 1], s[i + 2]) {
                 return i;
@@ -113,14 +116,37 @@ fn fours_run(s: &[u8], start: usize, last: usize) -> usize
     i
 }
 
-// Whether a character of four bytes stands at i that begins with F0 to F3: the marks of all four are asked for in the
-// number that they make together, which the compiler reads at once. Then it is overlong only where the first byte is F0
-// and the second under 90: where all bits are off that tell them apart.
+// Whether two characters of two bytes stand at i: the marks of all four are asked for at once, and then neither is overlong
+// where a bit is on that C0 and C1 do not have.
+fn is_two_twice(s: &[u8], i: usize) -> bool
+    requires { ⌜ i + 4 ≤ length (now s) ⌝ }
+    ensures { λ r. ⌜ (r ≡ true → CharacterAt (now (s .entry)) i 2 × CharacterAt (now (s .entry)) (i + 2) 2) ⌝ }
+{
+    let word = word_at(s, i);
+    if word & 0xC0E0_C0E0 != 0x80C0_80C0 {
+        return false;
+    }
+    if word & 0x1E == 0 {
+        return false;
+    }
+    word & 0x1E_0000 != 0
+}
+
+// The number that four bytes from i on make together, which the compiler reads at once.
+fn word_at(s: &[u8], i: usize) -> u64
+    requires { ⌜ i + 4 ≤ length (now s) ⌝ }
+    ensures { λ r. ⌜ r ≡ fourAt (now (s .entry)) i ⌝ }
+{
+    pair(s[i], s[i + 1]) | (pair(s[i + 2], s[i + 3]) << 16)
+}
+
+// Whether a character of four bytes stands at i that begins with F0 to F3: the marks of all four are asked for at once,
+// and then it is overlong only where the first is F0 and the second under 90, which have all of some bits off.
 fn is_four_word(s: &[u8], i: usize) -> bool
     requires { ⌜ i + 4 ≤ length (now s) ⌝ }
     ensures { λ r. ⌜ (r ≡ true → CharacterAt (now (s .entry)) i 4) ⌝ }
 {
-    let word = pair(s[i], s[i + 1]) | (pair(s[i + 2], s[i + 3]) << 16);
+    let word = word_at(s, i);
     if word & 0xC0C0_C0FC != 0x8080_80F0 {
         return false;
     }

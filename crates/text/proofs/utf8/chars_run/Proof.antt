@@ -1,6 +1,7 @@
--- `chars_run` is right because each turn goes over one whole character, or over several of four bytes.
+-- `chars_run` is right because each turn goes over one whole character, or over several of two or of four bytes.
 -- Assumes nothing.
 use Prim.Native.Nat.{_+_, _-_}
+use mathlib.Core.Path.{_≡_}
 use borrow.Author.Tests.{not-false}
 use native.Mathlib.Omega.{arith}
 use lib.Count.{leading-le}
@@ -51,17 +52,8 @@ loop-again c =
     let at = c .before .before .before .before .before .loop in
     along-ascii (a .s .now) (a .start) (at .i) (omega arith) (c .before .before .if2 .taken) (at .inv)
 
-add-is-two : tie.Need-add-is-two Inv-loop μ-loop
-add-is-two c = omega arith
-
-shared-slice-read-is-two : tie.Need-shared-slice-read-is-two Inv-loop μ-loop
-shared-slice-read-is-two c = omega arith
-
-is-two-requires : tie.Need-is-two-requires Inv-loop μ-loop
-is-two-requires c κs = omega arith
-
-returns-3 : tie.Need-returns-3 Inv-loop μ-loop
-returns-3 c = c .before .before .before .before .before .before .before .loop .inv
+is-two-twice-requires : tie.Need-is-two-twice-requires Inv-loop μ-loop
+is-two-twice-requires c κs = omega arith
 
 add-i-2 : tie.Need-add-i-2 Inv-loop μ-loop
 add-i-2 c = omega arith
@@ -71,9 +63,37 @@ loop-less-2 c = omega arith
 
 loop-again-2 : tie.Need-loop-again-2 Inv-loop μ-loop
 loop-again-2 c =
-    let a = c .before .before .before .before .before .before .before .before .before .before .args in
-    let at = c .before .before .before .before .before .before .before .loop in
-    along-whole (a .s .now) (a .start) (at .i) (omega arith) 2 (c .before .is-two .ensures (not-false _ (c .if5 .left)) _ _) (at .inv)
+    let a = c .before .before .before .before .before .before .before .before .before .args in
+    let at = c .before .before .before .before .before .before .loop in
+    let both = c .before .is-two-twice .ensures (c .if5 .taken) in
+    let one = along-whole (a .s .now) (a .start) (at .i) 2 (omega arith) (both .0) (at .inv) in
+    let two = along-whole (a .s .now) (a .start) (at .i + 2) 2 (omega arith) (both .1) one in
+    let next : at .i + 2 + 2 ≡ at .i + 4 = omega arith in
+    rw next at two
+
+add-is-two : tie.Need-add-is-two Inv-loop μ-loop
+add-is-two c = omega arith
+
+shared-slice-read-is-two : tie.Need-shared-slice-read-is-two Inv-loop μ-loop
+shared-slice-read-is-two c = omega arith
+
+is-two-requires : tie.Need-is-two-requires Inv-loop μ-loop
+is-two-requires c κs = omega arith
+
+add-i-3 : tie.Need-add-i-3 Inv-loop μ-loop
+add-i-3 c = omega arith
+
+loop-less-3 : tie.Need-loop-less-3 Inv-loop μ-loop
+loop-less-3 c = omega arith
+
+loop-again-3 : tie.Need-loop-again-3 Inv-loop μ-loop
+loop-again-3 c =
+    let a = c .before .before .before .before .before .before .before .before .before .before .before .before .args in
+    let at = c .before .before .before .before .before .before .before .before .before .loop in
+    along-whole (a .s .now) (a .start) (at .i) 2 (omega arith) (c .before .is-two .ensures (c .if6 .taken) _ _) (at .inv)
+
+returns-3 : tie.Need-returns-3 Inv-loop μ-loop
+returns-3 c = c .before .before .before .before .before .before .before .before .before .loop .inv
 
 add-is-three : tie.Need-add-is-three Inv-loop μ-loop
 add-is-three c = omega arith
@@ -93,17 +113,17 @@ is-three-requires c κs = omega arith
 returns-4 : tie.Need-returns-4 Inv-loop μ-loop
 returns-4 c = c .before .before .before .before .before .before .before .before .before .loop .inv
 
-add-i-3 : tie.Need-add-i-3 Inv-loop μ-loop
-add-i-3 c = omega arith
+add-i-4 : tie.Need-add-i-4 Inv-loop μ-loop
+add-i-4 c = omega arith
 
-loop-less-3 : tie.Need-loop-less-3 Inv-loop μ-loop
-loop-less-3 c = omega arith
+loop-less-4 : tie.Need-loop-less-4 Inv-loop μ-loop
+loop-less-4 c = omega arith
 
-loop-again-3 : tie.Need-loop-again-3 Inv-loop μ-loop
-loop-again-3 c =
+loop-again-4 : tie.Need-loop-again-4 Inv-loop μ-loop
+loop-again-4 c =
     let a = c .before .before .before .before .before .before .before .before .before .before .before .before .args in
     let at = c .before .before .before .before .before .before .before .before .before .loop in
-    along-whole (a .s .now) (a .start) (at .i) (omega arith) 3 (c .before .is-three .ensures (not-false _ (c .if7 .left)) _) (at .inv)
+    along-whole (a .s .now) (a .start) (at .i) 3 (omega arith) (c .before .is-three .ensures (not-false _ (c .if8 .left)) _) (at .inv)
 
 add-is-four : tie.Need-add-is-four Inv-loop μ-loop
 add-is-four c = omega arith
@@ -135,14 +155,14 @@ add-fours-run c = omega arith
 fours-run-requires : tie.Need-fours-run-requires Inv-loop μ-loop
 fours-run-requires c κs = omega arith
 
-loop-less-4 : tie.Need-loop-less-4 Inv-loop μ-loop
-loop-less-4 c = omega arith
+loop-less-5 : tie.Need-loop-less-5 Inv-loop μ-loop
+loop-less-5 c = omega arith
 
-loop-again-4 : tie.Need-loop-again-4 Inv-loop μ-loop
-loop-again-4 c =
+loop-again-5 : tie.Need-loop-again-5 Inv-loop μ-loop
+loop-again-5 c =
     let a = c .before .before .before .before .before .before .before .before .before .before .before .before .before .before .args in
     let at = c .before .before .before .before .before .before .before .before .before .before .before .loop in
-    let four = along-whole (a .s .now) (a .start) (at .i) (omega arith) 4 (c .before .before .is-four .ensures (not-false _ (c .before .if8 .left))) (at .inv) in
+    let four = along-whole (a .s .now) (a .start) (at .i) 4 (omega arith) (c .before .before .is-four .ensures (not-false _ (c .before .if9 .left))) (at .inv) in
     let more = c .fours-run .ensures in
     (omega (arith, four, more), omega (arith, more), omega (arith, four, more))
 
@@ -165,22 +185,26 @@ chars-run-spec =
     add-i
     loop-less
     loop-again
-    add-is-two
-    shared-slice-read-is-two
-    is-two-requires
-    returns-3
+    is-two-twice-requires
     add-i-2
     loop-less-2
     loop-again-2
+    add-is-two
+    shared-slice-read-is-two
+    is-two-requires
+    add-i-3
+    loop-less-3
+    loop-again-3
+    returns-3
     add-is-three
     shared-slice-read-is-three
     add-is-three-2
     shared-slice-read-is-three-2
     is-three-requires
     returns-4
-    add-i-3
-    loop-less-3
-    loop-again-3
+    add-i-4
+    loop-less-4
+    loop-again-4
     add-is-four
     shared-slice-read-is-four
     add-is-four-2
@@ -191,6 +215,6 @@ chars-run-spec =
     returns-5
     add-fours-run
     fours-run-requires
-    loop-less-4
-    loop-again-4
+    loop-less-5
+    loop-again-5
     returns-6)

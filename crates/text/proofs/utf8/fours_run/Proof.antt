@@ -34,7 +34,7 @@ loop-again : tie.Need-loop-again Inv-loop μ-loop
 loop-again c =
     let a = c .before .before .before .before .before .args in
     let at = c .before .before .before .loop in
-    along-whole (a .s .now) (a .start) (at .i) (omega arith) 4 (c .before .is-four-word .ensures (not-false _ (c .if1 .left))) (at .inv)
+    along-whole (a .s .now) (a .start) (at .i) 4 (omega arith) (c .before .is-four-word .ensures (not-false _ (c .if1 .left))) (at .inv)
 
 returns-2 : tie.Need-returns-2 Inv-loop μ-loop
 returns-2 c = c .before .loop .inv
