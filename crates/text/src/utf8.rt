@@ -1,5 +1,5 @@
 // UTF-8: the check, and the encoding of a scalar value.
-// Rules: specs/Utf8.antt, Answers.antt, and what the answers mean, CheckMeans.antt and CheckMeans.antt.
+// Rules: specs/Utf8.antt, Answers.antt, and what the answers mean, CheckMeans.antt.
 ghost use mathlib.Core.Path.{_≡_};
 ghost use mathlib.Core.Bool.{true, false};
 ghost use Prim.Native.Nat.{ℕ, _+_, _*_, _^_, _%_, _<_, _≤_};

@@ -1,4 +1,4 @@
--- The worked examples of the project's scope that are to be proved, of tokens and of strings: a document and its tokens, or a
+-- STATEMENT. The worked examples of the project's scope that are to be proved, of tokens and of strings: a document and its tokens, or a
 -- kind number and a text with its bytes and its errors. proofs/Worked.antt proves all of them, as one claim.
 -- Assumes nothing.
 use Prim.Native.Nat.{ℕ}
