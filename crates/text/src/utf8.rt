@@ -117,11 +117,15 @@ fn fours_run(s: &[u8], start: usize, last: usize) -> usize
 }
 
 // Whether two characters of two bytes stand at i: the marks of all four are asked for at once, and then neither is overlong
-// where a bit is on that C0 and C1 do not have.
+// where a bit is on that C0 and C1 do not have. Whether a second one begins there is asked first, for text in which they
+// stand alone.
 fn is_two_twice(s: &[u8], i: usize) -> bool
     requires { ⌜ i + 4 ≤ length (now s) ⌝ }
     ensures { λ r. ⌜ (r ≡ true → CharacterAt (now (s .entry)) i 2 × CharacterAt (now (s .entry)) (i + 2) 2) ⌝ }
 {
+    if s[i + 2] < 0xC0 {
+        return false;
+    }
     let word = word_at(s, i);
     if word & 0xC0E0_C0E0 != 0x80C0_80C0 {
         return false;

@@ -1,23 +1,27 @@
 -- RULE. The encoding of a kind: the number by which a decoder is chosen.
 use Prim.Native.Nat.{ℕ}
-use mathlib.Core.{Bool.cond, List.List, List.[], List._∷_}
-use lib.{Dec.eqb}
 use Rattle.token.specs.declared.{TokenKind.TokenKind, KindRead.KindRead, KindRead.the-variants.Kind, KindRead.the-variants.Refused as Unread, Answer.the-variants.Given, Answer.the-variants.Refused, Encoding.Encoding}
-use Rattle.token.specs.declared.TokenKind.the-variants.{LiteralString, BasicString, MlLiteralString, MlBasicString}
-use Rattle.token.specs.{KindNumbers.kindNumber, KindNumbers.kindOfNumber}
-
--- the four kinds of string
-abbrev pub stringKinds : List TokenKind
-stringKinds = LiteralString ∷ BasicString ∷ MlLiteralString ∷ MlBasicString ∷ []
-
--- the number n, where it is that of one of some kinds, else 0
-abbrev pub numberAmong : List TokenKind → ℕ → ℕ
-numberAmong [] n = 0
-numberAmong (k ∷ ks) n = cond (eqb n (kindNumber k)) n (numberAmong ks n)
+use Rattle.token.specs.declared.TokenKind.the-variants.{Dot, Equals, Comma, LeftSquareBracket, RightSquareBracket, LeftCurlyBracket, RightCurlyBracket, Whitespace, Comment, Newline, LiteralString, BasicString, MlLiteralString, MlBasicString, Atom, Eof}
+use Rattle.token.specs.{KindNumbers.kindOfNumber}
 
 -- the kind's own number for the four kinds of string, else 0
 abbrev pub kindEncoding : TokenKind → ℕ
-kindEncoding k = numberAmong stringKinds (kindNumber k)
+kindEncoding Dot = 0
+kindEncoding Equals = 0
+kindEncoding Comma = 0
+kindEncoding LeftSquareBracket = 0
+kindEncoding RightSquareBracket = 0
+kindEncoding LeftCurlyBracket = 0
+kindEncoding RightCurlyBracket = 0
+kindEncoding Whitespace = 0
+kindEncoding Comment = 0
+kindEncoding Newline = 0
+kindEncoding LiteralString = 39
+kindEncoding BasicString = 34
+kindEncoding MlLiteralString = 1
+kindEncoding MlBasicString = 2
+kindEncoding Atom = 0
+kindEncoding Eof = 0
 
 abbrev pub encodingBy : KindRead → Encoding
 encodingBy (Kind k) = record { answer = Given; number = kindEncoding k }
