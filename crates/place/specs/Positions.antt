@@ -1,9 +1,9 @@
 -- RULE. The line and column of an offset; what a line is stands in crate `lexer`, whose tokens bear it too.
-use Prim.Native.Nat.{ℕ, _+_}
+use Prim.Native.Nat.{ℕ, _+_, _-_}
 use mathlib.Core.{Bool.cond, List.List, List.[], List._∷_}
 use lib.{ListN.length, ListN.take, ListN.drop, Dec.ltb, Dec.eqb}
 use Rattle.classes.specs.{Classes.continuation}
-use Rattle.text.specs.{Refusals.limit}
+use Rattle.text.specs.{Refusals.limit, Utf8.encodeScalar}
 use Rattle.text.specs.declared.{refusal.Refusal.the-variants.TooLong, refusal.Refusal.the-variants.OutOfPlace}
 use Rattle.lexer.specs.{Lines.lineOf, Tokens.startOf}
 use Rattle.place.specs.declared.{Position.Position, Position.the-variants.At, Position.the-variants.Refused}
