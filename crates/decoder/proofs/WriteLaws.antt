@@ -19,6 +19,7 @@ use Rattle.strings.specs.declared.Encoding.{Encoding}
 use Rattle.strings.specs.declared.Encoding.the-variants.{UnquotedKey}
 use Rattle.strings.specs.Encodings.{plain}
 use Rattle.strings.specs.declared.Piece.{Piece}
+use Rattle.strings.specs.declared.Verdict.the-variants.{Clean}
 use Rattle.strings.specs.Pieces.{gives, Pieces, copyPiece, charPiece}
 use Rattle.strings.specs.Bodies.{pieceOf}
 use Rattle.strings.specs.Marks.{endsOf, bodyOf}
@@ -71,22 +72,22 @@ turn-at e s base i d l h p f =
 
 module _ {P : Pieces} {s : List ℕ} {base : ℕ} {out₀ : List ℕ} {o₀ : ℕ} {errs₀ : List (List ℕ)} {m₀ : ℕ} where
   pub quiet-turn : Fine P → {out out′ : List ℕ} {errs : List (List ℕ)} {i : ℕ} {d : Bool} {o m o′ : ℕ} {p : Piece}
-      → Turn P s base i d p → p .err ≡ 0 → Writing P s base out₀ o₀ errs₀ m₀ out errs i d o m
+      → Turn P s base i d p → p .verdict ≡ Clean → Writing P s base out₀ o₀ errs₀ m₀ out errs i d o m
       → Stored out o (gives p (rest s i)) o′ out′ → Writing P s base out₀ o₀ errs₀ m₀ out′ errs (i + p .take) (p .dropping) o′ m
   quiet-turn fine {errs = errs} {m = m} {p = p} t quiet v stored =
       write-turn fine t v stored (rw (notes-none p quiet) (store-none errs m))
 
-pub given-copy : (n at : ℕ) (s : List ℕ) → gives (copyPiece n 0 at at) s ≡ take n s
+pub given-copy : (n : ℕ) (s : List ℕ) → gives (copyPiece n) s ≡ take n s
 unfolding gives
-given-copy n at s = refl
+given-copy n s = refl
 
-pub given-char : (n c : ℕ) (s : List ℕ) → gives (charPiece n c 0 0) s ≡ encodeScalar c
+pub given-char : (n c : ℕ) (s : List ℕ) → gives (charPiece n c) s ≡ encodeScalar c
 unfolding gives
 given-char n c s = refl
 
 -- an escape that is read off is the rule's piece
 pub escape-turn : (e : Encoding) (s : List ℕ) (base i : ℕ) (d : Bool) → i < length s → (x : Escape) → x ≡ escapeAt e (rest s i)
-    → 0 < x .take → Turn (pieceOf e) s base i d (charPiece (x .take) (x .char) 0 0)
+    → 0 < x .take → Turn (pieceOf e) s base i d (charPiece (x .take) (x .char))
 escape-turn e s base i d h x is some =
     let piece = good-escape-piece e d (base + i) (rest s i) (rw is at some) in
     record { more = h; reads = rw is (sym piece) }

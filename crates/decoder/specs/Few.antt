@@ -11,4 +11,4 @@ use Rattle.strings.specs.Bodies.{pieceOf}
 -- a run of n bytes, fewer than eight, is the rule's piece in front of s
 pub record FewAt (e : Encoding) (d : Bool) (s : List ℕ) (n : ℕ) : Type 0 where
   pub short : n < 8
-  pub piece : (at : ℕ) → pieceOf e d at s ≡ copyPiece n 0 at at
+  pub piece : (at : ℕ) → pieceOf e d at s ≡ copyPiece n

@@ -244,9 +244,9 @@ fn fill(e: Encoding, d: Ends, text: &[u8], output: &mut [u8], errors: &mut [[usi
 {
     let a = d.start;
     let z = d.end;
-    let number = mark_error(e);
-    let m = miss(d.opened, number, 0, errors, 0);
-    let m2 = miss(d.closed, number, text.len(), errors, m);
+    let error = mark_error(e);
+    let m = miss(d.opened, error, 0, errors, 0);
+    let m2 = miss(d.closed, error, text.len(), errors, m);
     let plain = plain_run(e, &text[a..z]);
     let o = copy_in(&text[a..z], plain, output, 0);
     let i = a + plain;

@@ -7,6 +7,7 @@ ghost use Prim.Native.Nat.{ℕ, _+_, _<_, _≤_};
 ghost use lib.ListN.{length, take};
 ghost use Rattle.text.specs.Refusals.{limit};
 ghost use Rattle.text.specs.Utf8.{Scalar, encodeScalar};
+ghost use Rattle.strings.specs.declared.DecodeError.{DecodeError};
 ghost use Rattle.strings.specs.Pieces.{gives, errorAt, notes};
 ghost use Rattle.strings.specs.Bodies.{pieceOf};
 ghost use Rattle.strings.specs.Decoding.{missing};
@@ -17,9 +18,11 @@ ghost use Rattle.decoder.specs.Few.{FewAt};
 use pieces::escape_at;
 use pieces::piece_at;
 use pieces::plain_few;
+use strings::DecodeError;
 use strings::Encoding;
 use strings::Given;
 use strings::Piece;
+use strings::Verdict;
 use text::encode;
 
 // How many bytes, and how many errors.
@@ -106,7 +109,15 @@ fn put_char(c: u32, output: &mut [u8], o: usize) -> usize
 fn noted(p: Piece) -> usize
     ensures { λ r. ⌜ r ≡ length (notes p) ⌝ }
 {
-    if p.err == 0 { 0 } else { 1 }
+    let verdict = p.verdict;
+    match verdict {
+        Verdict::Clean => 0,
+        Verdict::Wrong {
+            error: _,
+            start: _,
+            end: _,
+        } => 1,
+    }
 }
 
 // Writes the error that the piece has, if any, to record m, and says the record behind it.
@@ -114,24 +125,32 @@ fn note(p: Piece, errors: &mut [[usize; 3]], m: usize) -> usize
     requires { ⌜ m + length (notes p) ≤ length (now errors) ⌝ }
     ensures { λ r. ⌜ Stored (now (errors .entry)) m (notes p) r (now (errors .exit)) ⌝ }
 {
-    if p.err == 0 {
-        m
-    } else {
-        put_error(p.err, p.start, p.end, errors, m)
+    let verdict = p.verdict;
+    match verdict {
+        Verdict::Clean => m,
+        Verdict::Wrong { error, start, end } => put_error(error, start, end, errors, m),
     }
 }
 
-fn put_error(number: usize, start: usize, end: usize, errors: &mut [[usize; 3]], m: usize) -> usize
+// Writes an error to record m: its number, its start and its end.
+fn put_error(
+    error: DecodeError,
+    start: usize,
+    end: usize,
+    errors: &mut [[usize; 3]],
+    m: usize,
+) -> usize
     requires { ⌜ m < length (now errors) ⌝ }
-    ensures { λ r. ⌜ Stored (now (errors .entry)) m (errorAt number start end) r (now (errors .exit)) ⌝ }
+    ensures { λ r. ⌜ Stored (now (errors .entry)) m (errorAt error start end) r (now (errors .exit)) ⌝ }
 {
+    let number = error.number();
     errors[m] = [number, start, end];
     m + 1
 }
 
 // How many errors a mark has: one where it is missing.
 pub(crate) fn missed(there: bool) -> usize
-    ensures { λ r. ⌜ ((number : ℕ) (place : ℕ) → r ≡ length (missing there number place)) ⌝ }
+    ensures { λ r. ⌜ ((error : DecodeError) (place : ℕ) → r ≡ length (missing there error place)) ⌝ }
 {
     if there { 0 } else { 1 }
 }
@@ -139,18 +158,18 @@ pub(crate) fn missed(there: bool) -> usize
 // Writes the error of a mark that is missing to record m, and says the record behind it.
 pub(crate) fn miss(
     there: bool,
-    number: usize,
+    error: DecodeError,
     place: usize,
     errors: &mut [[usize; 3]],
     m: usize,
 ) -> usize
-    requires { ⌜ m + length (missing there number place) ≤ length (now errors) ⌝ }
-    ensures { λ r. ⌜ Stored (now (errors .entry)) m (missing there number place) r (now (errors .exit)) ⌝ }
+    requires { ⌜ m + length (missing there error place) ≤ length (now errors) ⌝ }
+    ensures { λ r. ⌜ Stored (now (errors .entry)) m (missing there error place) r (now (errors .exit)) ⌝ }
 {
     if there {
         m
     } else {
-        put_error(number, place, place, errors, m)
+        put_error(error, place, place, errors, m)
     }
 }
 

@@ -15,10 +15,12 @@ use Rattle.text.proofs.EncodeLaws.{encode-1}
 use Rattle.text.proofs.CutLaws.{all-parts}
 use Rattle.strings.specs.declared.Edition.{Edition}
 use Rattle.strings.specs.declared.Encoding.the-variants.{BasicString as BasicText}
+use Rattle.strings.specs.declared.Verdict.the-variants.{Clean}
 use Rattle.strings.specs.Pieces.{notesAt, Pieces, collect}
 use Rattle.strings.specs.Escapes.{escapePiece}
 use Rattle.strings.specs.Bodies.{basicPiece, pieceOf}
 use Rattle.strings.specs.Decoding.{bytesOf, errorsOf}
+use Rattle.strings.proofs.PieceLaws.{wrong≢clean}
 use Rattle.strings.proofs.AsciiLaws.{basic-high}
 use Rattle.lexing.proofs.ByLength.{by-length}
 use Rattle.grammar.specs.Grammar.{escaped, basic-unescaped, escaped-char, BasicChars, stop, more, BasicString, basic-string}
@@ -48,11 +50,11 @@ module _ (ed : Edition) where
   abbrev Good : ℕ → List ℕ → Type 0
   Good b r = (basicUnescaped b ≡ true) ⊎ ((b ≡ 0x5C) × EscapedAt ed r)
 
-  clean : (at b : ℕ) (r : List ℕ) → P false at (b ∷ r) .err ≡ 0 → Good b r
+  clean : (at b : ℕ) (r : List ℕ) → P false at (b ∷ r) .verdict ≡ Clean → Good b r
   unfolding basicPiece
   clean at b r =
       cond-case (IfClean (Good b r)) (basicUnescaped b) (λ h e. inl h)
-      λ h. by-eq (IfClean (Good b r)) b 0x5C (λ q e. inr (q, escape-inv ed at r e)) (λ q e. absurd (omega arith))
+      λ h. by-eq (IfClean (Good b r)) b 0x5C (λ q e. inr (q, escape-inv ed at r e)) (λ q e. absurd (wrong≢clean e))
 
   char-reads : ReadsChars P basicUnescaped
   char-reads = reads-char P basicUnescaped plain basic-high

@@ -18,8 +18,10 @@ use Rattle.text.proofs.EncodeLaws.{scalar-true, true-scalar}
 use Rattle.strings.specs.declared.Edition.{Edition}
 use Rattle.strings.specs.declared.Edition.the-variants.{Toml10, Toml11}
 use Rattle.strings.specs.declared.Piece.{Piece}
+use Rattle.strings.specs.declared.Verdict.the-variants.{Clean}
 use Rattle.strings.specs.Pieces.{Pieces, charPiece}
 use Rattle.strings.specs.Escapes.{newEscape, simpleEscape, newHexLength, hexLength, hexFrom, hexValue, hexPiece, escapePiece}
+use Rattle.strings.proofs.PieceLaws.{wrong≢clean}
 use Rattle.strings.proofs.EscapeLaws.{hex-char, escape-hex, escape-simple}
 use Rattle.grammar.specs.Grammar.{HexDig, HexDigits, stop, more, EscapeSeqChar, x22, x5C, x62, x66, x6E, x72, x74, x75, x55, x65, x78}
 use Rattle.grammar.specs.Scalars.{Names}
@@ -114,16 +116,16 @@ escape-ascii e = let s = shape e in subst AllAscii (sym (s .is)) (s .low, all-we
 -- ---- an escape is one piece that gives its character
 
 simple-at : (ed : Edition) (b c : ℕ) → 0 ≡ hexLength ed b → c ≡ simpleEscape ed b → 0 < c → (at : ℕ) (s : List ℕ)
-    → escapePiece ed at (b ∷ s) ≡ charPiece 2 c 0 0
+    → escapePiece ed at (b ∷ s) ≡ charPiece 2 c
 simple-at ed b c p q h at s = sym (escape-simple ed at (b ∷ s) 0 c p (omega arith) q h)
 
 hex-at : (ed : Edition) (b n v : ℕ) (t : List ℕ) → n ≡ hexLength ed b → 0 < n → HexDigits n 0 t v → Scalar v
-    → (at : ℕ) (s : List ℕ) → escapePiece ed at (b ∷ (t ++ s)) ≡ charPiece (suc (length (b ∷ t))) v 0 0
+    → (at : ℕ) (s : List ℕ) → escapePiece ed at (b ∷ (t ++ s)) ≡ charPiece (suc (length (b ∷ t))) v
 hex-at ed b n v t p h d sc at s =
     let value : v ≡ hexFrom 0 (take n (t ++ s)) = digits-value d ∙ ap (hexFrom 0) (sym (digits-taken d s)) in
     sym (escape-hex ed at (b ∷ (t ++ s)) n p h)
     ∙ (sym (hex-char n at (t ++ s) v (digits-run d s) value (scalar-true v sc))
-    ∙ ap (λ (i : ℕ). charPiece i v 0 0) (omega (arith, digits-long d)))
+    ∙ ap (λ (i : ℕ). charPiece i v) (omega (arith, digits-long d)))
 
 -- what 1.1 adds to the letters that ask for digits is one
 no-digits : (ed : Edition) (b : ℕ) → (b ≡ 0x78 → ⊥) → 0 ≡ newHexLength ed b
@@ -131,7 +133,7 @@ no-digits Toml10 b h = refl
 no-digits Toml11 b h = rw (ne-eqb b 0x78 h)
 
 pub escape-at : {ed : Edition} {t : List ℕ} {v : ℕ} (e : EscapeSeqChar ed t v) → Names e → (at : ℕ) (s : List ℕ)
-    → escapePiece ed at (t ++ s) ≡ charPiece (suc (length t)) v 0 0
+    → escapePiece ed at (t ++ s) ≡ charPiece (suc (length t)) v
 unfolding simpleEscape hexLength
 escape-at {ed} x22 h = simple-at ed 0x22 0x22 (no-digits ed 0x22 (λ e. omega arith)) refl (omega arith)
 escape-at {ed} x5C h = simple-at ed 0x5C 0x5C (no-digits ed 0x5C (λ e. omega arith)) refl (omega arith)
@@ -199,15 +201,15 @@ unfolding hexLength
 hex-is ed b =
     hex-letter ed b 0x75 4 _ (λ t v d sc. (x75 d, sc)) (hex-letter ed b 0x55 8 _ (λ t v d sc. (x55 d, sc)) (new-hex-is ed b))
 
-hex-clean : (n at : ℕ) (s : List ℕ) → hexPiece n at s .err ≡ 0 → (n ≤ run hexdig s) × Scalar (hexFrom 0 (take n s))
+hex-clean : (n at : ℕ) (s : List ℕ) → hexPiece n at s .verdict ≡ Clean → (n ≤ run hexdig s) × Scalar (hexFrom 0 (take n s))
 unfolding hexPiece
 hex-clean n at s =
     let v = hexFrom 0 (take n s) in
     let P : Piece → Type 0 = IfClean ((n ≤ run hexdig s) × Scalar v) in
-    by-lt P (run hexdig s) n (λ h e. absurd (omega arith))
-    λ h. cond-case P (isScalar v) (λ is e. (h, true-scalar _ is)) (λ is e. absurd (omega arith))
+    by-lt P (run hexdig s) n (λ h e. absurd (wrong≢clean e))
+    λ h. cond-case P (isScalar v) (λ is e. (h, true-scalar _ is)) (λ is e. absurd (wrong≢clean e))
 
-hex-front : (ed : Edition) (b n at : ℕ) (s : List ℕ) → 0 < n → Hex ed b n → hexPiece n at s .err ≡ 0 → EscapedAt ed (b ∷ s)
+hex-front : (ed : Edition) (b n at : ℕ) (s : List ℕ) → 0 < n → Hex ed b n → hexPiece n at s .verdict ≡ Clean → EscapedAt ed (b ∷ s)
 hex-front ed b n at s h f e =
     let w = hex-clean n at s e in
     let x = f h (take n s) (hexFrom 0 (take n s)) (digits-of n 0 s (w .0)) (w .1) in
@@ -220,18 +222,18 @@ hex-front ed b n at s h f e =
       names = x .1;
     }
 
-none-escaped : (ed : Edition) (at : ℕ) → escapePiece ed at [] .err ≡ 0 → EscapedAt ed []
+none-escaped : (ed : Edition) (at : ℕ) → escapePiece ed at [] .verdict ≡ Clean → EscapedAt ed []
 unfolding escapePiece simpleEscape hexLength
-none-escaped Toml10 at e = absurd (omega arith)
-none-escaped Toml11 at e = absurd (omega arith)
+none-escaped Toml10 at e = absurd (wrong≢clean e)
+none-escaped Toml11 at e = absurd (wrong≢clean e)
 
-pub escape-inv : (ed : Edition) (at : ℕ) (s : List ℕ) → escapePiece ed at s .err ≡ 0 → EscapedAt ed s
+pub escape-inv : (ed : Edition) (at : ℕ) (s : List ℕ) → escapePiece ed at s .verdict ≡ Clean → EscapedAt ed s
 unfolding escapePiece
 escape-inv ed at [] = none-escaped ed at
 escape-inv ed at (b ∷ s) =
     by-lt (IfClean (EscapedAt ed (b ∷ s))) 0 (hexLength ed b) (λ h e. hex-front ed b (hexLength ed b) at s h (hex-is ed b) e)
     λ h. by-lt (IfClean (EscapedAt ed (b ∷ s))) 0 (simpleEscape ed b) (λ l e. simple-front (simple-is ed b l))
-    (λ l e. absurd (omega arith))
+    (λ l e. absurd (wrong≢clean e))
   where
     simple-front : {v : ℕ} → Named ed (b ∷ []) v → EscapedAt ed (b ∷ s)
     simple-front {v} x = record { t = b ∷ []; rest = s; v = v; split = refl; char = x .0; names = x .1 }

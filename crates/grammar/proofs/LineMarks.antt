@@ -15,6 +15,7 @@ use Rattle.text.proofs.EncodeLaws.{encode-1}
 use Rattle.text.proofs.ReadLaws.{encodes-append}
 use Rattle.strings.specs.declared.Encoding.{Encoding}
 use Rattle.strings.specs.declared.Ends.{Ends}
+use Rattle.strings.specs.declared.DecodeError.{DecodeError}
 use Rattle.strings.specs.Encodings.{markError}
 use Rattle.strings.specs.Pieces.{gives, notesAt, collect}
 use Rattle.strings.specs.Bodies.{pieceOf}
@@ -30,9 +31,9 @@ use Rattle.grammar.proofs.Reading.{ErrorFree}
 -- ---- marks that are there
 
 -- no error about a mark: it is there
-missing-none : (b : Bool) (n at : ℕ) → missing b n at ≡ [] → b ≡ true
-missing-none true n at e = refl
-missing-none false n at e = absurd (cons≢nil e)
+missing-none : (b : Bool) (e : DecodeError) (at : ℕ) → missing b e at ≡ [] → b ≡ true
+missing-none true e at h = refl
+missing-none false e at h = absurd (cons≢nil h)
 
 -- a text without error has both its marks
 pub both-marks : (e : Encoding) (t : List ℕ) → errorsOf e t ≡ [] → (endsOf e t .opened ≡ true) × (endsOf e t .closed ≡ true)

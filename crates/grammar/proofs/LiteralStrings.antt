@@ -11,9 +11,11 @@ use Rattle.classes.proofs.Conds.{cond-case}
 use Rattle.text.specs.Utf8.{Scalar, encodeScalar, encodes, All}
 use Rattle.text.proofs.EncodeLaws.{encode-1}
 use Rattle.strings.specs.declared.Encoding.the-variants.{LiteralString as LiteralText}
+use Rattle.strings.specs.declared.Verdict.the-variants.{Clean}
 use Rattle.strings.specs.Pieces.{Pieces}
 use Rattle.strings.specs.Bodies.{literalPiece, pieceOf}
 use Rattle.strings.specs.Decoding.{bytesOf, errorsOf}
+use Rattle.strings.proofs.PieceLaws.{wrong≢clean}
 use Rattle.grammar.specs.Grammar.{LiteralChars, stop, more, LiteralString, literal-string}
 use Rattle.grammar.proofs.Encoded.{side, ascii, beyond}
 use Rattle.grammar.proofs.Reading.{IfClean, CopiesRuns, ErrorFree, ReadsAs, ReadsChars, reads-none, reads-then, reads-char, first-clean}
@@ -29,9 +31,9 @@ plain : CopiesRuns P literalChar
 unfolding literalPiece run
 plain at b s e = rw e
 
-clean : (at b : ℕ) (r : List ℕ) → P false at (b ∷ r) .err ≡ 0 → literalChar b ≡ true
+clean : (at b : ℕ) (r : List ℕ) → P false at (b ∷ r) .verdict ≡ Clean → literalChar b ≡ true
 unfolding literalPiece
-clean at b r = cond-case (IfClean (literalChar b ≡ true)) (literalChar b) (λ h e. h) (λ h e. absurd (omega arith))
+clean at b r = cond-case (IfClean (literalChar b ≡ true)) (literalChar b) (λ h e. h) (λ h e. absurd (wrong≢clean e))
 
 char-reads : ReadsChars P literalChar
 char-reads = reads-char P literalChar plain literal-high

@@ -17,11 +17,13 @@ use Rattle.text.specs.Utf8.{encodeScalar}
 use Rattle.text.proofs.EncodeLaws.{parts}
 use Rattle.strings.specs.declared.Edition.{Edition}
 use Rattle.strings.specs.declared.Piece.{Piece}
+use Rattle.strings.specs.declared.Verdict.the-variants.{Clean}
 use Rattle.strings.specs.declared.Encoding.the-variants.{MlBasicString as MlBasicText}
 use Rattle.strings.specs.Encodings.{mlbPlain}
 use Rattle.strings.specs.Pieces.{Pieces, copyPiece, dropPiece}
 use Rattle.strings.specs.Escapes.{escapePiece}
 use Rattle.strings.specs.Bodies.{skips, escapedLine, escapedNl, escapedMore, mlbContent, mlBasicPiece, pieceOf}
+use Rattle.strings.proofs.PieceLaws.{wrong≢clean}
 use Rattle.strings.proofs.AsciiLaws.{mlb-high}
 use Rattle.grammar.specs.Grammar.{x20, x09, Newline, x0A, x0D-0A, EscapeSeqChar, Ws, MlbUnescaped, WscharNewline, newline}
 use Rattle.grammar.proofs.ListLaws.{first-there, two-there}
@@ -71,7 +73,7 @@ line-front (Ws.more x20 w) n s = refl
 line-front (Ws.more x09 w) n s = refl
 
 line-at : (at : ℕ) {w n : List ℕ} → Ws w → Newline n → (s : List ℕ)
-    → escapedNl at (w ++ (n ++ s)) ≡ dropPiece (1 + (length w + length n)) 0 0
+    → escapedNl at (w ++ (n ++ s)) ≡ dropPiece (1 + (length w + length n))
 unfolding escapedNl
 line-at at {w} {n} x y s = rw (ws-run x y s) (go y)
   where
@@ -80,10 +82,10 @@ line-at at {w} {n} x y s = rw (ws-run x y s) (go y)
 
     go : {n : List ℕ} → Newline n
         → escapedLine at (length w) (getD (w ++ (n ++ s)) (length w) 0) (getD (w ++ (n ++ s)) (length w + 1) 0)
-        ≡ dropPiece (1 + (length w + length n)) 0 0
-    go x0A = rw (zeroth (0x0A ∷ s)) (ap (λ (i : ℕ). dropPiece i 0 0) (omega arith))
+        ≡ dropPiece (1 + (length w + length n))
+    go x0A = rw (zeroth (0x0A ∷ s)) (ap dropPiece (omega arith))
     go x0D-0A =
-        rw (zeroth (0x0D ∷ (0x0A ∷ s)), getD-append-add w (0x0D ∷ (0x0A ∷ s)) 1 0) (ap (λ (i : ℕ). dropPiece i 0 0) (omega arith))
+        rw (zeroth (0x0D ∷ (0x0A ∷ s)), getD-append-add w (0x0D ∷ (0x0A ∷ s)) 1 0) (ap dropPiece (omega arith))
 
 -- one stands before r
 pub record Ended (r : List ℕ) : Type 0 where
@@ -103,7 +105,7 @@ ws-taken (b ∷ r) = go (wschar b) refl (ws-taken r)
     go true e i = Ws.more (wschar-is b e) i
     go false e i = Ws.stop
 
-ended : (at : ℕ) (r : List ℕ) → escapedNl at r .err ≡ 0 → Ended r
+ended : (at : ℕ) (r : List ℕ) → escapedNl at r .verdict ≡ Clean → Ended r
 unfolding escapedNl
 ended at r =
     by-eq (IfClean (Ended r)) (getD r k 0) 0x0A
@@ -113,8 +115,8 @@ ended at r =
     (λ l h.
     let w = two-there s 0x0D 0x0A (omega arith) (omega arith) (zeroth ∙ e) (getD-drop k r 1 0 ∙ l) in
     fin (0x0D ∷ (0x0A ∷ [])) (w .0) x0D-0A (w .1))
-    (λ l h. absurd (omega arith)))
-    (λ e h. absurd (omega arith))
+    (λ l h. absurd (wrong≢clean h)))
+    (λ e h. absurd (wrong≢clean h))
   where
     k : ℕ
     k = run wschar r
@@ -170,13 +172,13 @@ module _ (ed : Edition) where
   pub char-reads : ReadsChars P mlbPlain
   char-reads = reads-char P mlbPlain plain mlb-high
 
-  crlf-piece : (at : ℕ) (s : List ℕ) → P false at (0x0D ∷ (0x0A ∷ s)) ≡ copyPiece 2 0 at at
+  crlf-piece : (at : ℕ) (s : List ℕ) → P false at (0x0D ∷ (0x0A ∷ s)) ≡ copyPiece 2
   unfolding mlBasicPiece mlbContent mlbPlain mlbUnescaped
   crlf-piece at s = refl
 
   pub newline-reads : ReadsNewlines P
   newline-reads n x0A at s = reads-plain P mlbPlain plain at 0x0A s lf-plain
-  newline-reads n x0D-0A at s = reads-copy P false at (0x0D ∷ (0x0A ∷ [])) s at at (crlf-piece at s) (omega arith)
+  newline-reads n x0D-0A at s = reads-copy P false at (0x0D ∷ (0x0A ∷ [])) s (crlf-piece at s) (omega arith)
 
   slash-piece : (at : ℕ) (r : List ℕ) → P false at (0x5C ∷ r) ≡ cond (skips (getD r 0 0)) (escapedNl at r) (escapePiece ed at r)
   unfolding mlBasicPiece mlbContent mlbPlain mlbUnescaped
@@ -195,11 +197,11 @@ module _ (ed : Edition) where
   pub line-reads : {w n : List ℕ} → Ws w → Newline n → (at : ℕ) (s : List ℕ) → Reads P false at ((0x5C ∷ (w ++ n)) ++ s) [] true s
   line-reads {w} {n} x y at s =
       let long : length (0x5C ∷ (w ++ n)) ≡ 1 + (length w + length n) = ap suc (length-append w n) ∙ omega arith in
-      let piece : P false at ((0x5C ∷ (w ++ n)) ++ s) ≡ dropPiece (1 + (length w + length n)) 0 0 =
+      let piece : P false at ((0x5C ∷ (w ++ n)) ++ s) ≡ dropPiece (1 + (length w + length n)) =
       rw (append-assoc w n s) (slash-piece at (w ++ (n ++ s)) ∙ rw (line-front x y s) (line-at at x y s)) in
-      reads-drop P false at (0x5C ∷ (w ++ n)) s (piece ∙ ap (λ (i : ℕ). dropPiece i 0 0) (sym long)) (omega arith)
+      reads-drop P false at (0x5C ∷ (w ++ n)) s (piece ∙ ap dropPiece (sym long)) (omega arith)
 
-  skip-piece : (at : ℕ) (s : List ℕ) {t : List ℕ} → WscharNewline t → P true at (t ++ s) ≡ dropPiece (length t) 0 0
+  skip-piece : (at : ℕ) (s : List ℕ) {t : List ℕ} → WscharNewline t → P true at (t ++ s) ≡ dropPiece (length t)
   unfolding mlBasicPiece skips wschar escapedMore
   skip-piece at s (WscharNewline.wschar x20) = refl
   skip-piece at s (WscharNewline.wschar x09) = refl
@@ -234,7 +236,7 @@ module _ (ed : Edition) where
     is-escape : b ≡ 0x5C → EscapedAt ed r → Content b r
     is-ended : b ≡ 0x5C → Ended r → Content b r
 
-  pub content-inv : (at b : ℕ) (r : List ℕ) → P false at (b ∷ r) .err ≡ 0 → Content b r
+  pub content-inv : (at b : ℕ) (r : List ℕ) → P false at (b ∷ r) .verdict ≡ Clean → Content b r
   unfolding mlBasicPiece mlbContent
   content-inv at b r =
       let Q : Piece → Type 0 = IfClean (Content b r) in
@@ -243,17 +245,17 @@ module _ (ed : Edition) where
       (λ p. cond-case Q (skips (getD r 0 0)) (λ h e. is-ended p (ended at r e)) (λ h e. is-escape p (escape-inv ed at r e)))
       λ _. by-eq Q b 0x0D
       (λ p. by-eq Q (getD r 0 0) 0x0A
-      (λ l e. let w = first-there r 0x0A (omega arith) l in is-crlf (w .0) p (w .1)) (λ l e. absurd (omega arith)))
-      (λ p e. absurd (omega arith))
+      (λ l e. let w = first-there r 0x0A (omega arith) l in is-crlf (w .0) p (w .1)) (λ l e. absurd (wrong≢clean e)))
+      (λ p e. absurd (wrong≢clean e))
 
   -- within a line-ending escape
-  pub skip-inv : (at b : ℕ) (r : List ℕ) → P true at (b ∷ r) .err ≡ 0 → Skipped b r
+  pub skip-inv : (at b : ℕ) (r : List ℕ) → P true at (b ∷ r) .verdict ≡ Clean → Skipped b r
   unfolding mlBasicPiece escapedMore
   skip-inv at b r =
       let Q : Piece → Type 0 = IfClean (Skipped b r) in
       cond-case Q (skips b)
       (λ h. by-eq Q b 0x0D
       (λ p. by-eq Q (getD r 0 0) 0x0A
-      (λ l e. let w = first-there r 0x0A (omega arith) l in is-two (w .0) p (w .1)) (λ l e. absurd (omega arith)))
+      (λ l e. let w = first-there r 0x0A (omega arith) l in is-two (w .0) p (w .1)) (λ l e. absurd (wrong≢clean e)))
       (λ p e. is-one (skip-is b h p)))
       (λ h e. is-out h)

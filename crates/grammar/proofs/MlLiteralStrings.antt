@@ -17,9 +17,11 @@ use Rattle.text.proofs.EncodeLaws.{encode-1}
 use Rattle.text.proofs.ReadLaws.{encodes-append}
 use Rattle.strings.specs.declared.Encoding.the-variants.{MlLiteralString as MlLiteralText}
 use Rattle.strings.specs.Encodings.{mllPlain}
+use Rattle.strings.specs.declared.Verdict.the-variants.{Clean}
 use Rattle.strings.specs.Pieces.{Pieces, copyPiece}
 use Rattle.strings.specs.Bodies.{mlLiteralPiece, pieceOf}
 use Rattle.strings.specs.Decoding.{bytesOf, errorsOf}
+use Rattle.strings.proofs.PieceLaws.{wrong≢clean}
 use Rattle.grammar.specs.Grammar.{x0A, x0D-0A, MllChar, MllContent, mll-char, newline, MllContents, MllContents1, some-content, MllQuotes, one, two, MllGroups, OptMllQuotes, absent, present, MlLiteralBody, ml-literal-body, MlLiteralString, ml-literal-string}
 use Rattle.lexing.proofs.ByLength.{by-length}
 use Rattle.grammar.specs.Prose.{MlLiteralObeys}
@@ -64,26 +66,26 @@ mark-plain = refl
 abbrev Good : ℕ → List ℕ → Type 0
 Good b r = (mllPlain b ≡ true) ⊎ ((b ≡ 0x0D) × (s : List ℕ) × (r ≡ 0x0A ∷ s))
 
-clean : (at b : ℕ) (r : List ℕ) → P false at (b ∷ r) .err ≡ 0 → Good b r
+clean : (at b : ℕ) (r : List ℕ) → P false at (b ∷ r) .verdict ≡ Clean → Good b r
 unfolding mlLiteralPiece
 clean at b r =
     cond-case (IfClean (Good b r)) (mllPlain b) (λ h e. inl h)
     λ h. by-eq (IfClean (Good b r)) b 0x0D
-    (λ c. by-eq (λ (n : ℕ). n ≡ 0 → Good b r) (getD r 0 0) 0x0A
-    (λ l e. let w = first-there r 0x0A (omega arith) l in inr (c, w .0, w .1)) (λ l e. absurd (omega arith)))
-    (λ c e. absurd (omega arith))
+    (λ c. by-eq (IfClean (Good b r)) (getD r 0 0) 0x0A
+    (λ l e. let w = first-there r 0x0A (omega arith) l in inr (c, w .0, w .1)) (λ l e. absurd (wrong≢clean e)))
+    (λ c e. absurd (wrong≢clean e))
 
 char-reads : ReadsChars P mllPlain
 char-reads = reads-char P mllPlain plain plain-high
 
-cr-piece : (at : ℕ) (s : List ℕ) → P false at (0x0D ∷ (0x0A ∷ s)) ≡ copyPiece 1 0 (at + 1) (at + 1)
+cr-piece : (at : ℕ) (s : List ℕ) → P false at (0x0D ∷ (0x0A ∷ s)) ≡ copyPiece 1
 unfolding mlLiteralPiece mllPlain mllChar
 cr-piece at s = refl
 
 newline-reads : ReadsNewlines P
 newline-reads n x0A at s = reads-plain P mllPlain plain at 0x0A s lf-plain
 newline-reads n x0D-0A at s =
-    let a = reads-copy P false at (0x0D ∷ []) (0x0A ∷ s) (at + 1) (at + 1) (cr-piece at s) (omega arith) in
+    let a = reads-copy P false at (0x0D ∷ []) (0x0A ∷ s) (cr-piece at s) (omega arith) in
     reads-then P a (reads-plain P mllPlain plain (a .to) 0x0A s lf-plain)
 
 -- ---- contents: read as they are, and passed by the lexer

@@ -11,19 +11,19 @@ use lib.Seq.{take-at, drop-at}
 use Rattle.classes.specs.Runs.{run}
 use Rattle.text.specs.Utf8.{encodeScalar, encodes, All}
 use Rattle.strings.specs.declared.Piece.{Piece}
+use Rattle.strings.specs.declared.Verdict.the-variants.{Clean}
 use Rattle.strings.specs.Pieces.{gives, notes, notesAt, Pieces, collect, copyPiece, charPiece, dropPiece}
-use Rattle.strings.proofs.PieceLaws.{gives-copy, gives-char, gives-nothing, collect-step, notes-none}
-use Rattle.strings.proofs.Bounds.{notes-clean}
+use Rattle.strings.proofs.PieceLaws.{gives-copy, gives-char, gives-nothing, collect-step, notes-none, notes-clean}
 use Rattle.grammar.specs.Grammar.{Newline}
 use Rattle.grammar.proofs.Encoded.{char-bytes}
 
 -- what a piece says if it has no error
 abbrev pub IfClean : Type 0 → Piece → Type 0
-IfClean X p = p .err ≡ 0 → X
+IfClean X p = p .verdict ≡ Clean → X
 
 -- a byte of the class f and the run of that class behind it are one piece, which copies them
 abbrev pub CopiesRuns : Pieces → (ℕ → Bool) → Type 0
-CopiesRuns P f = (at b : ℕ) (s : List ℕ) → f b ≡ true → P false at (b ∷ s) ≡ copyPiece (suc (run f s)) 0 at at
+CopiesRuns P f = (at b : ℕ) (s : List ℕ) → f b ≡ true → P false at (b ∷ s) ≡ copyPiece (suc (run f s))
 
 module _ (P : Pieces) where
   -- s, from the place at on, has no error
@@ -52,7 +52,7 @@ module _ (P : Pieces) where
 
   -- one piece that has no error
   reads-piece : (d : Bool) (at : ℕ) (t s o : List ℕ) (p : Piece) → P d at (t ++ s) ≡ p → 0 < length t → p .take ≡ length t
-      → p .err ≡ 0 → gives p (t ++ s) ≡ o → Reads d at (t ++ s) o (p .dropping) s
+      → p .verdict ≡ Clean → gives p (t ++ s) ≡ o → Reads d at (t ++ s) o (p .dropping) s
   reads-piece d at t s o p e l n h g =
       let some : 0 < length (t ++ s) = omega (arith, length-append t s) in
       let takes : 0 < P d at (t ++ s) .take = rw e (omega arith) in
@@ -65,22 +65,22 @@ module _ (P : Pieces) where
       }
 
   -- bytes as they are, a character, or nothing
-  pub reads-copy : (d : Bool) (at : ℕ) (t s : List ℕ) (a z : ℕ) → P d at (t ++ s) ≡ copyPiece (length t) 0 a z → 0 < length t
+  pub reads-copy : (d : Bool) (at : ℕ) (t s : List ℕ) → P d at (t ++ s) ≡ copyPiece (length t) → 0 < length t
       → Reads d at (t ++ s) t false s
-  reads-copy d at t s a z e l =
-      let p = copyPiece (length t) 0 a z in
+  reads-copy d at t s e l =
+      let p = copyPiece (length t) in
       reads-piece d at t s t p e l refl refl (gives-copy p (t ++ s) refl ∙ take-at t s (length t) refl)
 
-  pub reads-for : (d : Bool) (at : ℕ) (t s : List ℕ) (v : ℕ) → P d at (t ++ s) ≡ charPiece (length t) v 0 0 → 0 < length t
+  pub reads-for : (d : Bool) (at : ℕ) (t s : List ℕ) (v : ℕ) → P d at (t ++ s) ≡ charPiece (length t) v → 0 < length t
       → Reads d at (t ++ s) (encodeScalar v) false s
   reads-for d at t s v e l =
-      let p = charPiece (length t) v 0 0 in
+      let p = charPiece (length t) v in
       reads-piece d at t s (encodeScalar v) p e l refl refl (gives-char p (t ++ s) v refl)
 
-  pub reads-drop : (d : Bool) (at : ℕ) (t s : List ℕ) → P d at (t ++ s) ≡ dropPiece (length t) 0 0 → 0 < length t
+  pub reads-drop : (d : Bool) (at : ℕ) (t s : List ℕ) → P d at (t ++ s) ≡ dropPiece (length t) → 0 < length t
       → Reads d at (t ++ s) [] true s
   reads-drop d at t s e l =
-      let p = dropPiece (length t) 0 0 in
+      let p = dropPiece (length t) in
       reads-piece d at t s [] p e l refl refl (gives-nothing p (t ++ s) refl)
 
   -- the code points cs give the value v, and nothing is left
@@ -96,7 +96,7 @@ module _ (P : Pieces) where
   ReadsNewlines = (n : List ℕ) → Newline n → (at : ℕ) (s : List ℕ) → Reads false at (n ++ s) n false s
 
   -- the first piece of a body that is read without error has none
-  pub first-clean : (d : Bool) (at b : ℕ) (r : List ℕ) → ErrorFree d at (b ∷ r) → P d at (b ∷ r) .err ≡ 0
+  pub first-clean : (d : Bool) (at b : ℕ) (r : List ℕ) → ErrorFree d at (b ∷ r) → P d at (b ∷ r) .verdict ≡ Clean
   first-clean d at b r e =
       notes-clean (P d at (b ∷ r)) (ap length (append-eq-nil-iff {p = notes (P d at (b ∷ r))} .0 e .0))
 
@@ -104,7 +104,7 @@ module _ (P : Pieces) where
   module _ (f : ℕ → Bool) (plain : CopiesRuns P f) where
     -- g says h n of a copy of n bytes: what it says of the rest of a run, it says of the bytes of that rest one by one
     module _ {A : Type 0} (g : Piece → List ℕ → List A) (h : ℕ → List ℕ → List A) (none : (s : List ℕ) → h 0 s ≡ [])
-        (copied : (n at : ℕ) (s : List ℕ) → g (copyPiece n 0 at at) s ≡ h n s) where
+        (copied : (n : ℕ) (s : List ℕ) → g (copyPiece n) s ≡ h n s) where
       rest-says : (at : ℕ) (s : List ℕ) → h (run f s) s ++ collect P g (run f s) false at s ≡ collect P g 0 false at s
       unfolding run
       rest-says at [] = rw (none [])
@@ -113,7 +113,7 @@ module _ (P : Pieces) where
           go : (x : Bool) → f b ≡ x
               → h (cond x (suc (run f s)) 0) (b ∷ s) ++ collect P g (cond x (suc (run f s)) 0) false at (b ∷ s)
               ≡ collect P g 0 false at (b ∷ s)
-          go true e = rw (plain at b s e, copied (suc (run f s)) at (b ∷ s))
+          go true e = rw (plain at b s e, copied (suc (run f s)) (b ∷ s))
           go false e = rw (none (b ∷ s))
 
     pub reads-plain : (at b : ℕ) (s : List ℕ) → f b ≡ true → Reads false at (b ∷ s) (b ∷ []) false s
@@ -122,8 +122,8 @@ module _ (P : Pieces) where
         record {
           to = suc at;
           place = omega arith;
-          quiet = rw (plain at b s e) (rest-says notesAt (λ n r. []) (λ r. refl) (λ n i r. refl) (suc at) s);
-          bytes = rw (plain at b s e) (ap (b ∷_) (rest-says gives take (λ r. refl) (λ n i r. refl) (suc at) s));
+          quiet = rw (plain at b s e) (rest-says notesAt (λ n r. []) (λ r. refl) (λ n r. refl) (suc at) s);
+          bytes = rw (plain at b s e) (ap (b ∷_) (rest-says gives take (λ r. refl) (λ n r. refl) (suc at) s));
         }
 
     reads-bytes : (x : List ℕ) → All (λ b. f b ≡ true) x → (at : ℕ) (s : List ℕ) → Reads false at (x ++ s) x false s

@@ -11,20 +11,21 @@ mod choice;
 
 pub use crate::choice::choice_by;
 use pieces::strip_start_newline;
+use strings::DecodeError;
 use strings::Encoding;
 use strings::Ends;
 use token::Span;
 
-// The number of the error that a mark is missing, or that a key is empty.
-pub fn mark_error(e: Encoding) -> usize
+// The error that a mark is missing, or that a key is empty.
+pub fn mark_error(e: Encoding) -> DecodeError
     ensures { λ r. ⌜ r ≡ markError e ⌝ }
 {
     match e {
-        Encoding::LiteralString => 1,
-        Encoding::MlLiteralString => 3,
-        Encoding::BasicString(_) => 6,
-        Encoding::MlBasicString(_) => 11,
-        Encoding::UnquotedKey => 14,
+        Encoding::LiteralString => DecodeError::LiteralMissingQuote,
+        Encoding::MlLiteralString => DecodeError::MlLiteralMissingQuote,
+        Encoding::BasicString(_) => DecodeError::BasicMissingQuote,
+        Encoding::MlBasicString(_) => DecodeError::MlBasicMissingQuote,
+        Encoding::UnquotedKey => DecodeError::EmptyKey,
     }
 }
 

@@ -129,7 +129,7 @@ letter-kept b h =
 -- behind the backslash: its letter is none that a line-ending escape drops, and its piece is the rule's
 record Found (v : Edition) (at : ℕ) (s : List ℕ) (x : Escape) : Type 0 where
   letter : 0x22 ≤ getD s 0 0
-  piece : charPiece (x .take) (x .char) 0 0 ≡ escapePiece v at s
+  piece : charPiece (x .take) (x .char) ≡ escapePiece v at s
 
 module _ (v : Edition) (at : ℕ) (s : List ℕ) where
   abbrev IfFound : Escape → Type 0
@@ -163,7 +163,7 @@ module _ (v : Edition) (at : ℕ) (s : List ℕ) where
       λ h. by-lt IfFound 0 (hexLength v b) good-hex-found (λ l z. absurd (omega arith))
 
 module _ (d : Bool) (at : ℕ) (s : List ℕ) (backslash : getD s 0 0 ≡ 0x5C) where
-  piece-in : (e : Encoding) → 0 < escapeIn e s .take → pieceOf e d at s ≡ charPiece (escapeIn e s .take) (escapeIn e s .char) 0 0
+  piece-in : (e : Encoding) → 0 < escapeIn e s .take → pieceOf e d at s ≡ charPiece (escapeIn e s .take) (escapeIn e s .char)
   unfolding escapeIn
   piece-in LiteralString h = absurd (omega arith)
   piece-in MlLiteralString h = absurd (omega arith)
@@ -175,18 +175,18 @@ module _ (d : Bool) (at : ℕ) (s : List ℕ) (backslash : getD s 0 0 ≡ 0x5C) 
   piece-in UnquotedKey h = absurd (omega arith)
 
 pub good-escape-piece : (e : Encoding) (d : Bool) (at : ℕ) (s : List ℕ) → 0 < escapeAt e s .take
-    → pieceOf e d at s ≡ charPiece (escapeAt e s .take) (escapeAt e s .char) 0 0
+    → pieceOf e d at s ≡ charPiece (escapeAt e s .take) (escapeAt e s .char)
 unfolding escapeAt
 good-escape-piece e d at s =
-    by-eq (λ (x : Escape). 0 < x .take → pieceOf e d at s ≡ charPiece (x .take) (x .char) 0 0) (getD s 0 0) 0x5C
+    by-eq (λ (x : Escape). 0 < x .take → pieceOf e d at s ≡ charPiece (x .take) (x .char)) (getD s 0 0) 0x5C
     (λ b. piece-in d at s b e)
     (λ b h. absurd (omega arith))
 
 -- ---- a short run of plain bytes is the rule's piece
 
 pub few-piece : (e : Encoding) (at : ℕ) (s : List ℕ) (n : ℕ) → n ≡ run (plain e) (take 8 s) → 0 < n → n < 8
-    → pieceOf e false at s ≡ copyPiece n 0 at at
+    → pieceOf e false at s ≡ copyPiece n
 few-piece e at s n is some few =
     let all : n ≡ run (plain e) s = ⊎-elim (λ w. omega arith) (λ w. omega arith) (front-run (plain e) 8 s) in
     let first = run-first (plain e) s (omega (arith, run-le (plain e) s)) n all some in
-    plain-piece e at s first ∙ ap (λ (k : ℕ). copyPiece k 0 at at) (sym all)
+    plain-piece e at s first ∙ ap copyPiece (sym all)

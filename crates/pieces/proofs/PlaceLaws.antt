@@ -17,14 +17,14 @@ module _ (e : Encoding) (d : Bool) (at : ℕ) (s : List ℕ) where
   unfolding pieceAt
   piece-is h l k = rw (lt-ltb _ _ h, le-leb _ _ l, le-leb _ _ k)
 
-  pub piece-none : length s ≤ 0 → copyPiece 0 0 at at ≡ pieceAt e d at s
+  pub piece-none : length s ≤ 0 → copyPiece 0 ≡ pieceAt e d at s
   unfolding pieceAt
   piece-none h = rw (le-ltb _ _ h)
 
-  pub piece-long : 0 < length s → limit < length s → copyPiece 0 0 at at ≡ pieceAt e d at s
+  pub piece-long : 0 < length s → limit < length s → copyPiece 0 ≡ pieceAt e d at s
   unfolding pieceAt
   piece-long h l = rw (lt-ltb _ _ h, lt-leb _ _ l)
 
-  pub piece-far : 0 < length s → length s ≤ limit → limit < at → copyPiece 0 0 at at ≡ pieceAt e d at s
+  pub piece-far : 0 < length s → length s ≤ limit → limit < at → copyPiece 0 ≡ pieceAt e d at s
   unfolding pieceAt
   piece-far h l k = rw (lt-ltb _ _ h, le-leb _ _ l, lt-leb _ _ k)

@@ -14,4 +14,4 @@ use Rattle.strings.specs.Bodies.{pieceOf}
 
 unfoldable pub pieceAt : Encoding → Bool → ℕ → List ℕ → Piece
 pieceAt e dropping at s =
-    cond (ltb 0 (length s) && (leb (length s) limit && leb at limit)) (pieceOf e dropping at s) (copyPiece 0 0 at at)
+    cond (ltb 0 (length s) && (leb (length s) limit && leb at limit)) (pieceOf e dropping at s) (copyPiece 0)

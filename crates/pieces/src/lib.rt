@@ -34,13 +34,13 @@ pub fn piece_at(e: Encoding, dropping: bool, s: &[u8], at: usize) -> Piece
     ensures { λ r. ⌜ r ≡ pieceAt e dropping at (now (s .entry)) ⌝ }
 {
     if s.len() == 0 {
-        return copy_piece(0, 0, at, at);
+        return copy_piece(0);
     }
     if LIMIT < s.len() {
-        return copy_piece(0, 0, at, at);
+        return copy_piece(0);
     }
     if LIMIT < at {
-        return copy_piece(0, 0, at, at);
+        return copy_piece(0);
     }
     match e {
         Encoding::LiteralString => decode_literal_string(s, at),

@@ -9,10 +9,13 @@ ghost use Rattle.classes.specs.Classes.{literalChar, basicUnescaped, unquotedCh
 ghost use Rattle.classes.specs.Runs.{run};
 ghost use Rattle.strings.specs.Encodings.{mllPlain, mlbPlain, basicInvalid, mlbInvalid};
 ghost use Rattle.strings.specs.Escapes.{newEscape, simpleEscape, newHexLength, hexLength, hexValue, hexPiece, escapePiece};
-ghost use Rattle.strings.specs.Bodies.{crError, literalPiece, mlLiteralPiece, basicPiece, skips, escapedNl, escapedMore, mlbContent, mlBasicPiece, keyPiece};
+ghost use Rattle.strings.specs.Bodies.{literalPiece, mlLiteralPiece, basicPiece, skips, escapedNl, escapedMore, mlbContent, mlBasicPiece, keyPiece};
 ghost use Rattle.strings.specs.Marks.{newlineLen};
 ghost use Rattle.pieces.specs.GoodEscapes.{noEscape, goodHex, goodEscape, escapeAt};
 ghost use Rattle.pieces.specs.Scan.{HexRead};
+use crate::piece::bad_char;
+use crate::piece::bad_copy;
+use crate::piece::bad_drop;
 use crate::piece::char_piece;
 use crate::piece::copy_piece;
 use crate::piece::drop_piece;
@@ -23,6 +26,7 @@ use crate::scan::plain_rest;
 use crate::scan::run_from;
 use classes::is_wschar;
 use std::num::wrapping_sub_u8;
+use strings::DecodeError;
 use strings::Edition;
 use strings::Encoding;
 use strings::Piece;
@@ -35,9 +39,9 @@ pub(crate) fn decode_literal_string(s: &[u8], at: usize) -> Piece
 {
     let n = literal_chars(s);
     if 0 < n {
-        return copy_piece(n, 0, at, at);
+        return copy_piece(n);
     }
-    copy_piece(1, 2, at, at)
+    bad_copy(1, DecodeError::LiteralInvalid, at, at)
 }
 
 // literal-char = %x09 / %x20-26 / %x28-7E / non-ascii
@@ -56,12 +60,15 @@ pub(crate) fn decode_ml_literal_string(s: &[u8], at: usize) -> Piece
 {
     let n = mll_chars(s);
     if 0 < n {
-        return copy_piece(n, 0, at, at);
+        return copy_piece(n);
     }
     if s[0] == b'\r' {
-        return copy_piece(1, cr_error(peek(s, 1)), at + 1, at + 1);
+        if peek(s, 1) == b'\n' {
+            return copy_piece(1);
+        }
+        return bad_copy(1, DecodeError::LoneCr, at + 1, at + 1);
     }
-    copy_piece(1, 5, at, at)
+    bad_copy(1, DecodeError::MlLiteralInvalid, at, at)
 }
 
 // mll-char, with mll-quotes and LF
@@ -71,13 +78,6 @@ pub(crate) fn mll_chars(s: &[u8]) -> usize
     let wide = plain_blocks(Encoding::MlLiteralString, s, 0, 16);
     let i = plain_blocks(Encoding::MlLiteralString, s, wide, 8);
     plain_rest(Encoding::MlLiteralString, s, i)
-}
-
-// The error of a CR, by the byte behind it.
-fn cr_error(next: u8) -> usize
-    ensures { λ r. ⌜ r ≡ crError next ⌝ }
-{
-    if next == b'\n' { 0 } else { 4 }
 }
 
 // basic-char = basic-unescaped / escaped
@@ -90,10 +90,10 @@ pub(crate) fn decode_basic_string(v: Edition, s: &[u8], at: usize) -> Piece
     }
     let n = basic_unescaped(v, s);
     if 0 < n {
-        return copy_piece(n, 0, at, at);
+        return copy_piece(n);
     }
     let k = basic_invalid(s);
-    copy_piece(k, 7, at, at + k)
+    bad_copy(k, DecodeError::BasicInvalid, at, at + k)
 }
 
 // basic-unescaped = wschar / %x21 / %x23-5B / %x5D-7E / non-ascii
@@ -185,9 +185,9 @@ fn escape_seq_char(v: Edition, s: &[u8], at: usize) -> Piece
     }
     let c = simple_escape(v, b);
     if 0 < c {
-        return char_piece(2, c, 0, 0);
+        return char_piece(2, c);
     }
-    char_piece(1, 0x5C, 8, at + 1)
+    bad_char(1, 0x5C, DecodeError::MissingEscape, at + 1)
 }
 
 // How many digits the letter asks for, 0 for none.
@@ -246,12 +246,12 @@ fn hexescape(s: &[u8], digits: usize, at: usize) -> Piece
     let i = hex.found;
     let value = hex.value;
     if i < digits {
-        return char_piece(2 + i, 0xFFFD, 9, at + (2 + i));
+        return bad_char(2 + i, 0xFFFD, DecodeError::FewDigits, at + (2 + i));
     }
     if is_scalar(value) {
-        return char_piece(2 + digits, value, 0, 0);
+        return char_piece(2 + digits, value);
     }
-    char_piece(2 + digits, 0xFFFD, 10, at + 2)
+    bad_char(2 + digits, 0xFFFD, DecodeError::NotScalar, at + 2)
 }
 
 // The digits that s begins with, up to as many as are asked for: how many, and their value.
@@ -329,7 +329,7 @@ fn mlb_content(v: Edition, s: &[u8], at: usize) -> Piece
 {
     let n = mlb_unescaped(v, s);
     if 0 < n {
-        return copy_piece(n, 0, at, at);
+        return copy_piece(n);
     }
     let b = s[0];
     if b == b'\\' {
@@ -340,12 +340,12 @@ fn mlb_content(v: Edition, s: &[u8], at: usize) -> Piece
     }
     if b == b'\r' {
         if peek(s, 1) == b'\n' {
-            return copy_piece(2, 0, at, at);
+            return copy_piece(2);
         }
-        return copy_piece(1, 4, at + 1, at + 1);
+        return bad_copy(1, DecodeError::LoneCr, at + 1, at + 1);
     }
     let k = mlb_invalid(s);
-    copy_piece(k, 12, at, at + k)
+    bad_copy(k, DecodeError::MlBasicInvalid, at, at + k)
 }
 
 // What a line-ending escape drops.
@@ -366,15 +366,15 @@ fn mlb_escaped_nl(s: &[u8], at: usize) -> Piece
     let w = run_from(Set::Blank, s, 0);
     let b = peek(s, w);
     if b == b'\n' {
-        return drop_piece(2 + w, 0, 0);
+        return drop_piece(2 + w);
     }
     if b == b'\r' {
         if peek(s, w + 1) == b'\n' {
-            return drop_piece(3 + w, 0, 0);
+            return drop_piece(3 + w);
         }
-        return drop_piece(2 + w, 4, at + (2 + w));
+        return bad_drop(2 + w, DecodeError::LoneCr, at + (2 + w));
     }
-    drop_piece(1 + w, 13, at + (1 + w))
+    bad_drop(1 + w, DecodeError::MissingNewline, at + (1 + w))
 }
 
 // Its further lines: one blank or newline.
@@ -384,11 +384,11 @@ fn mlb_escaped_more(s: &[u8], at: usize) -> Piece
 {
     if peek(s, 0) == b'\r' {
         if peek(s, 1) == b'\n' {
-            return drop_piece(2, 0, 0);
+            return drop_piece(2);
         }
-        return drop_piece(1, 4, at + 1);
+        return bad_drop(1, DecodeError::LoneCr, at + 1);
     }
-    drop_piece(1, 0, 0)
+    drop_piece(1)
 }
 
 // mlb-unescaped, with mlb-quotes and LF
@@ -413,9 +413,9 @@ pub(crate) fn decode_unquoted_key(s: &[u8], at: usize) -> Piece
 {
     let n = unquoted_chars(s);
     if 0 < n {
-        return copy_piece(n, 0, at, at);
+        return copy_piece(n);
     }
-    copy_piece(1, 15, at, at)
+    bad_copy(1, DecodeError::KeyInvalid, at, at)
 }
 
 // ALPHA / DIGIT / %x2D / %x5F

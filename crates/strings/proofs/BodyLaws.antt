@@ -16,8 +16,10 @@ use Rattle.strings.specs.declared.Edition.{Edition}
 use Rattle.strings.specs.declared.Encoding.{Encoding}
 use Rattle.strings.specs.declared.Encoding.the-variants.{LiteralString, BasicString, MlLiteralString, MlBasicString, UnquotedKey}
 use Rattle.strings.specs.Encodings.{mllPlain, mlbPlain, basicInvalid, mlbInvalid}
-use Rattle.strings.specs.Pieces.{copyPiece}
-use Rattle.strings.specs.Bodies.{literalPiece, crError, mlLiteralPiece, basicPiece, skips, escapedLine, escapedNl, escapedMore, mlbContent, mlBasicPiece, keyPiece, pieceOf}
+use Rattle.strings.specs.declared.Given.the-variants.{Copy}
+use Rattle.strings.specs.declared.Verdict.{Verdict}
+use Rattle.strings.specs.declared.Verdict.the-variants.{Clean, Wrong}
+use Rattle.strings.specs.Bodies.{literalPiece, mlLiteralPiece, basicPiece, skips, escapedLine, escapedNl, escapedMore, mlbContent, mlBasicPiece, keyPiece, pieceOf}
 use Rattle.strings.proofs.Fine.{FineAt, Fine, fine-copy, fine-drop}
 use Rattle.strings.proofs.EscapeLaws.{escape-fine}
 
@@ -38,40 +40,41 @@ module _ (at : ℕ) (s : List ℕ) (h : 0 < length s) where
   Good p = FineAt p s
 
   -- a run that starts here, as one piece
-  fine-run : (f : ℕ → Bool) (n a z : ℕ) → f (getD s 0 0) ≡ true → FineAt (copyPiece (run f s) n a z) s
-  fine-run f n a z e = fine-copy (run f s) n a z s (run-some f s h e) (run-le f s)
+  fine-run : (f : ℕ → Bool) (w : Verdict) → f (getD s 0 0) ≡ true
+      → FineAt (record { take = run f s; given = Copy; verdict = w; dropping = false }) s
+  fine-run f w e = fine-copy (run f s) w s (run-some f s h e) (run-le f s)
 
-  fine-one : (n a z : ℕ) → FineAt (copyPiece 1 n a z) s
-  fine-one n a z = fine-copy 1 n a z s (omega arith) h
+  fine-one : (w : Verdict) → FineAt (record { take = 1; given = Copy; verdict = w; dropping = false }) s
+  fine-one w = fine-copy 1 w s (omega arith) h
 
   literal-fine : FineAt (literalPiece at s) s
   unfolding literalPiece
-  literal-fine = cond-case Good (literalChar (getD s 0 0)) (fine-run literalChar 0 at at) (λ e. fine-one 2 at at)
+  literal-fine = cond-case Good (literalChar (getD s 0 0)) (fine-run literalChar Clean) (λ e. fine-one _)
 
   ml-literal-fine : FineAt (mlLiteralPiece at s) s
   unfolding mlLiteralPiece
   ml-literal-fine =
-      cond-case Good (mllPlain (getD s 0 0)) (fine-run mllPlain 0 at at)
-      λ e. by-eq Good (getD s 0 0) 0x0D (λ f. fine-one (crError (getD s 1 0)) (at + 1) (at + 1)) (λ f. fine-one 5 at at)
+      cond-case Good (mllPlain (getD s 0 0)) (fine-run mllPlain Clean)
+      λ e. by-eq Good (getD s 0 0) 0x0D (λ f. by-eq Good (getD s 1 0) 0x0A (λ g. fine-one _) (λ g. fine-one _)) (λ f. fine-one _)
 
   basic-fine : (v : Edition) → FineAt (basicPiece v at s) s
   unfolding basicPiece
   basic-fine v =
-      cond-case Good (basicUnescaped (getD s 0 0)) (fine-run basicUnescaped 0 at at)
+      cond-case Good (basicUnescaped (getD s 0 0)) (fine-run basicUnescaped Clean)
       λ e. by-eq Good (getD s 0 0) 0x5C (λ f. escape-fine v at s (drop 1 s) (omega (arith, length-drop 1 s)))
-      (λ f. fine-run basicInvalid 7 at _ (invalid-basic (getD s 0 0) e f))
+      (λ f. fine-run basicInvalid _ (invalid-basic (getD s 0 0) e f))
 
   -- a line-ending escape, where t stands behind the backslash at the front of s
   line-fine : (t : List ℕ) (w : ℕ) → length s ≡ suc (length t) → w ≤ length t → FineAt (escapedLine at w (getD t w 0) (getD t (w + 1) 0)) s
   line-fine t w long l =
-      by-eq Good (getD t w 0) 0x0A (λ e. let k = there t w (omega arith) in fine-drop (2 + w) 0 0 s (omega arith) (omega arith))
+      by-eq Good (getD t w 0) 0x0A (λ e. let k = there t w (omega arith) in fine-drop (2 + w) _ s (omega arith) (omega arith))
       λ e. by-eq Good (getD t w 0) 0x0D
       (λ f.
       let k = there t w (omega arith) in
       by-eq Good (getD t (w + 1) 0) 0x0A
-      (λ g. let m = there t (w + 1) (omega arith) in fine-drop (3 + w) 0 0 s (omega arith) (omega arith))
-      (λ g. fine-drop (2 + w) 4 _ s (omega arith) (omega arith)))
-      (λ f. fine-drop (1 + w) 13 _ s (omega arith) (omega arith))
+      (λ g. let m = there t (w + 1) (omega arith) in fine-drop (3 + w) _ s (omega arith) (omega arith))
+      (λ g. fine-drop (2 + w) _ s (omega arith) (omega arith)))
+      (λ f. fine-drop (1 + w) _ s (omega arith) (omega arith))
 
   escaped-fine : (t : List ℕ) → length s ≡ suc (length t) → FineAt (escapedNl at t) s
   unfolding escapedNl
@@ -82,23 +85,23 @@ module _ (at : ℕ) (s : List ℕ) (h : 0 < length s) where
   more-fine =
       by-eq Good (getD s 0 0) 0x0D
       (λ e. by-eq Good (getD s 1 0) 0x0A
-      (λ f. let k = there s 1 (omega arith) in fine-drop 2 0 0 s (omega arith) (omega arith))
-      (λ f. fine-drop 1 4 _ s (omega arith) h))
-      (λ e. fine-drop 1 0 0 s (omega arith) h)
+      (λ f. let k = there s 1 (omega arith) in fine-drop 2 _ s (omega arith) (omega arith))
+      (λ f. fine-drop 1 _ s (omega arith) h))
+      (λ e. fine-drop 1 _ s (omega arith) h)
 
   content-fine : (v : Edition) → FineAt (mlbContent v at s) s
   unfolding mlbContent
   content-fine v =
-      cond-case Good (mlbPlain (getD s 0 0)) (fine-run mlbPlain 0 at at)
+      cond-case Good (mlbPlain (getD s 0 0)) (fine-run mlbPlain Clean)
       λ e. by-eq Good (getD s 0 0) 0x5C
       (λ f. cond-case Good (skips (getD s 1 0))
       (λ g. escaped-fine (drop 1 s) (omega (arith, length-drop 1 s)))
       (λ g. escape-fine v at s (drop 1 s) (omega (arith, length-drop 1 s))))
       λ f. by-eq Good (getD s 0 0) 0x0D
       (λ g. by-eq Good (getD s 1 0) 0x0A
-      (λ i. let k = there s 1 (omega arith) in fine-copy 2 0 at at s (omega arith) (omega arith))
-      (λ i. fine-one 4 (at + 1) (at + 1)))
-      (λ g. fine-run mlbInvalid 12 at _ (invalid-mlb (getD s 0 0) e f g))
+      (λ i. let k = there s 1 (omega arith) in fine-copy 2 _ s (omega arith) (omega arith))
+      (λ i. fine-one _))
+      (λ g. fine-run mlbInvalid _ (invalid-mlb (getD s 0 0) e f g))
 
   ml-basic-fine : (v : Edition) (d : Bool) → FineAt (mlBasicPiece v d at s) s
   unfolding mlBasicPiece
@@ -106,7 +109,7 @@ module _ (at : ℕ) (s : List ℕ) (h : 0 < length s) where
 
   key-fine : FineAt (keyPiece at s) s
   unfolding keyPiece
-  key-fine = cond-case Good (unquotedChar (getD s 0 0)) (fine-run unquotedChar 0 at at) (λ e. fine-one 15 at at)
+  key-fine = cond-case Good (unquotedChar (getD s 0 0)) (fine-run unquotedChar Clean) (λ e. fine-one _)
 
 pub piece-fine : (e : Encoding) → Fine (pieceOf e)
 piece-fine LiteralString d at s h = literal-fine at s h

@@ -6,25 +6,16 @@ use mathlib.Core.Bool.{Bool, true, false}
 use mathlib.Core.List.{List, [], _∷_}
 use native.Mathlib.Omega.{arith}
 use lib.ListN.{length, length-append, length-take, length-drop}
-use Rattle.strings.specs.declared.Piece.{Piece}
 use Rattle.strings.specs.declared.Encoding.{Encoding}
+use Rattle.strings.specs.declared.DecodeError.{DecodeError}
 use Rattle.strings.specs.Encodings.{markError}
-use Rattle.strings.specs.Pieces.{gives, notes, notesAt, Pieces, collect}
+use Rattle.strings.specs.Pieces.{gives, notesAt, Pieces, collect}
 use Rattle.strings.specs.Bodies.{pieceOf}
 use Rattle.strings.specs.Marks.{endsOf, bodyOf}
 use Rattle.strings.specs.Decoding.{bytesOf, missing, errorsOf}
-use Rattle.strings.proofs.PieceLaws.{notes-few, notes-one}
+use Rattle.strings.proofs.PieceLaws.{notes-few, notes-clean}
 use Rattle.strings.proofs.Fine.{Fine}
 use Rattle.strings.proofs.BodyLaws.{piece-fine}
-use native.Mathlib.Decide.{ℕ-discrete}
-
--- a piece that notes nothing has no error
-pub notes-clean : (p : Piece) → length (notes p) ≡ 0 → p .err ≡ 0
-notes-clean p h = go (ℕ-discrete (p .err) 0)
-  where
-    go : Dec (p .err ≡ 0) → p .err ≡ 0
-    go (yes e) = e
-    go (no e) = absurd (omega (arith, ap length (notes-one p e)))
 
 module _ (P : Pieces) (fine : Fine P) where
   collect-most : (k : ℕ) (d : Bool) (at : ℕ) (s : List ℕ) → k ≤ length s
@@ -61,9 +52,9 @@ module _ (P : Pieces) (fine : Fine P) where
 body-le : (k : Encoding) (t : List ℕ) → length (bodyOf (endsOf k t) t) ≤ length t
 body-le k t = rw (length-take, length-drop) (omega arith)
 
-pub missing-few : (b : Bool) (n at : ℕ) → length (missing b n at) ≤ 1
-missing-few true n at = omega arith
-missing-few false n at = omega arith
+pub missing-few : (b : Bool) (e : DecodeError) (at : ℕ) → length (missing b e at) ≤ 1
+missing-few true e at = omega arith
+missing-few false e at = omega arith
 
 module _ (k : Encoding) (t : List ℕ) where
   -- twice the decoded length is at most three times the text's

@@ -13,6 +13,7 @@ use Rattle.text.specs.declared.refusal.Refusal.the-variants.{ShortOutput, FewEr
 use Rattle.text.specs.declared.utf8.Utf8Check.the-variants.{Valid, Refused as NotValid}
 use Rattle.strings.specs.declared.Encoding.{Encoding}
 use Rattle.strings.specs.declared.Ends.{Ends}
+use Rattle.strings.specs.declared.DecodeError.{DecodeError}
 use Rattle.strings.specs.declared.Decoded.the-variants.{Written, Refused}
 use Rattle.strings.specs.Encodings.{choiceBy, markError}
 use Rattle.strings.specs.Pieces.{gives, notesAt, collect}
@@ -25,7 +26,7 @@ module _ (k : Encoding) (t : List ℕ) (d : Ends) (e : d ≡ endsOf k t) where
   unfolding bytesOf
   bytes-is = rw e
 
-  pub errors-is : (n : ℕ) → n ≡ markError k
+  pub errors-is : (n : DecodeError) → n ≡ markError k
       → errorsOf k t ≡ missing (d .opened) n 0 ++ (missing (d .closed) n (length t) ++ collect (pieceOf k) notesAt 0 false (d .start) (bodyOf d t))
   unfolding errorsOf
   errors-is n h = rw (e, h)
@@ -34,7 +35,7 @@ module _ (k : Encoding) (t : List ℕ) (d : Ends) (e : d ≡ endsOf k t) where
   abbrev pub bodyErrors : List (List ℕ)
   bodyErrors = collect (pieceOf k) notesAt 0 false (d .start) (bodyOf d t)
 
-  pub errors-sum : (n : ℕ) → n ≡ markError k
+  pub errors-sum : (n : DecodeError) → n ≡ markError k
       → length (errorsOf k t) ≡ length (missing (d .opened) n 0) + (length (missing (d .closed) n (length t)) + length bodyErrors)
   errors-sum n h = simp length-append at (ap length (errors-is n h))
 

@@ -22,13 +22,14 @@ use Rattle.strings.specs.declared.Encoding.the-variants.{LiteralString, 
 use Rattle.strings.specs.declared.Choice.{Choice}
 use Rattle.strings.specs.declared.Choice.the-variants.{Known, Unknown}
 use Rattle.strings.specs.declared.Piece.{Piece}
+use Rattle.strings.specs.declared.Verdict.the-variants.{Clean}
 use Rattle.strings.specs.Encodings.{mlbPlain, basicInvalid, choiceIn, choiceBy, markError}
 use Rattle.strings.specs.Pieces.{gives, notes, notesAt, Pieces, collect, charPiece, copyPiece}
 use Rattle.strings.specs.Escapes.{newEscape, simpleEscape, newHexLength, hexLength, hexValue, hexFrom, hexPiece, escapePiece}
 use Rattle.strings.specs.Bodies.{basicPiece, skips, escapedNl, escapedMore, mlbContent, mlBasicPiece, pieceOf}
 use Rattle.strings.specs.Marks.{lineEnds, endsOf, bodyOf}
 use Rattle.strings.specs.Decoding.{bytesOf, missing, errorsOf, bytesBy, errorsBy}
-use Rattle.strings.proofs.Bounds.{notes-clean}
+use Rattle.strings.proofs.PieceLaws.{wrong≢clean, notes-clean}
 
 -- ---- letters: those of 1.0 mean the same in 1.1
 
@@ -79,7 +80,7 @@ module _ (b : ℕ) where
 
 -- the piece r is p, unless p has an error
 abbrev Stays : Piece → Piece → Type 0
-Stays r p = p .err ≡ 0 → r ≡ p
+Stays r p = p .verdict ≡ Clean → r ≡ p
 
 escape-same : (at : ℕ) (s : List ℕ) → Stays (escapePiece Toml11 at s) (escapePiece Toml10 at s)
 unfolding escapePiece
@@ -89,7 +90,7 @@ escape-same at s =
     (λ h e. rw (hex-same b h, lt-ltb _ _ h))
     λ h. by-lt (Stays (escapePiece Toml11 at s)) 0 (simpleEscape Toml10 b)
     (λ l e. rw (hex-none b l, simple-same b l, lt-ltb _ _ l))
-    (λ l e. absurd (omega (arith, e)))
+    (λ l e. absurd (wrong≢clean e))
 
 stays-self : (p : Piece) → Stays p p
 stays-self p e = refl

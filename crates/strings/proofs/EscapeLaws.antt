@@ -20,9 +20,10 @@ use Rattle.text.proofs.EncodeLaws.{encode-1, encode-length, true-scalar}
 use Rattle.strings.specs.declared.Edition.{Edition}
 use Rattle.strings.specs.declared.Edition.the-variants.{Toml10, Toml11}
 use Rattle.strings.specs.declared.Piece.{Piece}
-use Rattle.strings.specs.Pieces.{charPiece}
+use Rattle.strings.specs.declared.DecodeError.the-variants.{MissingEscape, FewDigits, NotScalar}
+use Rattle.strings.specs.Pieces.{charPiece, badChar}
 use Rattle.strings.specs.Escapes.{newEscape, simpleEscape, newHexLength, hexLength, hexValue, hexFrom, hexPiece, escapePiece}
-use Rattle.strings.proofs.Fine.{FineAt, fine-char}
+use Rattle.strings.proofs.Fine.{FineAt, fine-char, fine-bad-char}
 
 -- ---- letters
 
@@ -74,19 +75,19 @@ hex-more s i h = rw (add-one, take-suc s i 0 h) (hex-snoc 0 (take i s) (getD s i
 -- ---- pieces, case by case
 
 module _ (n at : ℕ) (s : List ℕ) where
-  pub hex-few : (k : ℕ) → k ≡ run hexdig s → k < n → charPiece (2 + k) 0xFFFD 9 (at + (2 + k)) ≡ hexPiece n at s
+  pub hex-few : (k : ℕ) → k ≡ run hexdig s → k < n → badChar (2 + k) 0xFFFD FewDigits (at + (2 + k)) ≡ hexPiece n at s
   unfolding hexPiece
   hex-few k e h =
       let l : run hexdig s < n = omega arith in
       rw (lt-ltb _ _ l, e)
 
   pub hex-char : (v : ℕ) → n ≤ run hexdig s → v ≡ hexFrom 0 (take n s) → isScalar v ≡ true
-      → charPiece (2 + n) v 0 0 ≡ hexPiece n at s
+      → charPiece (2 + n) v ≡ hexPiece n at s
   unfolding hexPiece
   hex-char v h e t = rw (le-ltb _ _ h, ← e, t)
 
   pub hex-none : (v : ℕ) → n ≤ run hexdig s → v ≡ hexFrom 0 (take n s) → isScalar v ≡ false
-      → charPiece (2 + n) 0xFFFD 10 (at + 2) ≡ hexPiece n at s
+      → badChar (2 + n) 0xFFFD NotScalar (at + 2) ≡ hexPiece n at s
   unfolding hexPiece
   hex-none v h e t = rw (le-ltb _ _ h, ← e, t)
 
@@ -96,12 +97,12 @@ module _ (v : Edition) (at : ℕ) (s : List ℕ) where
   escape-hex n e h = rw (← e, lt-ltb _ _ h)
 
   pub escape-simple : (n c : ℕ) → n ≡ hexLength v (getD s 0 0) → n ≤ 0 → c ≡ simpleEscape v (getD s 0 0) → 0 < c
-      → charPiece 2 c 0 0 ≡ escapePiece v at s
+      → charPiece 2 c ≡ escapePiece v at s
   unfolding escapePiece
   escape-simple n c e h f l = rw (← e, le-ltb _ _ h, ← f, lt-ltb _ _ l)
 
   pub escape-none : (n c : ℕ) → n ≡ hexLength v (getD s 0 0) → n ≤ 0 → c ≡ simpleEscape v (getD s 0 0) → c ≤ 0
-      → charPiece 1 0x5C 8 (at + 1) ≡ escapePiece v at s
+      → badChar 1 0x5C MissingEscape (at + 1) ≡ escapePiece v at s
   unfolding escapePiece
   escape-none n c e h f l = rw (← e, le-ltb _ _ h, ← f, le-ltb _ _ l)
 
@@ -118,12 +119,12 @@ module _ (n at : ℕ) (s t : List ℕ) (two : 2 ≤ n) (long : 2 + length t ≤ 
   hex-fine =
       let r = run-le hexdig t in
       by-lt (λ (p : Piece). FineAt p s) (run hexdig t) n
-      (λ h. fine-char _ 0xFFFD 9 _ s (omega arith) (omega arith) (inr (omega arith)) (omega (arith, replacement)) (λ z. omega arith))
+      (λ h. fine-bad-char _ 0xFFFD FewDigits _ s (omega arith) (omega arith) (inr (omega arith)) (omega (arith, replacement)))
       λ h. cond-case (λ (p : Piece). FineAt p s) (isScalar (hexFrom 0 (take n t)))
       (λ v.
       let size = encode-length (hexFrom 0 (take n t)) in
-      fine-char _ _ 0 0 s (omega arith) (omega arith) (true-scalar _ v) (omega arith) (λ z. omega arith))
-      (λ v. fine-char _ 0xFFFD 10 _ s (omega arith) (omega arith) (inr (omega arith)) (omega (arith, replacement)) (λ z. omega arith))
+      fine-char _ _ s (omega arith) (omega arith) (true-scalar _ v) (omega arith))
+      (λ v. fine-bad-char _ 0xFFFD NotScalar _ s (omega arith) (omega arith) (inr (omega arith)) (omega (arith, replacement)))
 
 -- an escape, where t stands behind the backslash at the front of s
 module _ (v : Edition) (at : ℕ) (s t : List ℕ) (long : length s ≡ suc (length t)) where
@@ -141,7 +142,7 @@ module _ (v : Edition) (at : ℕ) (s t : List ℕ) (long : length s ≡ suc (len
       let l = simple-ascii v b h in
       let k = there t 0 (omega arith) in
       let one : length (encodeScalar (simpleEscape v b)) ≡ 1 = ap length (encode-1 _ (l .2)) in
-      fine-char 2 _ 0 0 s (omega arith) (omega arith) (inl (omega arith)) (omega arith) (λ z. omega arith))
+      fine-char 2 _ s (omega arith) (omega arith) (inl (omega arith)) (omega arith))
       (λ h.
       let one : length (encodeScalar 0x5C) ≡ 1 = ap length (encode-1 0x5C (omega arith)) in
-      fine-char 1 0x5C 8 _ s (omega arith) (omega arith) (inl (omega arith)) (omega arith) (λ z. omega arith))
+      fine-bad-char 1 0x5C MissingEscape _ s (omega arith) (omega arith) (inl (omega arith)) (omega arith))

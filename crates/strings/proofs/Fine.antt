@@ -2,7 +2,7 @@
 -- Assumes nothing.
 use Prim.Native.Nat.{ℕ, zero, _+_, _-_, _*_, _≤_, _<_}
 use mathlib.Core.Path.{_≡_, ap}
-use mathlib.Core.Bool.{Bool}
+use mathlib.Core.Bool.{Bool, true, false}
 use mathlib.Core.List.{List, _++_}
 use native.Mathlib.Nat.{add-assoc}
 use native.Mathlib.Omega.{arith}
@@ -12,8 +12,11 @@ use Rattle.text.specs.Utf8.{Scalar, encodeScalar}
 use Rattle.strings.specs.declared.Piece.{Piece}
 use Rattle.strings.specs.declared.Given.{Given}
 use Rattle.strings.specs.declared.Given.the-variants.{Copy, Char, Nothing}
-use Rattle.strings.specs.Pieces.{gives, Pieces, collect, copyPiece, charPiece, dropPiece}
-use Rattle.strings.proofs.PieceLaws.{collect-step}
+use Rattle.strings.specs.declared.DecodeError.{DecodeError}
+use Rattle.strings.specs.declared.Verdict.{Verdict}
+use Rattle.strings.specs.declared.Verdict.the-variants.{Clean}
+use Rattle.strings.specs.Pieces.{gives, Pieces, collect, charPiece, badChar}
+use Rattle.strings.proofs.PieceLaws.{wrong≢clean, collect-step}
 
 -- a character that is given is a scalar value
 abbrev pub Encodable : Given → Type 0
@@ -27,7 +30,7 @@ pub record FineAt (p : Piece) (s : List ℕ) : Type 0 where
   pub some : 0 < p .take
   pub fits : p .take ≤ length s
   pub small : 2 * length (gives p s) ≤ 3 * p .take
-  pub quiet : p .err ≡ 0 → length (gives p s) ≤ p .take
+  pub quiet : p .verdict ≡ Clean → length (gives p s) ≤ p .take
   pub char : Encodable (p .given)
 
 abbrev pub Fine : Pieces → Type 0
@@ -35,19 +38,27 @@ Fine P = (d : Bool) (at : ℕ) (s : List ℕ) → 0 < length s → FineAt (P d a
 
 -- ---- the three ways to make a piece
 
-pub fine-copy : (n e a z : ℕ) (s : List ℕ) → 0 < n → n ≤ length s → FineAt (copyPiece n e a z) s
+-- with an error or without one
+pub fine-copy : (n : ℕ) (w : Verdict) (s : List ℕ) → 0 < n → n ≤ length s
+    → FineAt (record { take = n; given = Copy; verdict = w; dropping = false }) s
 unfolding gives
-fine-copy n e a z s l h =
+fine-copy n w s l h =
     record { some = l; fits = h; small = rw length-take (omega arith); quiet = λ e. rw length-take (omega arith); char = tt }
 
-pub fine-drop : (n e p : ℕ) (s : List ℕ) → 0 < n → n ≤ length s → FineAt (dropPiece n e p) s
+pub fine-drop : (n : ℕ) (w : Verdict) (s : List ℕ) → 0 < n → n ≤ length s
+    → FineAt (record { take = n; given = Nothing; verdict = w; dropping = true }) s
 unfolding gives
-fine-drop n e p s l h = record { some = l; fits = h; small = omega arith; quiet = λ e. omega arith; char = tt }
+fine-drop n w s l h = record { some = l; fits = h; small = omega arith; quiet = λ e. omega arith; char = tt }
 
-pub fine-char : (n c e p : ℕ) (s : List ℕ) → 0 < n → n ≤ length s → Scalar c → 2 * length (encodeScalar c) ≤ 3 * n
-    → (e ≡ 0 → length (encodeScalar c) ≤ n) → FineAt (charPiece n c e p) s
+pub fine-char : (n c : ℕ) (s : List ℕ) → 0 < n → n ≤ length s → Scalar c → length (encodeScalar c) ≤ n
+    → FineAt (charPiece n c) s
 unfolding gives
-fine-char n c e p s l h v m q = record { some = l; fits = h; small = m; quiet = q; char = v }
+fine-char n c s l h v m = record { some = l; fits = h; small = omega arith; quiet = λ e. m; char = v }
+
+pub fine-bad-char : (n c : ℕ) (e : DecodeError) (p : ℕ) (s : List ℕ) → 0 < n → n ≤ length s → Scalar c
+    → 2 * length (encodeScalar c) ≤ 3 * n → FineAt (badChar n c e p) s
+unfolding gives
+fine-bad-char n c e p s l h v m = record { some = l; fits = h; small = m; quiet = λ q. absurd (wrong≢clean q); char = v }
 
 -- ---- what a turn of a loop reads
 

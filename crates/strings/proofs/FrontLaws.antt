@@ -25,12 +25,12 @@ module _ (e : Encoding) (s : List ℕ) (base k : ℕ) (is : k ≡ run (plain e) 
   within = omega (arith, run-le (plain e) s)
 
   -- where there is one, it is the first piece
-  first : 0 < k → pieceOf e false base s ≡ copyPiece k 0 base base
+  first : 0 < k → pieceOf e false base s ≡ copyPiece k
   first h =
       let plain-first = run-first (plain e) s (omega (arith, within)) k is h in
-      plain-piece e base s plain-first ∙ ap (λ (n : ℕ). copyPiece n 0 base base) (sym is)
+      plain-piece e base s plain-first ∙ ap copyPiece (sym is)
 
-  given : gives (copyPiece k 0 base base) s ≡ take k s
+  given : gives (copyPiece k) s ≡ take k s
   unfolding gives
   given = refl
 
@@ -52,7 +52,7 @@ module _ (e : Encoding) (s : List ℕ) (base k : ℕ) (is : k ≡ run (plain e) 
           let p = first h in
           let some : 0 < pieceOf e false base s .take = rw p h in
           collect-step (pieceOf e) notesAt false base s (omega (arith, within)) some
-          ∙ rw (p, notes-none (copyPiece k 0 base base) refl)
+          ∙ rw (p, notes-none (copyPiece k) refl)
       go (no h) = let none : k ≡ 0 = omega arith in rw (none, add-zero)
 
 -- the rest of a part, as a part

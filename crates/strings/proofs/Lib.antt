@@ -15,3 +15,4 @@ pub mod KeyLaws
 pub mod Utf8Laws
 pub mod EditionLaws
 pub mod AnswerLaws
+pub mod OneAnswer

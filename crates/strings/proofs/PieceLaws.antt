@@ -3,17 +3,21 @@
 use Prim.Native.Nat.{ℕ, zero, suc, pred, _+_, _≤_, _<_}
 use mathlib.Core.Path.{_≡_, refl, ap}
 use mathlib.Core.Bool.{Bool}
-use mathlib.Core.List.{List, [], _∷_, _++_}
+use mathlib.Core.List.{List, [], _∷_, _++_, cons≢nil}
 use native.Mathlib.Nat.{add-zero, add-suc, suc-add}
 use native.Mathlib.Omega.{arith}
-use lib.Dec.{eqb}
 use lib.ListN.{length, take, drop}
-use borrow.Author.Tests.{eq-eqb, ne-eqb}
 use Rattle.text.specs.Utf8.{encodeScalar}
-use Rattle.classes.proofs.Conds.{cond-case}
 use Rattle.strings.specs.declared.Piece.{Piece}
 use Rattle.strings.specs.declared.Given.the-variants.{Copy, Char, Nothing}
-use Rattle.strings.specs.Pieces.{gives, errorAt, notes, Pieces, collect}
+use Rattle.strings.specs.declared.DecodeError.{DecodeError}
+use Rattle.strings.specs.declared.Verdict.{Verdict}
+use Rattle.strings.specs.declared.Verdict.the-variants.{Clean, Wrong}
+use Rattle.strings.specs.Pieces.{gives, errorAt, notesOf, notes, Pieces, collect}
+
+-- an error is not nothing
+pub wrong≢clean : {e : DecodeError} {a z : ℕ} → Wrong e a z ≡ Clean → ⊥
+wrong≢clean h = cons≢nil (ap notesOf h)
 
 module _ (p : Piece) where
   pub gives-copy : (s : List ℕ) → p .given ≡ Copy → gives p s ≡ take (p .take) s
@@ -28,17 +32,30 @@ module _ (p : Piece) where
   unfolding gives
   gives-nothing s e = rw e
 
-  pub notes-none : p .err ≡ 0 → notes p ≡ []
+  pub notes-none : p .verdict ≡ Clean → notes p ≡ []
   unfolding notes
-  notes-none e = simp (eq-eqb (p .err) 0 e)
+  notes-none h = rw h
 
-  pub notes-one : (p .err ≡ 0 → ⊥) → notes p ≡ errorAt (p .err) (p .start) (p .end)
+  pub notes-one : (e : DecodeError) (a z : ℕ) → p .verdict ≡ Wrong e a z → notes p ≡ errorAt e a z
   unfolding notes
-  notes-one e = simp (ne-eqb (p .err) 0 e)
+  notes-one e a z h = rw h
 
   pub notes-few : length (notes p) ≤ 1
   unfolding notes
-  notes-few = cond-case (λ (l : List (List ℕ)). length l ≤ 1) (eqb (p .err) 0) (λ e. omega arith) (λ e. omega arith)
+  notes-few = go (p .verdict)
+    where
+      go : (w : Verdict) → length (notesOf w) ≤ 1
+      go Clean = omega arith
+      go (Wrong e a z) = omega arith
+
+  -- a piece that notes nothing has no error
+  pub notes-clean : length (notes p) ≡ 0 → p .verdict ≡ Clean
+  unfolding notes
+  notes-clean = go (p .verdict)
+    where
+      go : (w : Verdict) → length (notesOf w) ≡ 0 → w ≡ Clean
+      go Clean h = refl
+      go (Wrong e a z) h = absurd (omega arith)
 
 module _ {A : Type 0} (P : Pieces) (g : Piece → List ℕ → List A) where
   -- to skip k bytes is to drop them

@@ -48,7 +48,7 @@ run-all p [] f = refl
 run-all p (b ∷ s) f = rw (f 0 (omega arith)) (ap suc (run-all p s (λ k h. f (suc k) (omega arith))))
 
 -- a plain byte begins a piece that takes the whole run as it stands
-pub plain-piece : (e : Encoding) (at : ℕ) (s : List ℕ) → plain e (getD s 0 0) ≡ true → pieceOf e false at s ≡ copyPiece (run (plain e) s) 0 at at
+pub plain-piece : (e : Encoding) (at : ℕ) (s : List ℕ) → plain e (getD s 0 0) ≡ true → pieceOf e false at s ≡ copyPiece (run (plain e) s)
 unfolding literalPiece mlLiteralPiece basicPiece mlBasicPiece mlbContent keyPiece
 plain-piece LiteralString at s h = rw h
 plain-piece MlLiteralString at s h = rw h
@@ -57,14 +57,14 @@ plain-piece (MlBasicString v) at s h = rw h
 plain-piece UnquotedKey at s h = rw h
 
 module _ (e : Encoding) (at : ℕ) (s : List ℕ) (all : run (plain e) s ≡ length s) where
-  one-piece : 0 < length s → pieceOf e false at s ≡ copyPiece (length s) 0 at at
+  one-piece : 0 < length s → pieceOf e false at s ≡ copyPiece (length s)
   one-piece h =
-      plain-piece e at s (run-first (plain e) s h (length s) (sym all) h) ∙ ap (λ (n : ℕ). copyPiece n 0 at at) all
+      plain-piece e at s (run-first (plain e) s h (length s) (sym all) h) ∙ ap copyPiece all
 
 -- and a piece that takes all gives all
-all-given : (at : ℕ) (s : List ℕ) → gives (copyPiece (length s) 0 at at) s ≡ s
+all-given : (s : List ℕ) → gives (copyPiece (length s)) s ≡ s
 unfolding gives
-all-given at s = take-all (length s) s (omega arith)
+all-given s = take-all (length s) s (omega arith)
 
 module _ (e : Encoding) (at : ℕ) where
   pub plain-bytes : (s : List ℕ) → run (plain e) s ≡ length s → collect (pieceOf e) gives 0 false at s ≡ s
@@ -75,7 +75,7 @@ module _ (e : Encoding) (at : ℕ) where
       let none : drop (length s) s ≡ [] = drop-of-length-le s {i = length s} (omega arith) in
       let some : 0 < pieceOf e false at s .take = rw p (omega arith) in
       collect-step (pieceOf e) gives false at s (omega arith) some
-      ∙ rw (p, all-given at s, none) (append-nil s)
+      ∙ rw (p, all-given s, none) (append-nil s)
 
   pub plain-errors : (s : List ℕ) → run (plain e) s ≡ length s → collect (pieceOf e) notesAt 0 false at s ≡ []
   plain-errors [] all = refl
@@ -85,7 +85,7 @@ module _ (e : Encoding) (at : ℕ) where
       let none : drop (length s) s ≡ [] = drop-of-length-le s {i = length s} (omega arith) in
       let some : 0 < pieceOf e false at s .take = rw p (omega arith) in
       collect-step (pieceOf e) notesAt false at s (omega arith) some
-      ∙ rw (p, notes-none (copyPiece (length s) 0 at at) refl, none)
+      ∙ rw (p, notes-none (copyPiece (length s)) refl, none)
 
 -- the same of a text whose marks are there
 module _ (e : Encoding) (t : List ℕ) (a z : ℕ) (ends : record { opened = true; closed = true; start = a; end = z } ≡ endsOf e t) where

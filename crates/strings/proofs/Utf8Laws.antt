@@ -21,12 +21,13 @@ use Rattle.text.proofs.EncodeLaws.{true-scalar}
 use Rattle.text.proofs.CutLaws.{scalar-utf8, utf8-append, cut-at}
 use Rattle.strings.specs.declared.Piece.{Piece}
 use Rattle.strings.specs.declared.Ends.{Ends}
-use Rattle.strings.specs.declared.Given.the-variants.{Copy}
+use Rattle.strings.specs.declared.Given.the-variants.{Copy, Char, Nothing}
+use Rattle.strings.specs.declared.Verdict.{Verdict}
 use Rattle.strings.specs.declared.Edition.{Edition}
 use Rattle.strings.specs.declared.Encoding.{Encoding}
 use Rattle.strings.specs.declared.Encoding.the-variants.{LiteralString, BasicString, MlLiteralString, MlBasicString, UnquotedKey}
 use Rattle.strings.specs.Encodings.{mllPlain, mlbPlain, basicInvalid, mlbInvalid}
-use Rattle.strings.specs.Pieces.{gives, Pieces, collect, copyPiece, charPiece, dropPiece}
+use Rattle.strings.specs.Pieces.{gives, Pieces, collect}
 use Rattle.strings.specs.Escapes.{simpleEscape, hexLength, hexFrom, hexPiece, escapePiece}
 use Rattle.strings.specs.Bodies.{literalPiece, mlLiteralPiece, basicPiece, skips, escapedLine, escapedNl, escapedMore, mlbContent, mlBasicPiece, keyPiece, pieceOf}
 use Rattle.strings.specs.Marks.{lineOpened, lineClosed, lineEnds, threes, newlineLen, mlStart, mlClosed, trimmed, mlEnd, mlEnds, keyEnds, endsOf, bodyOf}
@@ -65,7 +66,8 @@ literal-copies at s = cond-case Copies (literalChar (getD s 0 0)) (λ e. refl) (
 ml-literal-copies : (at : ℕ) (s : List ℕ) → mlLiteralPiece at s .given ≡ Copy
 unfolding mlLiteralPiece
 ml-literal-copies at s =
-    cond-case Copies (mllPlain (getD s 0 0)) (λ e. refl) (λ e. cond-case Copies (eqb (getD s 0 0) 0x0D) (λ e. refl) (λ e. refl))
+    cond-case Copies (mllPlain (getD s 0 0)) (λ e. refl)
+    (λ e. cond-case Copies (eqb (getD s 0 0) 0x0D) (λ e. cond-case Copies (eqb (getD s 1 0) 0x0A) (λ e. refl) (λ e. refl)) (λ e. refl))
 
 key-copies : (at : ℕ) (s : List ℕ) → keyPiece at s .given ≡ Copy
 unfolding keyPiece
@@ -78,17 +80,18 @@ abbrev pub Whole : List ℕ → Piece → Type 0
 Whole s p = Utf8 (take (p .take) s) × Utf8 (gives p s)
 
 module _ (s : List ℕ) where
-  whole-copy : (n e a z : ℕ) → Utf8 (take n s) → Whole s (copyPiece n e a z)
+  whole-copy : (n : ℕ) (w : Verdict) → Utf8 (take n s) → Whole s (record { take = n; given = Copy; verdict = w; dropping = false })
   unfolding gives
-  whole-copy n e a z u = (u, u)
+  whole-copy n w u = (u, u)
 
-  whole-char : (n c e p : ℕ) → Scalar c → Utf8 (take n s) → Whole s (charPiece n c e p)
+  whole-char : (n c : ℕ) (w : Verdict) → Scalar c → Utf8 (take n s)
+      → Whole s (record { take = n; given = Char c; verdict = w; dropping = false })
   unfolding gives
-  whole-char n c e p h u = (u, scalar-utf8 c h)
+  whole-char n c w h u = (u, scalar-utf8 c h)
 
-  whole-drop : (n e p : ℕ) → Utf8 (take n s) → Whole s (dropPiece n e p)
+  whole-drop : (n : ℕ) (w : Verdict) → Utf8 (take n s) → Whole s (record { take = n; given = Nothing; verdict = w; dropping = true })
   unfolding gives
-  whole-drop n e p u = (u, nil-utf8)
+  whole-drop n w u = (u, nil-utf8)
 
 module _ (at : ℕ) (s : List ℕ) (slash : getD s 0 0 ≡ 0x5C) where
   one : Utf8 (take 1 s)
@@ -108,10 +111,10 @@ module _ (at : ℕ) (s : List ℕ) (slash : getD s 0 0 ≡ 0x5C) where
   unfolding hexPiece
   hex-whole n l h =
       let t = drop 1 (drop 1 s) in
-      by-lt (Whole s) (run hexdig t) n (λ e. whole-char s _ 0xFFFD 9 _ (inr (omega arith)) (digits (run hexdig t) l h (omega arith)))
+      by-lt (Whole s) (run hexdig t) n (λ e. whole-char s _ 0xFFFD _ (inr (omega arith)) (digits (run hexdig t) l h (omega arith)))
       λ e. cond-case (Whole s) (isScalar (hexFrom 0 (take n t)))
-      (λ v. whole-char s _ _ 0 0 (true-scalar _ v) (digits n l h e))
-      (λ v. whole-char s _ 0xFFFD 10 _ (inr (omega arith)) (digits n l h e))
+      (λ v. whole-char s _ _ _ (true-scalar _ v) (digits n l h e))
+      (λ v. whole-char s _ 0xFFFD _ (inr (omega arith)) (digits n l h e))
 
   escape-whole : (v : Edition) → Whole s (escapePiece v at (drop 1 s))
   unfolding escapePiece
@@ -119,8 +122,8 @@ module _ (at : ℕ) (s : List ℕ) (slash : getD s 0 0 ≡ 0x5C) where
       let b = getD (drop 1 s) 0 0 in
       by-lt (Whole s) 0 (hexLength v b) (λ h. let l = hex-letter v b h in hex-whole (hexLength v b) (l .1) (omega arith))
       λ h. by-lt (Whole s) 0 (simpleEscape v b)
-      (λ h. let l = simple-ascii v b h in whole-char s 2 _ 0 0 (inl (omega arith)) (two (l .1) (omega arith)))
-      (λ h. whole-char s 1 0x5C 8 _ (inl (omega arith)) one)
+      (λ h. let l = simple-ascii v b h in whole-char s 2 _ _ (inl (omega arith)) (two (l .1) (omega arith)))
+      (λ h. whole-char s 1 0x5C _ (inl (omega arith)) one)
 
   -- the backslash, w blanks, and one or two bytes that are there
   blanks : (w : ℕ) → w ≤ run wschar (drop 1 s) → Utf8 (take (1 + w) s)
@@ -140,7 +143,7 @@ module _ (at : ℕ) (s : List ℕ) (slash : getD s 0 0 ≡ 0x5C) where
       let u = blanks w h in
       let b = getD (drop 1 s) w 0 in
       let next : 0 < b → b < 0x80 → Utf8 (take (2 + w) s) = λ some low. same-front (1 + w + 1) (2 + w) (omega arith) (behind w some low u) in
-      by-eq (Whole s) b 0x0A (λ e. whole-drop s (2 + w) 0 0 (next (omega arith) (omega arith)))
+      by-eq (Whole s) b 0x0A (λ e. whole-drop s (2 + w) _ (next (omega arith) (omega arith)))
       λ e. by-eq (Whole s) b 0x0D
       (λ f.
       let v = next (omega arith) (omega arith) in
@@ -148,9 +151,9 @@ module _ (at : ℕ) (s : List ℕ) (slash : getD s 0 0 ≡ 0x5C) where
       by-eq (Whole s) (getD (drop 1 s) (w + 1) 0) 0x0A
       (λ g.
       let y = behind (w + 1) (omega arith) (omega arith) x in
-      whole-drop s (3 + w) 0 0 (same-front (1 + (w + 1) + 1) (3 + w) (omega arith) y))
-      (λ g. whole-drop s (2 + w) 4 _ v))
-      (λ f. whole-drop s (1 + w) 13 _ u)
+      whole-drop s (3 + w) _ (same-front (1 + (w + 1) + 1) (3 + w) (omega arith) y))
+      (λ g. whole-drop s (2 + w) _ v))
+      (λ f. whole-drop s (1 + w) _ u)
 
   nl-whole : Whole s (escapedNl at (drop 1 s))
   unfolding escapedNl
@@ -166,29 +169,29 @@ module _ (at : ℕ) (s : List ℕ) (h : 0 < length s) where
   basic-whole : (v : Edition) → Utf8 s → Whole s (basicPiece v at s)
   unfolding basicPiece
   basic-whole v u =
-      cond-case (Whole s) (basicUnescaped (getD s 0 0)) (λ e. whole-copy s _ 0 at at (front-high basicUnescaped basic-high s u))
+      cond-case (Whole s) (basicUnescaped (getD s 0 0)) (λ e. whole-copy s _ _ (front-high basicUnescaped basic-high s u))
       λ e. by-eq (Whole s) (getD s 0 0) 0x5C (λ f. escape-whole at s f v)
-      (λ f. whole-copy s _ 7 at _ (front-low basicInvalid basic-invalid-low (run basicInvalid s) s (omega arith)))
+      (λ f. whole-copy s _ _ (front-low basicInvalid basic-invalid-low (run basicInvalid s) s (omega arith)))
 
   more-whole : skips (getD s 0 0) ≡ true → Whole s (escapedMore at s)
   unfolding escapedMore
   more-whole k =
       let low = front-one s h (skips-low (getD s 0 0) k) in
       by-eq (Whole s) (getD s 0 0) 0x0D
-      (λ e. by-eq (Whole s) (getD s 1 0) 0x0A (λ f. whole-drop s 2 0 0 (crlf e f)) (λ f. whole-drop s 1 4 _ low))
-      (λ e. whole-drop s 1 0 0 low)
+      (λ e. by-eq (Whole s) (getD s 1 0) 0x0A (λ f. whole-drop s 2 _ (crlf e f)) (λ f. whole-drop s 1 _ low))
+      (λ e. whole-drop s 1 _ low)
 
   content-whole : (v : Edition) → Utf8 s → Whole s (mlbContent v at s)
   unfolding mlbContent
   content-whole v u =
-      cond-case (Whole s) (mlbPlain (getD s 0 0)) (λ e. whole-copy s _ 0 at at (front-high mlbPlain mlb-high s u))
+      cond-case (Whole s) (mlbPlain (getD s 0 0)) (λ e. whole-copy s _ _ (front-high mlbPlain mlb-high s u))
       λ e. by-eq (Whole s) (getD s 0 0) 0x5C
       (λ f. cond-case (Whole s) (skips (getD s 1 0)) (λ g. nl-whole at s f) (λ g. escape-whole at s f v))
       λ f. by-eq (Whole s) (getD s 0 0) 0x0D
       (λ g. by-eq (Whole s) (getD s 1 0) 0x0A
-      (λ i. whole-copy s 2 0 at at (crlf g i))
-      (λ i. whole-copy s 1 4 (at + 1) (at + 1) (front-one s h (omega arith))))
-      (λ g. whole-copy s _ 12 at _ (front-low mlbInvalid mlb-invalid-low (run mlbInvalid s) s (omega arith)))
+      (λ i. whole-copy s 2 _ (crlf g i))
+      (λ i. whole-copy s 1 _ (front-one s h (omega arith))))
+      (λ g. whole-copy s _ _ (front-low mlbInvalid mlb-invalid-low (run mlbInvalid s) s (omega arith)))
 
   ml-basic-whole : (v : Edition) (d : Bool) → Utf8 s → Whole s (mlBasicPiece v d at s)
   unfolding mlBasicPiece

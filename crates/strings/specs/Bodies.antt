@@ -14,32 +14,29 @@ use Rattle.strings.specs.declared.Piece.{Piece}
 use Rattle.strings.specs.declared.Encoding.{Encoding}
 use Rattle.strings.specs.declared.Encoding.the-variants.{LiteralString, BasicString, MlLiteralString, MlBasicString, UnquotedKey}
 use Rattle.strings.specs.Encodings.{mllPlain, mlbPlain, basicInvalid, mlbInvalid}
-use Rattle.strings.specs.Pieces.{Pieces, copyPiece, dropPiece}
+use Rattle.strings.specs.declared.DecodeError.the-variants.{LiteralInvalid, LoneCr, MlLiteralInvalid, BasicInvalid, MlBasicInvalid, MissingNewline, KeyInvalid}
+use Rattle.strings.specs.Pieces.{Pieces, copyPiece, badCopy, dropPiece, badDrop}
 use Rattle.strings.specs.Escapes.{escapePiece}
 
 -- a byte that is not allowed in a literal string: error 2 at it
 unfoldable pub literalPiece : ℕ → List ℕ → Piece
 literalPiece at s =
-    cond (literalChar (getD s 0 0)) (copyPiece (run literalChar s) 0 at at)
-    (copyPiece 1 2 at at)
+    cond (literalChar (getD s 0 0)) (copyPiece (run literalChar s))
+    (badCopy 1 LiteralInvalid at at)
 
--- a CR: error 4 behind it, unless the byte there is an LF
-abbrev pub crError : ℕ → ℕ
-crError next = cond (eqb next 0x0A) 0 4
-
--- a byte that is not allowed in an ml-literal string: error 5 at it
+-- a CR: error 4 behind it, unless the byte there is an LF. A byte that is not allowed in an ml-literal string: error 5 at it
 unfoldable pub mlLiteralPiece : ℕ → List ℕ → Piece
 mlLiteralPiece at s =
-    cond (mllPlain (getD s 0 0)) (copyPiece (run mllPlain s) 0 at at)
-    (cond (eqb (getD s 0 0) 0x0D) (copyPiece 1 (crError (getD s 1 0)) (at + 1) (at + 1))
-    (copyPiece 1 5 at at))
+    cond (mllPlain (getD s 0 0)) (copyPiece (run mllPlain s))
+    (cond (eqb (getD s 0 0) 0x0D) (cond (eqb (getD s 1 0) 0x0A) (copyPiece 1) (badCopy 1 LoneCr (at + 1) (at + 1)))
+    (badCopy 1 MlLiteralInvalid at at))
 
 -- bytes that are not allowed in a basic string: error 7 at their whole run
 unfoldable pub basicPiece : Edition → ℕ → List ℕ → Piece
 basicPiece v at s =
-    cond (basicUnescaped (getD s 0 0)) (copyPiece (run basicUnescaped s) 0 at at)
+    cond (basicUnescaped (getD s 0 0)) (copyPiece (run basicUnescaped s))
     (cond (eqb (getD s 0 0) 0x5C) (escapePiece v at (drop 1 s))
-    (copyPiece (run basicInvalid s) 7 at (at + run basicInvalid s)))
+    (badCopy (run basicInvalid s) BasicInvalid at (at + run basicInvalid s)))
 
 -- what a line-ending escape drops: blanks, LF and CR
 unfoldable pub skips : ℕ → Bool
@@ -48,9 +45,9 @@ skips b = wschar b || (eqb b 0x0A || eqb b 0x0D)
 -- a line-ending escape's own line, whose backslash is at place `at`: w blanks, and then the bytes b and next
 abbrev pub escapedLine : ℕ → ℕ → ℕ → ℕ → Piece
 escapedLine at w b next =
-    cond (eqb b 0x0A) (dropPiece (2 + w) 0 0)
-    (cond (eqb b 0x0D) (cond (eqb next 0x0A) (dropPiece (3 + w) 0 0) (dropPiece (2 + w) 4 (at + (2 + w))))
-    (dropPiece (1 + w) 13 (at + (1 + w))))
+    cond (eqb b 0x0A) (dropPiece (2 + w))
+    (cond (eqb b 0x0D) (cond (eqb next 0x0A) (dropPiece (3 + w)) (badDrop (2 + w) LoneCr (at + (2 + w))))
+    (badDrop (1 + w) MissingNewline (at + (1 + w))))
 
 -- mlb-escaped-nl = escape ws newline *( wschar / newline )
 -- the backslash, the blanks behind it and the newline; s stands behind the backslash. No newline: error 13 behind the blanks
@@ -60,16 +57,16 @@ escapedNl at s = escapedLine at (run wschar s) (getD s (run wschar s) 0) (getD s
 -- what it drops in the lines that follow, a piece for each blank and each newline
 unfoldable pub escapedMore : ℕ → List ℕ → Piece
 escapedMore at s =
-    cond (eqb (getD s 0 0) 0x0D) (cond (eqb (getD s 1 0) 0x0A) (dropPiece 2 0 0) (dropPiece 1 4 (at + 1)))
-    (dropPiece 1 0 0)
+    cond (eqb (getD s 0 0) 0x0D) (cond (eqb (getD s 1 0) 0x0A) (dropPiece 2) (badDrop 1 LoneCr (at + 1)))
+    (dropPiece 1)
 
 -- bytes that are not allowed in an ml-basic string: error 12 at their run, which ends at a CR too
 unfoldable pub mlbContent : Edition → ℕ → List ℕ → Piece
 mlbContent v at s =
-    cond (mlbPlain (getD s 0 0)) (copyPiece (run mlbPlain s) 0 at at)
+    cond (mlbPlain (getD s 0 0)) (copyPiece (run mlbPlain s))
     (cond (eqb (getD s 0 0) 0x5C) (cond (skips (getD s 1 0)) (escapedNl at (drop 1 s)) (escapePiece v at (drop 1 s)))
-    (cond (eqb (getD s 0 0) 0x0D) (cond (eqb (getD s 1 0) 0x0A) (copyPiece 2 0 at at) (copyPiece 1 4 (at + 1) (at + 1)))
-    (copyPiece (run mlbInvalid s) 12 at (at + run mlbInvalid s))))
+    (cond (eqb (getD s 0 0) 0x0D) (cond (eqb (getD s 1 0) 0x0A) (copyPiece 2) (badCopy 1 LoneCr (at + 1) (at + 1)))
+    (badCopy (run mlbInvalid s) MlBasicInvalid at (at + run mlbInvalid s))))
 
 -- within a line-ending escape, what it drops comes first
 unfoldable pub mlBasicPiece : Edition → Bool → ℕ → List ℕ → Piece
@@ -78,8 +75,8 @@ mlBasicPiece v dropping at s = cond (dropping && skips (getD s 0 0)) (escapedMor
 -- a byte that is not allowed in a key: error 15 at it
 unfoldable pub keyPiece : ℕ → List ℕ → Piece
 keyPiece at s =
-    cond (unquotedChar (getD s 0 0)) (copyPiece (run unquotedChar s) 0 at at)
-    (copyPiece 1 15 at at)
+    cond (unquotedChar (getD s 0 0)) (copyPiece (run unquotedChar s))
+    (badCopy 1 KeyInvalid at at)
 
 -- the kinds; only an ml-basic body has line-ending escapes
 abbrev pub pieceOf : Encoding → Pieces

@@ -13,6 +13,7 @@ use Rattle.text.specs.declared.refusal.Refusal.the-variants.{ShortOutput, FewEr
 use Rattle.text.specs.declared.utf8.Utf8Check.{Utf8Check}
 use Rattle.text.specs.declared.utf8.Utf8Check.the-variants.{Valid, Refused as NotValid}
 use Rattle.strings.specs.declared.Encoding.{Encoding}
+use Rattle.strings.specs.declared.DecodeError.{DecodeError}
 use Rattle.strings.specs.declared.Choice.{Choice}
 use Rattle.strings.specs.declared.Choice.the-variants.{Known, Unknown}
 use Rattle.strings.specs.declared.Decoded.{Decoded}
@@ -27,9 +28,9 @@ unfoldable pub bytesOf : Encoding → List ℕ → List ℕ
 bytesOf e t = collect (pieceOf e) gives 0 false (endsOf e t .start) (bodyOf (endsOf e t) t)
 
 -- a mark that is missing is an error at its place
-abbrev pub missing : Bool → ℕ → ℕ → List (List ℕ)
-missing true number place = []
-missing false number place = errorAt number place place
+abbrev pub missing : Bool → DecodeError → ℕ → List (List ℕ)
+missing true error place = []
+missing false error place = errorAt error place place
 
 -- the errors, in order: the opening mark's at 0, the closing mark's at the text's end, the body's from left to right
 unfoldable pub errorsOf : Encoding → List ℕ → List (List ℕ)

@@ -1,4 +1,4 @@
--- RULE. Which numbers of a kind and an edition ask for which decoder, and what the kinds differ in: the error number of a
+-- RULE. Which numbers of a kind and an edition ask for which decoder, and what the kinds differ in: the error of a
 -- missing mark, the bytes that stand for themselves, and those that are not allowed.
 -- Assumes nothing.
 use Prim.Native.Nat.{ℕ}
@@ -10,6 +10,8 @@ use Rattle.strings.specs.declared.Edition.{Edition}
 use Rattle.strings.specs.declared.Edition.the-variants.{Toml10, Toml11}
 use Rattle.strings.specs.declared.Encoding.{Encoding}
 use Rattle.strings.specs.declared.Encoding.the-variants.{LiteralString, BasicString, MlLiteralString, MlBasicString, UnquotedKey}
+use Rattle.strings.specs.declared.DecodeError.{DecodeError}
+use Rattle.strings.specs.declared.DecodeError.the-variants.{LiteralMissingQuote, MlLiteralMissingQuote, BasicMissingQuote, MlBasicMissingQuote, EmptyKey}
 use Rattle.strings.specs.declared.Choice.{Choice}
 use Rattle.strings.specs.declared.Choice.the-variants.{Known, Unknown}
 
@@ -45,12 +47,12 @@ abbrev pub choiceOf : ℕ → Choice
 choiceOf kind = choiceBy 10 kind
 
 -- the error of a quote mark that is missing, at either end; a key has no mark, and its error is that it is empty
-abbrev pub markError : Encoding → ℕ
-markError LiteralString = 1
-markError MlLiteralString = 3
-markError (BasicString v) = 6
-markError (MlBasicString v) = 11
-markError UnquotedKey = 14
+abbrev pub markError : Encoding → DecodeError
+markError LiteralString = LiteralMissingQuote
+markError MlLiteralString = MlLiteralMissingQuote
+markError (BasicString v) = BasicMissingQuote
+markError (MlBasicString v) = MlBasicMissingQuote
+markError UnquotedKey = EmptyKey
 
 -- in an ml-literal body an apostrophe stands for itself, and so does an LF
 unfoldable pub mllPlain : ℕ → Bool

@@ -12,7 +12,8 @@ use Rattle.text.specs.Utf8Read.{isScalar}
 use Rattle.strings.specs.declared.Edition.{Edition}
 use Rattle.strings.specs.declared.Edition.the-variants.{Toml10, Toml11}
 use Rattle.strings.specs.declared.Piece.{Piece}
-use Rattle.strings.specs.Pieces.{charPiece}
+use Rattle.strings.specs.declared.DecodeError.the-variants.{MissingEscape, FewDigits, NotScalar}
+use Rattle.strings.specs.Pieces.{charPiece, badChar}
 
 -- escape-seq-char =  %x22         ; "    quotation mark  U+0022
 -- escape-seq-char =/ %x5C         ; \    reverse solidus U+005C
@@ -64,14 +65,14 @@ hexFrom v (b ∷ s) = hexFrom (v * 16 + hexValue b) s
 -- 10 at the first digit. Either gives U+FFFD.
 unfoldable pub hexPiece : ℕ → ℕ → List ℕ → Piece
 hexPiece n at s =
-    cond (ltb (run hexdig s) n) (charPiece (2 + run hexdig s) 0xFFFD 9 (at + (2 + run hexdig s)))
-    (cond (isScalar (hexFrom 0 (take n s))) (charPiece (2 + n) (hexFrom 0 (take n s)) 0 0)
-    (charPiece (2 + n) 0xFFFD 10 (at + 2)))
+    cond (ltb (run hexdig s) n) (badChar (2 + run hexdig s) 0xFFFD FewDigits (at + (2 + run hexdig s)))
+    (cond (isScalar (hexFrom 0 (take n s))) (charPiece (2 + n) (hexFrom 0 (take n s)))
+    (badChar (2 + n) 0xFFFD NotScalar (at + 2)))
 
 -- a backslash at place `at`, with s behind it. Behind it the end or another letter: error 8 there, and the backslash is
 -- given alone.
 unfoldable pub escapePiece : Edition → ℕ → List ℕ → Piece
 escapePiece v at s =
     cond (ltb 0 (hexLength v (getD s 0 0))) (hexPiece (hexLength v (getD s 0 0)) at (drop 1 s))
-    (cond (ltb 0 (simpleEscape v (getD s 0 0))) (charPiece 2 (simpleEscape v (getD s 0 0)) 0 0)
-    (charPiece 1 0x5C 8 (at + 1)))
+    (cond (ltb 0 (simpleEscape v (getD s 0 0))) (charPiece 2 (simpleEscape v (getD s 0 0)))
+    (badChar 1 0x5C MissingEscape (at + 1)))

@@ -1,3 +1,4 @@
+pub mod Errors
 pub mod Encodings
 pub mod Pieces
 pub mod Escapes

@@ -2,14 +2,17 @@
 -- or nothing; and it has at most one error.
 -- Assumes nothing.
 use Prim.Native.Nat.{ℕ, zero, suc, pred}
-use mathlib.Core.Bool.{Bool, true, false, cond}
+use mathlib.Core.Bool.{Bool, true, false}
 use mathlib.Core.List.{List, [], _∷_, _++_}
-use lib.Dec.{eqb}
 use lib.ListN.{take}
 use Rattle.text.specs.Utf8.{encodeScalar}
 use Rattle.strings.specs.declared.Piece.{Piece}
 use Rattle.strings.specs.declared.Given.{Given}
 use Rattle.strings.specs.declared.Given.the-variants.{Copy, Char, Nothing}
+use Rattle.strings.specs.declared.DecodeError.{DecodeError}
+use Rattle.strings.specs.declared.Verdict.{Verdict}
+use Rattle.strings.specs.declared.Verdict.the-variants.{Clean, Wrong}
+use Rattle.strings.specs.Errors.{errorNumber}
 
 -- the bytes that a piece of n bytes at the front of s gives
 abbrev pub givenOf : Given → ℕ → List ℕ → List ℕ
@@ -20,13 +23,17 @@ givenOf Nothing n s = []
 unfoldable pub gives : Piece → List ℕ → List ℕ
 gives p s = givenOf (p .given) (p .take) s
 
--- an error: its number, where it starts and where it ends
-abbrev pub errorAt : ℕ → ℕ → ℕ → List (List ℕ)
-errorAt number start end = (number ∷ start ∷ end ∷ []) ∷ []
+-- an error's record: its number, where it starts and where it ends
+abbrev pub errorAt : DecodeError → ℕ → ℕ → List (List ℕ)
+errorAt error start end = (errorNumber error ∷ start ∷ end ∷ []) ∷ []
 
 -- the error that a piece has, if any
+abbrev pub notesOf : Verdict → List (List ℕ)
+notesOf Clean = []
+notesOf (Wrong error start end) = errorAt error start end
+
 unfoldable pub notes : Piece → List (List ℕ)
-notes p = cond (eqb (p .err) 0) [] (errorAt (p .err) (p .start) (p .end))
+notes p = notesOf (p .verdict)
 
 -- the same, whatever stands there
 abbrev pub notesAt : Piece → List ℕ → List (List ℕ)
@@ -43,16 +50,25 @@ collect P g zero d at (b ∷ r) =
     g (P d at (b ∷ r)) (b ∷ r) ++ collect P g (pred (P d at (b ∷ r) .take)) (P d at (b ∷ r) .dropping) (suc at) r
 collect P g (suc k) d at (b ∷ r) = collect P g k d (suc at) r
 
--- ---- the three ways to make a piece, each with the number of its error (0: none)
+-- ---- the three ways to make a piece, each without an error and with one
 
 -- n bytes as they are
-abbrev pub copyPiece : ℕ → ℕ → ℕ → ℕ → Piece
-copyPiece n error start end = record { take = n; given = Copy; err = error; start = start; end = end; dropping = false }
+abbrev pub copyPiece : ℕ → Piece
+copyPiece n = record { take = n; given = Copy; verdict = Clean; dropping = false }
+
+abbrev pub badCopy : ℕ → DecodeError → ℕ → ℕ → Piece
+badCopy n error start end = record { take = n; given = Copy; verdict = Wrong error start end; dropping = false }
 
 -- a character for n bytes; its error, if any, has an empty span
-abbrev pub charPiece : ℕ → ℕ → ℕ → ℕ → Piece
-charPiece n c error place = record { take = n; given = Char c; err = error; start = place; end = place; dropping = false }
+abbrev pub charPiece : ℕ → ℕ → Piece
+charPiece n c = record { take = n; given = Char c; verdict = Clean; dropping = false }
+
+abbrev pub badChar : ℕ → ℕ → DecodeError → ℕ → Piece
+badChar n c error place = record { take = n; given = Char c; verdict = Wrong error place place; dropping = false }
 
 -- nothing for n bytes of a line-ending escape, which goes on behind them
-abbrev pub dropPiece : ℕ → ℕ → ℕ → Piece
-dropPiece n error place = record { take = n; given = Nothing; err = error; start = place; end = place; dropping = true }
+abbrev pub dropPiece : ℕ → Piece
+dropPiece n = record { take = n; given = Nothing; verdict = Clean; dropping = true }
+
+abbrev pub badDrop : ℕ → DecodeError → ℕ → Piece
+badDrop n error place = record { take = n; given = Nothing; verdict = Wrong error place place; dropping = true }

@@ -150,13 +150,13 @@ returns c =
     let is = Begin run .pre .1 in
     let t = a .text .now in
     let k = run .plain-run in
-    let number = Marked run .mark-error in
+    let error = Marked run .mark-error in
     let copy = c .before .before .before .before .before .before .before .before .before .copy-in .ensures in
     let w = c .before .before .before .write .ensures in
     let noted = store-append (First run .miss .ensures) (store-append (Second run .miss2 .ensures) (w .1)) in
     let left = errors-behind (a .e) t (a .d) is (k .result) (k .ensures) in (
       rw (bytes-behind (a .e) t (a .d) is (k .result) (k .ensures)) (store-append copy (w .0)),
-      rw (errors-is (a .e) t (a .d) is (number .result) (number .ensures), left) noted,
+      rw (errors-is (a .e) t (a .d) is (error .result) (error .ensures), left) noted,
     )
 
 pub fill-spec : {M : Type 1} → statement M

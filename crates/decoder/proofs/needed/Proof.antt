@@ -6,6 +6,7 @@ use native.Mathlib.Omega.{arith}
 use borrow.Author.Needs.{needs}
 use lib.ListN.{length, length-take, length-drop}
 use Rattle.text.specs.Refusals.{limit}
+use Rattle.strings.specs.declared.DecodeError.the-variants.{EmptyKey}
 use Rattle.strings.specs.Encodings.{markError}
 use Rattle.strings.proofs.MarkLaws.{ends-fit}
 use Rattle.strings.proofs.DecodeLaws.{bytes-is, errors-sum}
@@ -49,10 +50,10 @@ few c =
       body,
       fit start,
       start .pre,
-      c .before .missed .ensures 0 0,
-      missing-few (d .opened) 0 0,
-      c .missed2 .ensures 0 0,
-      missing-few (d .closed) 0 0,
+      c .before .missed .ensures EmptyKey 0,
+      missing-few (d .opened) EmptyKey 0,
+      c .missed2 .ensures EmptyKey 0,
+      missing-few (d .closed) EmptyKey 0,
     )
 
 add-t12 : tie.Need-add-t12

@@ -9,20 +9,31 @@ use Rattle.strings.proofs.StoreLaws.{store-none}
 use Rattle.decoder.proofs.write.note.Statement.{statement}
 use Rattle.decoder.proofs.write.note.Tie as tie
 
+enum-told : tie.Need-enum-told
+enum-told c = search needs
+
+enum-known-verdict : tie.Need-enum-known-verdict
+enum-known-verdict c = search needs
+
 put-error-requires : tie.Need-put-error-requires
-put-error-requires c κs = omega (arith, ap length (notes-one (c .before .before .before .args .p) (c .before .if1 .left)))
+put-error-requires c κs =
+    let start = c .before .before .before .before in
+    let one = notes-one (start .args .p) _ _ _ (c .before .before .verdict .given .1) in
+    omega (arith, ap length one, start .pre)
 
 returns : tie.Need-returns
-returns c = rw (notes-none (c .before .before .args .p) (c .if1 .taken)) (store-none _ _)
+returns c = rw (notes-none (c .before .before .args .p) (c .enum-told .given .1)) (store-none _ _)
 
 same-length : tie.Need-same-length
 same-length c = search needs
 
 returns-2 : tie.Need-returns-2
 returns-2 c =
-    let args = c .before .before .before .before .before .args in
-    let if1 = c .before .before .before .if1 in
-    rw (notes-one (args .p) (if1 .left)) (c .before .put-error .ensures)
+    let start = c .before .before .before .before .before .before in
+    let verdict = c .before .before .before .before .verdict in
+    rw (notes-one (start .args .p) _ _ _ (verdict .given .1)) (c .before .put-error .ensures)
 
 pub note-spec : {M : Type 1} → statement M
-note-spec = tie.close (tie.spec put-error-requires returns same-length returns-2)
+note-spec =
+    tie.close
+    (tie.spec enum-told enum-known-verdict put-error-requires returns same-length returns-2)

@@ -36,8 +36,7 @@ Head c = c .before
 
 short : (c : tie.Then1 Inv-loop μ-loop)
     → let a = Begin (c .before .before .before) .args in let l = Head (c .before .before .before) .loop in
-    let at = a .base + l .i in
-    Turn (pieceOf (a .e)) (a .s .now) (a .base) (l .i) (l .d) (copyPiece (c .before .few-at .result) 0 at at)
+    Turn (pieceOf (a .e)) (a .s .now) (a .base) (l .i) (l .d) (copyPiece (c .before .few-at .result))
 short c =
     let few = c .before .few-at .ensures (c .if1 .taken) in
     record { more = c .before .before .before .loop-test .taken; reads = sym (few .piece _) }
@@ -45,7 +44,7 @@ short c =
 escaped : (c : tie.Then2 Inv-loop μ-loop)
     → let in-loop = c .before .before .before .before .before .before in let a = Begin in-loop .args in let l = Head in-loop .loop in
     let x = c .before .before .escape-at .result in
-    Turn (pieceOf (a .e)) (a .s .now) (a .base) (l .i) (l .d) (charPiece (x .take) (x .char) 0 0)
+    Turn (pieceOf (a .e)) (a .s .now) (a .base) (l .i) (l .d) (charPiece (x .take) (x .char))
 escaped c =
     let in-loop = c .before .before .before .before .before .before in
     let a = Begin in-loop .args in
@@ -68,15 +67,15 @@ any c =
 
 short-size : (c : tie.Then1 Inv-loop μ-loop)
     → let a = Begin (c .before .before .before) .args in let l = Head (c .before .before .before) .loop in
-    let n = c .before .few-at .result in let at = a .base + l .i in let t = rest (a .s .now) (l .i) in
-    (n ≤ length t) × (n ≡ length (gives (copyPiece n 0 at at) t))
+    let n = c .before .few-at .result in let t = rest (a .s .now) (l .i) in
+    (n ≤ length t) × (n ≡ length (gives (copyPiece n) t))
 short-size c =
     let a = Begin (c .before .before .before) .args in
     let l = Head (c .before .before .before) .loop in
     let n = c .before .few-at .result in
     let t = rest (a .s .now) (l .i) in
     let fits = turn-fine (piece-fine (a .e)) (short c) .fits in
-    (fits, sym (ap length (given-copy n (a .base + l .i) t) ∙ length-take-le n t fits))
+    (fits, sym (ap length (given-copy n t) ∙ length-take-le n t fits))
 
 short-fits : (c : tie.Then1 Inv-loop μ-loop)
     → Head (c .before .before .before) .loop .i + c .before .few-at .result ≤ length (Begin (c .before .before .before) .args .s .now)

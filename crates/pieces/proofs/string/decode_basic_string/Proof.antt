@@ -51,13 +51,13 @@ returns-2 c =
 basic-invalid-requires : tie.Need-basic-invalid-requires
 basic-invalid-requires c κs = search needs
 
-add-copy-piece : tie.Need-add-copy-piece
-add-copy-piece c =
+add-bad-copy : tie.Need-add-bad-copy
+add-bad-copy c =
     let s = c .before .before .before .before .before .before .args .s .now in
     omega (arith, c .basic-invalid .ensures, run-le basicInvalid s)
 
-copy-piece-requires-2 : tie.Need-copy-piece-requires-2
-copy-piece-requires-2 c κs = search needs
+bad-copy-requires : tie.Need-bad-copy-requires
+bad-copy-requires c κs = search needs
 
 returns-3 : tie.Need-returns-3
 unfolding basicPiece
@@ -67,7 +67,7 @@ returns-3 c =
     let n = c .before .before .before .basic-unescaped .ensures in
     let none = run-none basicUnescaped s some _ n (c .before .before .if2 .left) in
     let other = ne-eqb _ 0x5C (c .before .before .before .before .if1 .left) in
-    c .copy-piece2 .ensures ∙ rw (none, other, ← (c .before .basic-invalid .ensures))
+    c .bad-copy .ensures ∙ rw (none, other, ← (c .before .basic-invalid .ensures))
 
 pub decode-basic-string-spec : {M : Type 1} → statement M
 decode-basic-string-spec =
@@ -83,6 +83,6 @@ decode-basic-string-spec =
     copy-piece-requires
     returns-2
     basic-invalid-requires
-    add-copy-piece
-    copy-piece-requires-2
+    add-bad-copy
+    bad-copy-requires
     returns-3)

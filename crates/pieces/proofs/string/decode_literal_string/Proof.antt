@@ -22,8 +22,8 @@ returns c =
     let pre = c .before .before .before .before .pre in
     c .copy-piece .ensures ∙ rw (run-first literalChar (args .s .now) pre _ (n .ensures) (c .before .if1 .taken), ← (n .ensures))
 
-copy-piece-requires-2 : tie.Need-copy-piece-requires-2
-copy-piece-requires-2 c κs = search needs
+bad-copy-requires : tie.Need-bad-copy-requires
+bad-copy-requires c κs = search needs
 
 returns-2 : tie.Need-returns-2
 unfolding literalPiece
@@ -31,9 +31,9 @@ returns-2 c =
     let n = c .before .before .literal-chars in
     let args = c .before .before .before .before .args in
     let pre = c .before .before .before .before .pre in
-    c .copy-piece2 .ensures ∙ rw (run-none literalChar (args .s .now) pre _ (n .ensures) (c .before .if1 .left))
+    c .bad-copy .ensures ∙ rw (run-none literalChar (args .s .now) pre _ (n .ensures) (c .before .if1 .left))
 
 pub decode-literal-string-spec : {M : Type 1} → statement M
 decode-literal-string-spec =
     tie.close
-    (tie.spec literal-chars-requires copy-piece-requires returns copy-piece-requires-2 returns-2)
+    (tie.spec literal-chars-requires copy-piece-requires returns bad-copy-requires returns-2)

@@ -21,17 +21,17 @@ returns c =
     let n = c .before .before .unquoted-chars .ensures in
     c .copy-piece .ensures ∙ rw (run-first unquotedChar s (c .before .before .before .before .pre) _ n (c .before .if1 .taken), ← n)
 
-copy-piece-requires-2 : tie.Need-copy-piece-requires-2
-copy-piece-requires-2 c κs = search needs
+bad-copy-requires : tie.Need-bad-copy-requires
+bad-copy-requires c κs = search needs
 
 returns-2 : tie.Need-returns-2
 unfolding keyPiece
 returns-2 c =
     let s = c .before .before .before .before .args .s .now in
     let n = c .before .before .unquoted-chars .ensures in
-    c .copy-piece2 .ensures ∙ rw (run-none unquotedChar s (c .before .before .before .before .pre) _ n (c .before .if1 .left))
+    c .bad-copy .ensures ∙ rw (run-none unquotedChar s (c .before .before .before .before .pre) _ n (c .before .if1 .left))
 
 pub decode-unquoted-key-spec : {M : Type 1} → statement M
 decode-unquoted-key-spec =
     tie.close
-    (tie.spec unquoted-chars-requires copy-piece-requires returns copy-piece-requires-2 returns-2)
+    (tie.spec unquoted-chars-requires copy-piece-requires returns bad-copy-requires returns-2)

@@ -64,18 +64,18 @@ returns-2 c =
     c .char-piece .ensures
     ∙ escape-simple (a .v) (a .at) (a .s .now) _ _ digits (c .before .before .before .if1 .left) simple (c .before .if2 .taken)
 
-add-char-piece : tie.Need-add-char-piece
-add-char-piece c = search needs
+add-bad-char : tie.Need-add-bad-char
+add-bad-char c = search needs
 
-char-piece-requires-2 : tie.Need-char-piece-requires-2
-char-piece-requires-2 c κs = search needs
+bad-char-requires : tie.Need-bad-char-requires
+bad-char-requires c κs = search needs
 
 returns-3 : tie.Need-returns-3
 returns-3 c =
     let a = c .before .before .before .before .before .before .before .args in
     let digits = asked (c .before .before .before .before) in
     let simple = rw (c .before .before .before .before .before .peek .ensures) at (c .before .before .simple-escape .ensures) in
-    c .char-piece2 .ensures
+    c .bad-char .ensures
     ∙ escape-none (a .v) (a .at) (a .s .now) _ _ digits (c .before .before .before .if1 .left) simple (c .before .if2 .left)
 
 pub escape-seq-char-spec : {M : Type 1} → statement M
@@ -92,6 +92,6 @@ escape-seq-char-spec =
     simple-escape-requires
     char-piece-requires
     returns-2
-    add-char-piece
-    char-piece-requires-2
+    add-bad-char
+    bad-char-requires
     returns-3)

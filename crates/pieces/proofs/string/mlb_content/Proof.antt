@@ -107,14 +107,14 @@ returns-4 c =
     let return = eq-eqb _ 0x0D (if4 .taken) in
     c .copy-piece2 .ensures ∙ rw (none, other, return, ← (peek2 .ensures), eq-eqb _ 0x0A (c .before .if5 .taken))
 
-add-copy-piece : tie.Need-add-copy-piece
-add-copy-piece c = search needs
+add-bad-copy : tie.Need-add-bad-copy
+add-bad-copy c = search needs
 
-add-copy-piece-2 : tie.Need-add-copy-piece-2
-add-copy-piece-2 c = search needs
+add-bad-copy-2 : tie.Need-add-bad-copy-2
+add-bad-copy-2 c = search needs
 
-copy-piece-requires-3 : tie.Need-copy-piece-requires-3
-copy-piece-requires-3 c κs = search needs
+bad-copy-requires : tie.Need-bad-copy-requires
+bad-copy-requires c κs = search needs
 
 returns-5 : tie.Need-returns-5
 unfolding mlbContent
@@ -129,18 +129,18 @@ returns-5 c =
     let none = run-none mlbPlain (args .s .now) (pre .0) _ (mlb-unescaped .ensures) (if1 .left) in
     let other = ne-eqb _ 0x5C (if2 .left) in
     let return = eq-eqb _ 0x0D (if4 .taken) in
-    c .copy-piece3 .ensures ∙ rw (none, other, return, ← (peek2 .ensures), ne-eqb _ 0x0A (c .before .if5 .left))
+    c .bad-copy .ensures ∙ rw (none, other, return, ← (peek2 .ensures), ne-eqb _ 0x0A (c .before .if5 .left))
 
 mlb-invalid-requires : tie.Need-mlb-invalid-requires
 mlb-invalid-requires c κs = search needs
 
-add-copy-piece-3 : tie.Need-add-copy-piece-3
-add-copy-piece-3 c =
+add-bad-copy-3 : tie.Need-add-bad-copy-3
+add-bad-copy-3 c =
     let args = c .before .before .before .before .before .before .before .args in
     omega (arith, c .mlb-invalid .ensures, run-le mlbInvalid (args .s .now))
 
-copy-piece-requires-4 : tie.Need-copy-piece-requires-4
-copy-piece-requires-4 c κs = search needs
+bad-copy-requires-2 : tie.Need-bad-copy-requires-2
+bad-copy-requires-2 c κs = search needs
 
 returns-6 : tie.Need-returns-6
 unfolding mlbContent
@@ -151,7 +151,7 @@ returns-6 c =
     let if1 = c .before .before .before .before .before .if1 in
     let if2 = c .before .before .before .if2 in
     let none = run-none mlbPlain (args .s .now) (pre .0) _ (mlb-unescaped .ensures) (if1 .left) in
-    c .copy-piece4 .ensures
+    c .bad-copy2 .ensures
     ∙ rw (none, ne-eqb _ 0x5C (if2 .left), ne-eqb _ 0x0D (c .before .before .if4 .left), ← (c .before .mlb-invalid .ensures))
 
 pub mlb-content-spec : {M : Type 1} → statement M
@@ -177,11 +177,11 @@ mlb-content-spec =
     peek-requires-2
     copy-piece-requires-2
     returns-4
-    add-copy-piece
-    add-copy-piece-2
-    copy-piece-requires-3
+    add-bad-copy
+    add-bad-copy-2
+    bad-copy-requires
     returns-5
     mlb-invalid-requires
-    add-copy-piece-3
-    copy-piece-requires-4
+    add-bad-copy-3
+    bad-copy-requires-2
     returns-6)

@@ -24,11 +24,11 @@ returns c =
     let peek2 = c .before .before .peek2 in
     c .drop-piece .ensures ∙ simp (← (peek .ensures), eq-eqb _ 0x0D (if1 .taken), ← (peek2 .ensures), eq-eqb _ 0x0A (c .before .if2 .taken))
 
-add-drop-piece : tie.Need-add-drop-piece
-add-drop-piece c = search needs
+add-bad-drop : tie.Need-add-bad-drop
+add-bad-drop c = search needs
 
-drop-piece-requires-2 : tie.Need-drop-piece-requires-2
-drop-piece-requires-2 c κs = search needs
+bad-drop-requires : tie.Need-bad-drop-requires
+bad-drop-requires c κs = search needs
 
 returns-2 : tie.Need-returns-2
 unfolding escapedMore
@@ -36,14 +36,14 @@ returns-2 c =
     let peek = c .before .before .before .before .peek in
     let if1 = c .before .before .before .if1 in
     let peek2 = c .before .before .peek2 in
-    c .drop-piece2 .ensures ∙ simp (← (peek .ensures), eq-eqb _ 0x0D (if1 .taken), ← (peek2 .ensures), ne-eqb _ 0x0A (c .before .if2 .left))
+    c .bad-drop .ensures ∙ simp (← (peek .ensures), eq-eqb _ 0x0D (if1 .taken), ← (peek2 .ensures), ne-eqb _ 0x0A (c .before .if2 .left))
 
-drop-piece-requires-3 : tie.Need-drop-piece-requires-3
-drop-piece-requires-3 c κs = search needs
+drop-piece-requires-2 : tie.Need-drop-piece-requires-2
+drop-piece-requires-2 c κs = search needs
 
 returns-3 : tie.Need-returns-3
 unfolding escapedMore
-returns-3 c = c .drop-piece3 .ensures ∙ simp (← (c .before .before .peek .ensures), ne-eqb _ 0x0D (c .before .if1 .left))
+returns-3 c = c .drop-piece2 .ensures ∙ simp (← (c .before .before .peek .ensures), ne-eqb _ 0x0D (c .before .if1 .left))
 
 pub mlb-escaped-more-spec : {M : Type 1} → statement M
 mlb-escaped-more-spec =
@@ -53,8 +53,8 @@ mlb-escaped-more-spec =
     peek-requires-2
     drop-piece-requires
     returns
-    add-drop-piece
-    drop-piece-requires-2
+    add-bad-drop
+    bad-drop-requires
     returns-2
-    drop-piece-requires-3
+    drop-piece-requires-2
     returns-3)

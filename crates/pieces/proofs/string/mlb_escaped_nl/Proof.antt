@@ -59,17 +59,17 @@ returns-2 c =
     let return = eq-eqb _ 0x0D (c .before .before .before .if2 .taken) in
     c .drop-piece2 .ensures ∙ rw (← w, ← byte, other, return, ← (c .before .before .peek2 .ensures), eq-eqb _ 0x0A (c .before .if3 .taken))
 
-add-drop-piece-3 : tie.Need-add-drop-piece-3
-add-drop-piece-3 c = omega (arith, within (c .before .before .before .before .before))
+add-bad-drop : tie.Need-add-bad-drop
+add-bad-drop c = omega (arith, within (c .before .before .before .before .before))
 
-add-drop-piece-4 : tie.Need-add-drop-piece-4
-add-drop-piece-4 c = omega (arith, within (c .before .before .before .before .before))
+add-bad-drop-2 : tie.Need-add-bad-drop-2
+add-bad-drop-2 c = omega (arith, within (c .before .before .before .before .before))
 
-add-drop-piece-5 : tie.Need-add-drop-piece-5
-add-drop-piece-5 c = omega (arith, within (c .before .before .before .before .before))
+add-bad-drop-3 : tie.Need-add-bad-drop-3
+add-bad-drop-3 c = omega (arith, within (c .before .before .before .before .before))
 
-drop-piece-requires-3 : tie.Need-drop-piece-requires-3
-drop-piece-requires-3 c κs = search needs
+bad-drop-requires : tie.Need-bad-drop-requires
+bad-drop-requires c κs = search needs
 
 returns-3 : tie.Need-returns-3
 unfolding escapedNl
@@ -78,26 +78,26 @@ returns-3 c =
     let byte = c .before .before .before .before .before .peek .ensures in
     let other = ne-eqb _ 0x0A (c .before .before .before .before .if1 .left) in
     let return = eq-eqb _ 0x0D (c .before .before .before .if2 .taken) in
-    c .drop-piece3 .ensures ∙ rw (← w, ← byte, other, return, ← (c .before .before .peek2 .ensures), ne-eqb _ 0x0A (c .before .if3 .left))
+    c .bad-drop .ensures ∙ rw (← w, ← byte, other, return, ← (c .before .before .peek2 .ensures), ne-eqb _ 0x0A (c .before .if3 .left))
 
-add-drop-piece-6 : tie.Need-add-drop-piece-6
-add-drop-piece-6 c = omega (arith, within (c .before .before .before))
+add-bad-drop-4 : tie.Need-add-bad-drop-4
+add-bad-drop-4 c = omega (arith, within (c .before .before .before))
 
-add-drop-piece-7 : tie.Need-add-drop-piece-7
-add-drop-piece-7 c = omega (arith, within (c .before .before .before))
+add-bad-drop-5 : tie.Need-add-bad-drop-5
+add-bad-drop-5 c = omega (arith, within (c .before .before .before))
 
-add-drop-piece-8 : tie.Need-add-drop-piece-8
-add-drop-piece-8 c = omega (arith, within (c .before .before .before))
+add-bad-drop-6 : tie.Need-add-bad-drop-6
+add-bad-drop-6 c = omega (arith, within (c .before .before .before))
 
-drop-piece-requires-4 : tie.Need-drop-piece-requires-4
-drop-piece-requires-4 c κs = search needs
+bad-drop-requires-2 : tie.Need-bad-drop-requires-2
+bad-drop-requires-2 c κs = search needs
 
 returns-4 : tie.Need-returns-4
 unfolding escapedNl
 returns-4 c =
     let w = blanks (c .before .before .before .before) in
     let byte = c .before .before .before .peek .ensures in
-    c .drop-piece4 .ensures
+    c .bad-drop2 .ensures
     ∙ rw (← w, ← byte, ne-eqb _ 0x0A (c .before .before .if1 .left), ne-eqb _ 0x0D (c .before .if2 .left))
 
 pub mlb-escaped-nl-spec : {M : Type 1} → statement M
@@ -114,13 +114,13 @@ mlb-escaped-nl-spec =
     add-drop-piece-2
     drop-piece-requires-2
     returns-2
-    add-drop-piece-3
-    add-drop-piece-4
-    add-drop-piece-5
-    drop-piece-requires-3
+    add-bad-drop
+    add-bad-drop-2
+    add-bad-drop-3
+    bad-drop-requires
     returns-3
-    add-drop-piece-6
-    add-drop-piece-7
-    add-drop-piece-8
-    drop-piece-requires-4
+    add-bad-drop-4
+    add-bad-drop-5
+    add-bad-drop-6
+    bad-drop-requires-2
     returns-4)
