@@ -7,8 +7,6 @@ use mathlib.Core.Bool.{Bool, true, false, cond}
 use mathlib.Core.List.{List, [], _∷_, _++_}
 use native.Mathlib.Omega.{arith}
 use lib.ListN.{length, take, drop, take-append-drop}
-use lib.Dec.{eqb}
-use borrow.Author.Tests.{ne-eqb}
 use Rattle.classes.specs.Classes.{hexdig}
 use Rattle.classes.specs.Runs.{run}
 use Rattle.classes.proofs.Conds.{by-lt, cond-case, by-eq}
@@ -17,10 +15,12 @@ use Rattle.text.specs.Utf8Read.{isScalar}
 use Rattle.text.proofs.EncodeLaws.{scalar-true, true-scalar}
 use Rattle.strings.specs.declared.Edition.{Edition}
 use Rattle.strings.specs.declared.Edition.the-variants.{Toml10, Toml11}
+use Rattle.strings.specs.declared.Letter.{Letter}
+use Rattle.strings.specs.declared.Letter.the-variants.{Stands, Asks, Neither}
 use Rattle.strings.specs.declared.Piece.{Piece}
 use Rattle.strings.specs.declared.Verdict.the-variants.{Clean}
 use Rattle.strings.specs.Pieces.{Pieces, charPiece}
-use Rattle.strings.specs.Escapes.{newEscape, simpleEscape, newHexLength, hexLength, hexFrom, hexValue, hexPiece, escapePiece}
+use Rattle.strings.specs.Escapes.{newLetter, letterOf, letterAt, hexFrom, hexValue, hexPiece, escapeBy, escapePiece}
 use Rattle.strings.proofs.PieceLaws.{wrong≢clean}
 use Rattle.strings.proofs.EscapeLaws.{hex-char, escape-hex, escape-simple}
 use Rattle.grammar.specs.Grammar.{HexDig, HexDigits, stop, more, EscapeSeqChar, x22, x5C, x62, x66, x6E, x72, x74, x75, x55, x65, x78}
@@ -115,37 +115,32 @@ escape-ascii e = let s = shape e in subst AllAscii (sym (s .is)) (s .low, all-we
 
 -- ---- an escape is one piece that gives its character
 
-simple-at : (ed : Edition) (b c : ℕ) → 0 ≡ hexLength ed b → c ≡ simpleEscape ed b → 0 < c → (at : ℕ) (s : List ℕ)
+simple-at : (ed : Edition) (b c : ℕ) → letterOf ed b ≡ Stands c → (at : ℕ) (s : List ℕ)
     → escapePiece ed at (b ∷ s) ≡ charPiece 2 c
-simple-at ed b c p q h at s = sym (escape-simple ed at (b ∷ s) 0 c p (omega arith) q h)
+simple-at ed b c e at s = sym (escape-simple ed at (b ∷ s) c e)
 
-hex-at : (ed : Edition) (b n v : ℕ) (t : List ℕ) → n ≡ hexLength ed b → 0 < n → HexDigits n 0 t v → Scalar v
+hex-at : (ed : Edition) (b n v : ℕ) (t : List ℕ) → letterOf ed b ≡ Asks n → HexDigits n 0 t v → Scalar v
     → (at : ℕ) (s : List ℕ) → escapePiece ed at (b ∷ (t ++ s)) ≡ charPiece (suc (length (b ∷ t))) v
-hex-at ed b n v t p h d sc at s =
+hex-at ed b n v t e d sc at s =
     let value : v ≡ hexFrom 0 (take n (t ++ s)) = digits-value d ∙ ap (hexFrom 0) (sym (digits-taken d s)) in
-    sym (escape-hex ed at (b ∷ (t ++ s)) n p h)
+    sym (escape-hex ed at (b ∷ (t ++ s)) n e)
     ∙ (sym (hex-char n at (t ++ s) v (digits-run d s) value (scalar-true v sc))
     ∙ ap (λ (i : ℕ). charPiece i v) (omega (arith, digits-long d)))
 
--- what 1.1 adds to the letters that ask for digits is one
-no-digits : (ed : Edition) (b : ℕ) → (b ≡ 0x78 → ⊥) → 0 ≡ newHexLength ed b
-no-digits Toml10 b h = refl
-no-digits Toml11 b h = rw (ne-eqb b 0x78 h)
-
 pub escape-at : {ed : Edition} {t : List ℕ} {v : ℕ} (e : EscapeSeqChar ed t v) → Names e → (at : ℕ) (s : List ℕ)
     → escapePiece ed at (t ++ s) ≡ charPiece (suc (length t)) v
-unfolding simpleEscape hexLength
-escape-at {ed} x22 h = simple-at ed 0x22 0x22 (no-digits ed 0x22 (λ e. omega arith)) refl (omega arith)
-escape-at {ed} x5C h = simple-at ed 0x5C 0x5C (no-digits ed 0x5C (λ e. omega arith)) refl (omega arith)
-escape-at {ed} x62 h = simple-at ed 0x62 0x08 (no-digits ed 0x62 (λ e. omega arith)) refl (omega arith)
-escape-at {ed} x66 h = simple-at ed 0x66 0x0C (no-digits ed 0x66 (λ e. omega arith)) refl (omega arith)
-escape-at {ed} x6E h = simple-at ed 0x6E 0x0A (no-digits ed 0x6E (λ e. omega arith)) refl (omega arith)
-escape-at {ed} x72 h = simple-at ed 0x72 0x0D (no-digits ed 0x72 (λ e. omega arith)) refl (omega arith)
-escape-at {ed} x74 h = simple-at ed 0x74 0x09 (no-digits ed 0x74 (λ e. omega arith)) refl (omega arith)
-escape-at {ed} (x75 {t = t} {v = v} d) h = hex-at ed 0x75 4 v t refl (omega arith) d h
-escape-at {ed} (x55 {t = t} {v = v} d) h = hex-at ed 0x55 8 v t refl (omega arith) d h
-escape-at x65 h = simple-at Toml11 0x65 0x1B refl refl (omega arith)
-escape-at (x78 {t = t} {v = v} d) h = hex-at Toml11 0x78 2 v t refl (omega arith) d (two-scalar d)
+unfolding letterOf
+escape-at {ed} x22 h = simple-at ed 0x22 0x22 refl
+escape-at {ed} x5C h = simple-at ed 0x5C 0x5C refl
+escape-at {ed} x62 h = simple-at ed 0x62 0x08 refl
+escape-at {ed} x66 h = simple-at ed 0x66 0x0C refl
+escape-at {ed} x6E h = simple-at ed 0x6E 0x0A refl
+escape-at {ed} x72 h = simple-at ed 0x72 0x0D refl
+escape-at {ed} x74 h = simple-at ed 0x74 0x09 refl
+escape-at {ed} (x75 {t = t} {v = v} d) h = hex-at ed 0x75 4 v t refl d h
+escape-at {ed} (x55 {t = t} {v = v} d) h = hex-at ed 0x55 8 v t refl d h
+escape-at x65 h = simple-at Toml11 0x65 0x1B refl
+escape-at (x78 {t = t} {v = v} d) h = hex-at Toml11 0x78 2 v t refl d (two-scalar d)
 
 -- so it is read, where it is a piece behind a backslash
 pub escape-reads : (P : Pieces) {ed : Edition} {t : List ℕ} {v : ℕ} (e : EscapeSeqChar ed t v) → Names e → (at : ℕ) (s : List ℕ)
@@ -167,39 +162,44 @@ pub record EscapedAt (ed : Edition) (s : List ℕ) : Type 0 where
 abbrev Named : Edition → List ℕ → ℕ → Type 0
 Named ed t v = (e : EscapeSeqChar ed t v) × Names e
 
-module _ (ed : Edition) (b : ℕ) where
-  abbrev Simple : ℕ → Type 0
-  Simple v = 0 < v → Named ed (b ∷ []) v
+-- what a letter is for, the grammar has it too
+unfoldable Right : Edition → ℕ → Letter → Type 0
+Right ed b (Stands v) = Named ed (b ∷ []) v
+Right ed b (Asks n) = (t : List ℕ) (v : ℕ) → HexDigits n 0 t v → Scalar v → Named ed (b ∷ t) v
+Right ed b Neither = Unit {0}
 
-  one-letter : (k v w : ℕ) → Named ed (k ∷ []) v → Simple w → Simple (cond (eqb b k) v w)
-  one-letter k v w x f = by-eq Simple b k (λ e h. subst (λ (c : ℕ). Named ed (c ∷ []) v) (sym e) x) (λ e. f)
+-- a letter k of the table
+right-stands : (ed : Edition) (k v : ℕ) → Named ed (k ∷ []) v → (b : ℕ) → b ≡ k → Right ed b (Stands v)
+unfolding Right
+right-stands ed k v x b e = subst (λ (c : ℕ). Named ed (c ∷ []) v) (sym e) x
 
-  abbrev Hex : ℕ → Type 0
-  Hex n = 0 < n → (t : List ℕ) (v : ℕ) → HexDigits n 0 t v → Scalar v → Named ed (b ∷ t) v
+right-asks : (ed : Edition) (k n : ℕ) → ((t : List ℕ) (v : ℕ) → HexDigits n 0 t v → Scalar v → Named ed (k ∷ t) v)
+    → (b : ℕ) → b ≡ k → Right ed b (Asks n)
+unfolding Right
+right-asks ed k n f b e t v d sc = subst (λ (c : ℕ). Named ed (c ∷ t) v) (sym e) (f t v d sc)
 
-  hex-letter : (k n m : ℕ) → ((t : List ℕ) (v : ℕ) → HexDigits n 0 t v → Scalar v → Named ed (k ∷ t) v) → Hex m
-      → Hex (cond (eqb b k) n m)
-  hex-letter k n m x f = by-eq Hex b k (λ e h t v d sc. subst (λ (c : ℕ). Named ed (c ∷ t) v) (sym e) (x t v d sc)) (λ e. f)
+right-neither : (ed : Edition) (b : ℕ) → Right ed b Neither
+unfolding Right
+right-neither ed b = tt
 
-new-is : (ed : Edition) (b : ℕ) → Simple ed b (newEscape ed b)
-new-is Toml10 b = λ h. absurd (omega arith)
-new-is Toml11 b = one-letter Toml11 b 0x65 0x1B 0 (x65, tt) (λ h. absurd (omega arith))
+new-right : (ed : Edition) (b : ℕ) → Right ed b (newLetter ed b)
+new-right Toml10 b = right-neither Toml10 b
+new-right Toml11 b =
+    by-eq (Right Toml11 b) b 0x65 (right-stands Toml11 0x65 0x1B (x65, tt) b)
+    λ _. by-eq (Right Toml11 b) b 0x78 (right-asks Toml11 0x78 2 (λ t v d sc. (x78 d, tt)) b) (λ _. right-neither Toml11 b)
 
-simple-is : (ed : Edition) (b : ℕ) → Simple ed b (simpleEscape ed b)
-unfolding simpleEscape
-simple-is ed b =
-    let L = one-letter ed b in
-    L 0x22 0x22 _ (x22, tt) (L 0x5C 0x5C _ (x5C, tt) (L 0x62 0x08 _ (x62, tt) (L 0x66 0x0C _ (x66, tt)
-    (L 0x6E 0x0A _ (x6E, tt) (L 0x72 0x0D _ (x72, tt) (L 0x74 0x09 _ (x74, tt) (new-is ed b)))))))
-
-new-hex-is : (ed : Edition) (b : ℕ) → Hex ed b (newHexLength ed b)
-new-hex-is Toml10 b = λ h. absurd (omega arith)
-new-hex-is Toml11 b = hex-letter Toml11 b 0x78 2 0 (λ t v d sc. (x78 d, tt)) (λ h. absurd (omega arith))
-
-hex-is : (ed : Edition) (b : ℕ) → Hex ed b (hexLength ed b)
-unfolding hexLength
-hex-is ed b =
-    hex-letter ed b 0x75 4 _ (λ t v d sc. (x75 d, sc)) (hex-letter ed b 0x55 8 _ (λ t v d sc. (x55 d, sc)) (new-hex-is ed b))
+letter-right : (ed : Edition) (b : ℕ) → Right ed b (letterOf ed b)
+unfolding letterOf
+letter-right ed b =
+    by-eq (Right ed b) b 0x22 (right-stands ed 0x22 0x22 (x22, tt) b)
+    λ _. by-eq (Right ed b) b 0x5C (right-stands ed 0x5C 0x5C (x5C, tt) b)
+    λ _. by-eq (Right ed b) b 0x62 (right-stands ed 0x62 0x08 (x62, tt) b)
+    λ _. by-eq (Right ed b) b 0x66 (right-stands ed 0x66 0x0C (x66, tt) b)
+    λ _. by-eq (Right ed b) b 0x6E (right-stands ed 0x6E 0x0A (x6E, tt) b)
+    λ _. by-eq (Right ed b) b 0x72 (right-stands ed 0x72 0x0D (x72, tt) b)
+    λ _. by-eq (Right ed b) b 0x74 (right-stands ed 0x74 0x09 (x74, tt) b)
+    λ _. by-eq (Right ed b) b 0x75 (right-asks ed 0x75 4 (λ t v d sc. (x75 d, sc)) b)
+    λ _. by-eq (Right ed b) b 0x55 (right-asks ed 0x55 8 (λ t v d sc. (x55 d, sc)) b) (λ _. new-right ed b)
 
 hex-clean : (n at : ℕ) (s : List ℕ) → hexPiece n at s .verdict ≡ Clean → (n ≤ run hexdig s) × Scalar (hexFrom 0 (take n s))
 unfolding hexPiece
@@ -209,10 +209,11 @@ hex-clean n at s =
     by-lt P (run hexdig s) n (λ h e. absurd (wrong≢clean e))
     λ h. cond-case P (isScalar v) (λ is e. (h, true-scalar _ is)) (λ is e. absurd (wrong≢clean e))
 
-hex-front : (ed : Edition) (b n at : ℕ) (s : List ℕ) → 0 < n → Hex ed b n → hexPiece n at s .verdict ≡ Clean → EscapedAt ed (b ∷ s)
-hex-front ed b n at s h f e =
+hex-front : (ed : Edition) (b n at : ℕ) (s : List ℕ) → Right ed b (Asks n) → hexPiece n at s .verdict ≡ Clean → EscapedAt ed (b ∷ s)
+unfolding Right
+hex-front ed b n at s f e =
     let w = hex-clean n at s e in
-    let x = f h (take n s) (hexFrom 0 (take n s)) (digits-of n 0 s (w .0)) (w .1) in
+    let x = f (take n s) (hexFrom 0 (take n s)) (digits-of n 0 s (w .0)) (w .1) in
     record {
       t = b ∷ take n s;
       rest = drop n s;
@@ -222,18 +223,16 @@ hex-front ed b n at s h f e =
       names = x .1;
     }
 
-none-escaped : (ed : Edition) (at : ℕ) → escapePiece ed at [] .verdict ≡ Clean → EscapedAt ed []
-unfolding escapePiece simpleEscape hexLength
-none-escaped Toml10 at e = absurd (wrong≢clean e)
-none-escaped Toml11 at e = absurd (wrong≢clean e)
+simple-front : (ed : Edition) (b v : ℕ) (s : List ℕ) → Right ed b (Stands v) → EscapedAt ed (b ∷ s)
+unfolding Right
+simple-front ed b v s x = record { t = b ∷ []; rest = s; v = v; split = refl; char = x .0; names = x .1 }
 
 pub escape-inv : (ed : Edition) (at : ℕ) (s : List ℕ) → escapePiece ed at s .verdict ≡ Clean → EscapedAt ed s
 unfolding escapePiece
-escape-inv ed at [] = none-escaped ed at
-escape-inv ed at (b ∷ s) =
-    by-lt (IfClean (EscapedAt ed (b ∷ s))) 0 (hexLength ed b) (λ h e. hex-front ed b (hexLength ed b) at s h (hex-is ed b) e)
-    λ h. by-lt (IfClean (EscapedAt ed (b ∷ s))) 0 (simpleEscape ed b) (λ l e. simple-front (simple-is ed b l))
-    (λ l e. absurd (wrong≢clean e))
+escape-inv ed at [] = λ e. absurd (wrong≢clean e)
+escape-inv ed at (b ∷ s) = go (letterOf ed b) (letter-right ed b)
   where
-    simple-front : {v : ℕ} → Named ed (b ∷ []) v → EscapedAt ed (b ∷ s)
-    simple-front {v} x = record { t = b ∷ []; rest = s; v = v; split = refl; char = x .0; names = x .1 }
+    go : (l : Letter) → Right ed b l → escapeBy l at s .verdict ≡ Clean → EscapedAt ed (b ∷ s)
+    go (Stands v) x e = simple-front ed b v s x
+    go (Asks n) x e = hex-front ed b n at s x e
+    go Neither x e = absurd (wrong≢clean e)

@@ -15,7 +15,7 @@ use Rattle.strings.specs.declared.Edition.{Edition}
 use Rattle.strings.specs.declared.Edition.the-variants.{Toml10, Toml11}
 use Rattle.strings.specs.Encodings.{mllPlain, mlbPlain, basicInvalid}
 use Rattle.strings.specs.Pieces.{gives, notes}
-use Rattle.strings.specs.Escapes.{simpleEscape, hexLength, hexValue, hexFrom, hexPiece, escapePiece}
+use Rattle.strings.specs.Escapes.{letterOf, hexValue, hexFrom, hexPiece, escapePiece}
 use Rattle.strings.specs.Bodies.{literalPiece, mlLiteralPiece, basicPiece, skips, escapedNl, escapedMore, mlbContent, mlBasicPiece}
 use Rattle.strings.specs.Marks.{lineEnds, threes, newlineLen, mlStart, mlClosed, mlEnd, mlEnds}
 use Rattle.strings.specs.Decoding.{bytesOf, errorsOf}
@@ -103,7 +103,7 @@ surrogate-derived =
     (HexDigits.more (HexDig.digit {d = 0} refl (omega arith)) HexDigits.stop))))))) BasicChars.stop)
 
 surrogate-error : errorsOf (encoding Toml10 basic) (encodes surrogate) ≡ (10 ∷ 3 ∷ 3 ∷ []) ∷ []
-unfolding encodeScalar errorsOf lineEnds notes basicPiece run basicUnescaped basicInvalid escapePiece hexLength hexPiece hexdig hexFrom hexValue
+unfolding encodeScalar errorsOf lineEnds notes basicPiece run basicUnescaped basicInvalid escapePiece letterOf hexPiece hexdig hexFrom hexValue
 surrogate-error = refl
 
 pub surrogate-not-derived : (v : List ℕ) → Derived Toml10 basic surrogate v → ⊥
@@ -157,7 +157,7 @@ basic-means = (
 )
 
 pub basic-decodes : Decodes Toml10 basic (encodes basic-text) (97 ∷ 0xC3 ∷ 0xA9 ∷ 10 ∷ [])
-unfolding encodeScalar errorsOf bytesOf notes lineEnds gives basicPiece run basicUnescaped escapePiece simpleEscape hexLength hexPiece hexdig hexFrom hexValue
+unfolding encodeScalar errorsOf bytesOf notes lineEnds gives basicPiece run basicUnescaped escapePiece letterOf hexPiece hexdig hexFrom hexValue
 basic-decodes = (refl, refl)
 
 -- ---- an ml-literal string: ''' LF a CR LF ''b''' means a CR LF ''b: the first newline is dropped, the other kept as it is
@@ -225,11 +225,11 @@ later-means = (
 )
 
 pub later-decodes : Decodes Toml11 basic (encodes later-text) (0x1B ∷ 0x41 ∷ [])
-unfolding encodeScalar errorsOf bytesOf notes lineEnds gives basicPiece run basicUnescaped escapePiece simpleEscape hexLength hexPiece hexdig hexFrom hexValue
+unfolding encodeScalar errorsOf bytesOf notes lineEnds gives basicPiece run basicUnescaped escapePiece letterOf hexPiece hexdig hexFrom hexValue
 later-decodes = (refl, refl)
 
 later-error : errorsOf (encoding Toml10 basic) (encodes later-text) ≡ (8 ∷ 2 ∷ 2 ∷ []) ∷ (8 ∷ 4 ∷ 4 ∷ []) ∷ []
-unfolding encodeScalar errorsOf lineEnds notes basicPiece run basicUnescaped basicInvalid escapePiece simpleEscape hexLength
+unfolding encodeScalar errorsOf lineEnds notes basicPiece run basicUnescaped basicInvalid escapePiece letterOf
 later-error = refl
 
 pub later-not-derived : (v : List ℕ) → Derived Toml10 basic later-text v → ⊥

@@ -4,31 +4,31 @@
 use Prim.Native.Nat.{ℕ, _+_, _≤_, _<_}
 use mathlib.Core.Path.{_≡_, refl, sym, ap, _∙_}
 use mathlib.Core.Logic.{⊎-elim}
-use mathlib.Core.Bool.{Bool, true, false, _&&_, _||_}
+use mathlib.Core.Bool.{Bool, true, false, _&&_}
 use mathlib.Core.List.{List}
 use native.Mathlib.Omega.{arith}
-use lib.Dec.{T, eqb, leb}
+use lib.Dec.{leb}
 use lib.ListN.{take, drop, getD}
 use lib.Seq.{getD-drop}
-use borrow.Author.Tests.{eq-eqb, ne-eqb, eqb-true, lt-ltb, le-ltb, leb-true, le-leb, lt-leb}
+use borrow.Author.Tests.{eq-eqb, ne-eqb, leb-true, le-leb, lt-leb}
 use Rattle.classes.specs.Classes.{wschar, basicUnescaped, mlbUnescaped, hexdig}
 use Rattle.classes.specs.Runs.{run}
-use Rattle.classes.proofs.ByteTable.{allFrom, same, class-is}
-use Rattle.classes.proofs.Conds.{cond-case, by-lt, by-eq, both-left, both-right, or-inv}
+use Rattle.classes.proofs.Conds.{cond-case, by-eq, both-left, both-right}
 use Rattle.classes.proofs.RunLaws.{run-le, run-first}
 use Rattle.text.specs.Utf8Read.{isScalar}
 use Rattle.strings.specs.declared.Edition.{Edition}
-use Rattle.strings.specs.declared.Edition.the-variants.{Toml10, Toml11}
+use Rattle.strings.specs.declared.Letter.{Letter}
+use Rattle.strings.specs.declared.Letter.the-variants.{Stands, Asks, Neither}
 use Rattle.strings.specs.declared.Encoding.{Encoding}
 use Rattle.strings.specs.declared.Encoding.the-variants.{LiteralString, BasicString, MlLiteralString, MlBasicString, UnquotedKey}
 use Rattle.strings.specs.Encodings.{mlbPlain, plain}
 use Rattle.strings.specs.Pieces.{copyPiece, charPiece}
-use Rattle.strings.specs.Escapes.{simpleEscape, hexLength, hexFrom, escapePiece}
+use Rattle.strings.specs.Escapes.{letterAt, hexFrom, escapePiece}
 use Rattle.strings.specs.Bodies.{basicPiece, skips, mlbContent, mlBasicPiece, pieceOf}
-use Rattle.strings.proofs.EscapeLaws.{simple-ascii, hex-letter, hex-char, escape-hex, escape-simple}
+use Rattle.strings.proofs.EscapeLaws.{stands-fit, asks-fit, hex-char, escape-hex, escape-simple}
 use Rattle.strings.proofs.PlainLaws.{plain-piece}
 use Rattle.pieces.specs.declared.string.Escape.{Escape}
-use Rattle.pieces.specs.GoodEscapes.{escapeTo, noEscape, goodHex, goodEscape, escapeIn, escapeAt}
+use Rattle.pieces.specs.GoodEscapes.{escapeTo, noEscape, goodHex, goodBy, goodEscape, escapeIn, escapeAt}
 use Rattle.pieces.proofs.ScanLaws.{front-run}
 
 -- ---- escapes, case by case
@@ -49,20 +49,19 @@ module _ (n : ℕ) (s : List ℕ) where
   unfolding goodHex
   good-no-char v h e t = rw (le-leb _ _ h, ← e, t)
 
--- behind the backslash: c is the letter's character, n how many digits it asks for
-module _ (v : Edition) (s : List ℕ) (c : ℕ) (is : c ≡ simpleEscape v (getD s 0 0)) where
-  pub good-simple : 0 < c → escapeTo 2 c ≡ goodEscape v s
+-- behind the backslash, by what its letter is for
+module _ (v : Edition) (s : List ℕ) where
+  pub good-simple : (c : ℕ) → letterAt v s ≡ Stands c → escapeTo 2 c ≡ goodEscape v s
   unfolding goodEscape
-  good-simple h = rw (← is, lt-ltb _ _ h)
+  good-simple c e = rw e
 
-  module _ (zero : c ≤ 0) (n : ℕ) (asked : n ≡ hexLength v (getD s 0 0)) where
-    pub good-digits : 0 < n → goodHex n (drop 1 s) ≡ goodEscape v s
-    unfolding goodEscape
-    good-digits h = rw (← is, le-ltb _ _ zero, ← asked, lt-ltb _ _ h)
+  pub good-digits : (n : ℕ) → letterAt v s ≡ Asks n → goodHex n (drop 1 s) ≡ goodEscape v s
+  unfolding goodEscape
+  good-digits n e = rw e
 
-    pub good-neither : n ≤ 0 → noEscape ≡ goodEscape v s
-    unfolding goodEscape
-    good-neither h = rw (← is, le-ltb _ _ zero, ← asked, le-ltb _ _ h)
+  pub good-neither : letterAt v s ≡ Neither → noEscape ≡ goodEscape v s
+  unfolding goodEscape
+  good-neither e = rw e
 
 -- in front
 module _ (e : Encoding) (s : List ℕ) where
@@ -103,19 +102,6 @@ module _ (v : Edition) (at : ℕ) (s : List ℕ) (backslash : getD s 0 0 ≡ 0x5
 
 -- ---- an escape that is found is the rule's
 
--- a letter that has a character asks for no digits
-one-kind : (v : Edition) → T (allFrom (λ b. same true (eqb (simpleEscape v b) 0 || eqb (hexLength v b) 0)) 0 0x80)
-unfolding simpleEscape hexLength
-one-kind Toml10 = tt
-one-kind Toml11 = tt
-
-no-digits : (v : Edition) (b : ℕ) → 0 < simpleEscape v b → hexLength v b ≤ 0
-no-digits v b h =
-    let test = class-is true (λ b. eqb (simpleEscape v b) 0 || eqb (hexLength v b) 0) 0 0x80 (one-kind v) b (omega arith)
-    (simple-ascii v b h .1) in
-    or-inv (eqb (simpleEscape v b) 0) (eqb (hexLength v b) 0) (sym test)
-    (λ e. omega (arith, eqb-true (simpleEscape v b) 0 e)) (λ e. omega (arith, eqb-true (hexLength v b) 0 e))
-
 letter-kept : (b : ℕ) → 0x22 ≤ b → skips b ≡ false
 unfolding skips wschar
 letter-kept b h =
@@ -135,32 +121,28 @@ module _ (v : Edition) (at : ℕ) (s : List ℕ) where
   abbrev IfFound : Escape → Type 0
   IfFound x = 0 < x .take → Found v at s x
 
-  good-hex-found : 0 < hexLength v (getD s 0 0) → IfFound (goodHex (hexLength v (getD s 0 0)) (drop 1 s))
+  good-hex-found : (n : ℕ) → letterAt v s ≡ Asks n → IfFound (goodHex n (drop 1 s))
   unfolding goodHex
-  good-hex-found h =
-      let n = hexLength v (getD s 0 0) in
+  good-hex-found n e =
       let c = hexFrom 0 (take n (drop 1 s)) in
       let enough = leb n (run hexdig (drop 1 s)) in
       cond-case IfFound (enough && isScalar c)
       (λ t z.
       let all = leb-true _ _ (both-left enough (isScalar c) t) in
       record {
-        letter = hex-letter v (getD s 0 0) h .0;
-        piece = hex-char n at (drop 1 s) c all refl (both-right enough (isScalar c) t) ∙ escape-hex v at s n refl h;
+        letter = asks-fit v s n e .0 .visible;
+        piece = hex-char n at (drop 1 s) c all refl (both-right enough (isScalar c) t) ∙ escape-hex v at s n e;
       })
       (λ t z. absurd (omega arith))
 
   good-found : IfFound (goodEscape v s)
   unfolding goodEscape
-  good-found =
-      let b = getD s 0 0 in
-      by-lt IfFound 0 (simpleEscape v b)
-      (λ h z.
-      record {
-        letter = simple-ascii v b h .0;
-        piece = escape-simple v at s (hexLength v b) (simpleEscape v b) refl (no-digits v b h) refl h;
-      })
-      λ h. by-lt IfFound 0 (hexLength v b) good-hex-found (λ l z. absurd (omega arith))
+  good-found = go (letterAt v s) refl
+    where
+      go : (l : Letter) → letterAt v s ≡ l → IfFound (goodBy l (drop 1 s))
+      go (Stands c) e z = record { letter = stands-fit v s c e .0 .visible; piece = escape-simple v at s c e }
+      go (Asks n) e z = good-hex-found n e z
+      go Neither e z = absurd (omega arith)
 
 module _ (d : Bool) (at : ℕ) (s : List ℕ) (backslash : getD s 0 0 ≡ 0x5C) where
   piece-in : (e : Encoding) → 0 < escapeIn e s .take → pieceOf e d at s ≡ charPiece (escapeIn e s .take) (escapeIn e s .char)

@@ -4,15 +4,17 @@
 use Prim.Native.Nat.{ℕ, _+_}
 use mathlib.Core.Bool.{cond, _&&_}
 use mathlib.Core.List.{List}
-use lib.Dec.{eqb, ltb, leb}
+use lib.Dec.{eqb, leb}
 use lib.ListN.{take, drop, getD}
 use Rattle.classes.specs.Classes.{hexdig}
 use Rattle.classes.specs.Runs.{run}
 use Rattle.text.specs.Utf8Read.{isScalar}
 use Rattle.strings.specs.declared.Edition.{Edition}
+use Rattle.strings.specs.declared.Letter.{Letter}
+use Rattle.strings.specs.declared.Letter.the-variants.{Stands, Asks, Neither}
 use Rattle.strings.specs.declared.Encoding.{Encoding}
 use Rattle.strings.specs.declared.Encoding.the-variants.{LiteralString, BasicString, MlLiteralString, MlBasicString, UnquotedKey}
-use Rattle.strings.specs.Escapes.{simpleEscape, hexLength, hexFrom}
+use Rattle.strings.specs.Escapes.{letterAt, hexFrom}
 use Rattle.pieces.specs.declared.string.Escape.{Escape}
 
 -- n bytes that stand for the character c; none
@@ -27,11 +29,15 @@ unfoldable pub goodHex : ℕ → List ℕ → Escape
 goodHex n s =
     cond (leb n (run hexdig s) && isScalar (hexFrom 0 (take n s))) (escapeTo (2 + n) (hexFrom 0 (take n s))) noEscape
 
+-- by the letter behind the backslash, with s behind that
+abbrev pub goodBy : Letter → List ℕ → Escape
+goodBy (Stands c) s = escapeTo 2 c
+goodBy (Asks n) s = goodHex n s
+goodBy Neither s = noEscape
+
 -- behind the backslash
 unfoldable pub goodEscape : Edition → List ℕ → Escape
-goodEscape v s =
-    cond (ltb 0 (simpleEscape v (getD s 0 0))) (escapeTo 2 (simpleEscape v (getD s 0 0)))
-    (cond (ltb 0 (hexLength v (getD s 0 0))) (goodHex (hexLength v (getD s 0 0)) (drop 1 s)) noEscape)
+goodEscape v s = goodBy (letterAt v s) (drop 1 s)
 
 -- in front of s
 unfoldable pub escapeIn : Encoding → List ℕ → Escape

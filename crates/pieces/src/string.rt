@@ -8,7 +8,7 @@ ghost use lib.ListN.{length};
 ghost use Rattle.classes.specs.Classes.{literalChar, basicUnescaped, unquotedChar, hexdig};
 ghost use Rattle.classes.specs.Runs.{run};
 ghost use Rattle.strings.specs.Encodings.{mllPlain, mlbPlain, basicInvalid, mlbInvalid};
-ghost use Rattle.strings.specs.Escapes.{newEscape, simpleEscape, newHexLength, hexLength, hexValue, hexPiece, escapePiece};
+ghost use Rattle.strings.specs.Escapes.{newLetter, letterOf, letterAt, hexValue, hexPiece, escapePiece};
 ghost use Rattle.strings.specs.Bodies.{literalPiece, mlLiteralPiece, basicPiece, skips, escapedNl, escapedMore, mlbContent, mlBasicPiece, keyPiece};
 ghost use Rattle.strings.specs.Marks.{newlineLen};
 ghost use Rattle.pieces.specs.GoodEscapes.{noEscape, goodHex, goodEscape, escapeAt};
@@ -29,6 +29,7 @@ use std::num::wrapping_sub_u8;
 use strings::DecodeError;
 use strings::Edition;
 use strings::Encoding;
+use strings::Letter;
 use strings::Piece;
 use text::is_scalar;
 
@@ -142,16 +143,12 @@ pub fn escape_at(e: Encoding, s: &[u8]) -> Escape
 fn good_escape(v: Edition, s: &[u8]) -> Escape
     ensures { λ r. ⌜ r ≡ goodEscape v (now (s .entry)) ⌝ }
 {
-    let b = peek(s, 0);
-    let c = simple_escape(v, b);
-    if 0 < c {
-        return Escape { take: 2, char: c };
+    let letter = letter_at(v, s);
+    match letter {
+        Letter::Stands(c) => Escape { take: 2, char: c },
+        Letter::Asks(digits) => good_hex(&s[1..], digits),
+        Letter::Neither => no_escape(),
     }
-    let digits = hex_length(v, b);
-    if 0 < digits {
-        return good_hex(&s[1..], digits);
-    }
-    no_escape()
 }
 
 // An escape whose digits s begins with.
@@ -178,62 +175,52 @@ fn escape_seq_char(v: Edition, s: &[u8], at: usize) -> Piece
     requires { ⌜ at < 2 ^ 62 ⌝ }
     ensures { λ r. ⌜ r ≡ escapePiece v at (now (s .entry)) ⌝ }
 {
-    let b = peek(s, 0);
-    let n = hex_length(v, b);
-    if 0 < n {
-        return hexescape(&s[1..], n, at);
+    let letter = letter_at(v, s);
+    match letter {
+        Letter::Stands(c) => char_piece(2, c),
+        Letter::Asks(n) => hexescape(&s[1..], n, at),
+        Letter::Neither => bad_char(1, 0x5C, DecodeError::MissingEscape, at + 1),
     }
-    let c = simple_escape(v, b);
-    if 0 < c {
-        return char_piece(2, c);
-    }
-    bad_char(1, 0x5C, DecodeError::MissingEscape, at + 1)
 }
 
-// How many digits the letter asks for, 0 for none.
-fn hex_length(v: Edition, b: u8) -> usize
-    ensures { λ r. ⌜ r ≡ hexLength v b ⌝ }
+// What the first byte of s is for, behind a backslash.
+fn letter_at(v: Edition, s: &[u8]) -> Letter
+    ensures { λ r. ⌜ r ≡ letterAt v (now (s .entry)) ⌝ }
+{
+    if s.len() == 0 {
+        return Letter::Neither;
+    }
+    letter_of(v, s[0])
+}
+
+fn letter_of(v: Edition, b: u8) -> Letter
+    ensures { λ r. ⌜ r ≡ letterOf v b ⌝ }
 {
     match b {
-        b'u' => 4,
-        b'U' => 8,
-        _ => new_hex_length(v, b),
+        b'b' => Letter::Stands(0x08),
+        b'f' => Letter::Stands(0x0C),
+        b'n' => Letter::Stands(0x0A),
+        b'r' => Letter::Stands(0x0D),
+        b't' => Letter::Stands(0x09),
+        b'u' => Letter::Asks(4),
+        b'U' => Letter::Asks(8),
+        b'\\' => Letter::Stands(0x5C),
+        b'"' => Letter::Stands(0x22),
+        _ => new_letter(v, b),
     }
 }
 
 // What TOML 1.1 adds to that.
-fn new_hex_length(v: Edition, b: u8) -> usize
-    ensures { λ r. ⌜ r ≡ newHexLength v b ⌝ }
+fn new_letter(v: Edition, b: u8) -> Letter
+    ensures { λ r. ⌜ r ≡ newLetter v b ⌝ }
 {
     match v {
-        Edition::Toml10 => 0,
-        Edition::Toml11 => { if b == b'x' { 2 } else { 0 } }
-    }
-}
-
-// The character of the letter, 0 for none.
-fn simple_escape(v: Edition, b: u8) -> u32
-    ensures { λ r. ⌜ r ≡ simpleEscape v b ⌝ }
-{
-    match b {
-        b'b' => 0x08,
-        b'f' => 0x0C,
-        b'n' => 0x0A,
-        b'r' => 0x0D,
-        b't' => 0x09,
-        b'\\' => 0x5C,
-        b'"' => 0x22,
-        _ => new_escape(v, b),
-    }
-}
-
-// What TOML 1.1 adds to that.
-fn new_escape(v: Edition, b: u8) -> u32
-    ensures { λ r. ⌜ r ≡ newEscape v b ⌝ }
-{
-    match v {
-        Edition::Toml10 => 0,
-        Edition::Toml11 => { if b == b'e' { 0x1B } else { 0 } }
+        Edition::Toml10 => Letter::Neither,
+        Edition::Toml11 => match b {
+            b'e' => Letter::Stands(0x1B),
+            b'x' => Letter::Asks(2),
+            _ => Letter::Neither,
+        },
     }
 }
 

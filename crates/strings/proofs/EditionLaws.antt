@@ -3,15 +3,14 @@
 -- Assumes nothing.
 use Prim.Native.Nat.{ℕ, zero, suc, pred, _<_}
 use mathlib.Core.Path.{_≡_, refl, sym, ap, _∙_}
+use mathlib.Core.Logic.{_⊎_, inl, inr}
 use mathlib.Core.Bool.{Bool, true, false, cond, _&&_}
 use mathlib.Core.List.{List, [], _∷_, _++_}
 use native.Mathlib.Omega.{arith}
-use lib.Dec.{eqb, ltb}
+use lib.Dec.{eqb}
 use lib.ListN.{length, drop, getD, length-append}
-use borrow.Author.Tests.{lt-ltb}
 use Rattle.classes.specs.Classes.{basicUnescaped, hexdig}
 use Rattle.classes.specs.Runs.{run}
-use Rattle.classes.proofs.Conds.{cond-case, by-lt, by-eq}
 use Rattle.text.specs.Utf8.{encodeScalar}
 use Rattle.text.specs.declared.refusal.Refusal.{Refusal}
 use Rattle.text.specs.declared.refusal.Refusal.the-variants.{NoKind}
@@ -21,11 +20,13 @@ use Rattle.strings.specs.declared.Encoding.{Encoding}
 use Rattle.strings.specs.declared.Encoding.the-variants.{LiteralString, BasicString, MlLiteralString, MlBasicString, UnquotedKey}
 use Rattle.strings.specs.declared.Choice.{Choice}
 use Rattle.strings.specs.declared.Choice.the-variants.{Known, Unknown}
+use Rattle.strings.specs.declared.Letter.{Letter}
+use Rattle.strings.specs.declared.Letter.the-variants.{Stands, Asks, Neither}
 use Rattle.strings.specs.declared.Piece.{Piece}
 use Rattle.strings.specs.declared.Verdict.the-variants.{Clean}
 use Rattle.strings.specs.Encodings.{mlbPlain, basicInvalid, choiceIn, choiceBy, markError}
 use Rattle.strings.specs.Pieces.{gives, notes, notesAt, Pieces, collect, charPiece, copyPiece}
-use Rattle.strings.specs.Escapes.{newEscape, simpleEscape, newHexLength, hexLength, hexValue, hexFrom, hexPiece, escapePiece}
+use Rattle.strings.specs.Escapes.{newLetter, letterOf, letterAt, hexValue, hexFrom, hexPiece, escapeBy, escapePiece}
 use Rattle.strings.specs.Bodies.{basicPiece, skips, escapedNl, escapedMore, mlbContent, mlBasicPiece, pieceOf}
 use Rattle.strings.specs.Marks.{lineEnds, endsOf, bodyOf}
 use Rattle.strings.specs.Decoding.{bytesOf, missing, errorsOf, bytesBy, errorsBy}
@@ -33,48 +34,33 @@ use Rattle.strings.proofs.PieceLaws.{wrong≢clean, notes-clean}
 
 -- ---- letters: those of 1.0 mean the same in 1.1
 
-module _ (b : ℕ) where
-  hex-same : 0 < hexLength Toml10 b → hexLength Toml11 b ≡ hexLength Toml10 b
-  unfolding hexLength
-  hex-same h = go (eqb b 0x75) (eqb b 0x55) h
-    where
-      go : (x y : Bool) → 0 < cond x 4 (cond y 8 0) → cond x 4 (cond y 8 (newHexLength Toml11 b)) ≡ cond x 4 (cond y 8 0)
-      go true y h = refl
-      go false true h = refl
-      go false false h = absurd (omega arith)
+same-letter : (b : ℕ) → (letterOf Toml10 b ≡ Neither) ⊎ (letterOf Toml11 b ≡ letterOf Toml10 b)
+unfolding letterOf
+same-letter b =
+    go (eqb b 0x22) (eqb b 0x5C) (eqb b 0x62) (eqb b 0x66) (eqb b 0x6E) (eqb b 0x72) (eqb b 0x74) (eqb b 0x75) (eqb b 0x55)
+    (newLetter Toml11 b)
+  where
+    table : (p q r s t u v w x : Bool) → Letter → Letter
+    table p q r s t u v w x l =
+        cond p (Stands 0x22) (cond q (Stands 0x5C) (cond r (Stands 0x08) (cond s (Stands 0x0C) (cond t (Stands 0x0A)
+        (cond u (Stands 0x0D) (cond v (Stands 0x09) (cond w (Asks 4) (cond x (Asks 8) l))))))))
 
-  -- a letter with a character asks for no digits
-  hex-none : 0 < simpleEscape Toml10 b → hexLength Toml11 b ≡ 0
-  unfolding simpleEscape hexLength
-  hex-none =
-      let C : ℕ → Type 0 = λ (c : ℕ). 0 < c → hexLength Toml11 b ≡ 0 in
-      by-eq C b 0x22 (λ e z. rw e)
-      λ e. by-eq C b 0x5C (λ e z. rw e)
-      λ e. by-eq C b 0x62 (λ e z. rw e)
-      λ e. by-eq C b 0x66 (λ e z. rw e)
-      λ e. by-eq C b 0x6E (λ e z. rw e)
-      λ e. by-eq C b 0x72 (λ e z. rw e)
-      λ e. by-eq C b 0x74 (λ e z. rw e) (λ e z. absurd (omega arith))
+    go : (p q r s t u v w x : Bool) (l : Letter)
+        → (table p q r s t u v w x Neither ≡ Neither) ⊎ (table p q r s t u v w x l ≡ table p q r s t u v w x Neither)
+    go true q r s t u v w x l = inr refl
+    go false true r s t u v w x l = inr refl
+    go false false true s t u v w x l = inr refl
+    go false false false true t u v w x l = inr refl
+    go false false false false true u v w x l = inr refl
+    go false false false false false true v w x l = inr refl
+    go false false false false false false true w x l = inr refl
+    go false false false false false false false true x l = inr refl
+    go false false false false false false false false true l = inr refl
+    go false false false false false false false false false l = inl refl
 
-  simple-same : 0 < simpleEscape Toml10 b → simpleEscape Toml11 b ≡ simpleEscape Toml10 b
-  unfolding simpleEscape
-  simple-same h =
-      go (eqb b 0x22) (eqb b 0x5C) (eqb b 0x62) (eqb b 0x66) (eqb b 0x6E) (eqb b 0x72) (eqb b 0x74) h
-    where
-      letters : (p q r s t u v : Bool) → ℕ → ℕ
-      letters p q r s t u v n =
-          cond p 0x22 (cond q 0x5C (cond r 0x08 (cond s 0x0C (cond t 0x0A (cond u 0x0D (cond v 0x09 n))))))
-
-      go : (p q r s t u v : Bool) → 0 < letters p q r s t u v 0
-          → letters p q r s t u v (newEscape Toml11 b) ≡ letters p q r s t u v 0
-      go true q r s t u v h = refl
-      go false true r s t u v h = refl
-      go false false true s t u v h = refl
-      go false false false true t u v h = refl
-      go false false false false true u v h = refl
-      go false false false false false true v h = refl
-      go false false false false false false true h = refl
-      go false false false false false false false h = absurd (omega arith)
+same-letter-at : (s : List ℕ) → (letterAt Toml10 s ≡ Neither) ⊎ (letterAt Toml11 s ≡ letterAt Toml10 s)
+same-letter-at [] = inl refl
+same-letter-at (b ∷ s) = same-letter b
 
 -- ---- pieces: one without an error under 1.0 is the same under 1.1
 
@@ -84,13 +70,11 @@ Stays r p = p .verdict ≡ Clean → r ≡ p
 
 escape-same : (at : ℕ) (s : List ℕ) → Stays (escapePiece Toml11 at s) (escapePiece Toml10 at s)
 unfolding escapePiece
-escape-same at s =
-    let b = getD s 0 0 in
-    by-lt (Stays (escapePiece Toml11 at s)) 0 (hexLength Toml10 b)
-    (λ h e. rw (hex-same b h, lt-ltb _ _ h))
-    λ h. by-lt (Stays (escapePiece Toml11 at s)) 0 (simpleEscape Toml10 b)
-    (λ l e. rw (hex-none b l, simple-same b l, lt-ltb _ _ l))
-    (λ l e. absurd (wrong≢clean e))
+escape-same at s = go (letterAt Toml10 s) (same-letter-at s)
+  where
+    go : (l : Letter) → (l ≡ Neither) ⊎ (letterAt Toml11 s ≡ l) → Stays (escapeBy (letterAt Toml11 s) at (drop 1 s)) (escapeBy l at (drop 1 s))
+    go l (inl e) h = absurd (wrong≢clean (rw e at h))
+    go l (inr e) h = rw e
 
 stays-self : (p : Piece) → Stays p p
 stays-self p e = refl
@@ -221,5 +205,5 @@ escape-e = 0x22 ∷ 0x5C ∷ 0x65 ∷ 0x22 ∷ []
 
 pub later-only : (errorsBy (choiceBy 11 34) escape-e ≡ []) × (bytesBy (choiceBy 11 34) escape-e ≡ 0x1B ∷ [])
     × (errorsBy (choiceBy 10 34) escape-e ≡ (8 ∷ 2 ∷ 2 ∷ []) ∷ [])
-unfolding choiceBy choiceIn errorsOf bytesOf lineEnds notes gives basicPiece run basicUnescaped escapePiece simpleEscape hexLength encodeScalar
+unfolding choiceBy choiceIn errorsOf bytesOf lineEnds notes gives basicPiece run basicUnescaped escapePiece letterOf encodeScalar
 later-only = (refl, refl, refl)

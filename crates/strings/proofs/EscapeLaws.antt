@@ -1,7 +1,7 @@
 -- The escapes: their pieces case by case, what their letters and digits are, and that the pieces are fine.
 -- Assumes nothing.
 use Prim.Native.Nat.{ℕ, suc, _+_, _*_, _≤_, _<_}
-use mathlib.Core.Path.{_≡_, refl, ap}
+use mathlib.Core.Path.{_≡_, refl, ap, subst}
 use mathlib.Core.Logic.{inl, inr}
 use mathlib.Core.Bool.{true, false}
 use mathlib.Core.List.{List, [], _∷_, _++_}
@@ -13,52 +13,89 @@ use borrow.Author.Tests.{lt-ltb, le-ltb}
 use Rattle.classes.specs.Classes.{hexdig}
 use Rattle.classes.specs.Runs.{run}
 use Rattle.classes.proofs.Conds.{cond-case, by-lt, by-eq}
-use Rattle.classes.proofs.RunLaws.{run-le, there}
+use Rattle.classes.proofs.RunLaws.{run-le}
 use Rattle.text.specs.Utf8.{encodeScalar}
 use Rattle.text.specs.Utf8Read.{isScalar}
 use Rattle.text.proofs.EncodeLaws.{encode-1, encode-length, true-scalar}
 use Rattle.strings.specs.declared.Edition.{Edition}
 use Rattle.strings.specs.declared.Edition.the-variants.{Toml10, Toml11}
+use Rattle.strings.specs.declared.Letter.{Letter}
+use Rattle.strings.specs.declared.Letter.the-variants.{Stands, Asks, Neither}
 use Rattle.strings.specs.declared.Piece.{Piece}
 use Rattle.strings.specs.declared.DecodeError.the-variants.{MissingEscape, FewDigits, NotScalar}
 use Rattle.strings.specs.Pieces.{charPiece, badChar}
-use Rattle.strings.specs.Escapes.{newEscape, simpleEscape, newHexLength, hexLength, hexValue, hexFrom, hexPiece, escapePiece}
+use Rattle.strings.specs.Escapes.{newLetter, letterOf, letterAt, hexValue, hexFrom, hexPiece, escapeBy, escapePiece}
 use Rattle.strings.proofs.Fine.{FineAt, fine-char, fine-bad-char}
 
 -- ---- letters
 
--- a letter that has a character is one byte that is there, and so is the character
-abbrev Simple : ℕ → ℕ → Type 0
-Simple b c = 0 < c → (0x22 ≤ b) × (b < 0x80) × (c < 0x80)
+-- a letter that is for something is one visible byte; a character that it stands for is ASCII, and digits that it asks for
+-- are two to eight
+unfoldable Fit : ℕ → Letter → Type 0
+Fit b (Stands c) = (0x22 ≤ b) × (b < 0x80) × (c < 0x80)
+Fit b (Asks n) = (0x22 ≤ b) × (b < 0x80) × (2 ≤ n) × (n ≤ 8)
+Fit b Neither = Unit {0}
 
-new-ascii : (v : Edition) (b : ℕ) → Simple b (newEscape v b)
-new-ascii Toml10 b = λ z. omega arith
-new-ascii Toml11 b = by-eq (Simple b) b 0x65 (λ e z. omega arith) (λ e z. omega arith)
+fit-stands : (b c : ℕ) → 0x22 ≤ b → b < 0x80 → c < 0x80 → Fit b (Stands c)
+unfolding Fit
+fit-stands b c h l k = (h, l, k)
 
-pub simple-ascii : (v : Edition) (b : ℕ) → Simple b (simpleEscape v b)
-unfolding simpleEscape
-simple-ascii v b =
-    by-eq (Simple b) b 0x22 (λ e z. omega arith)
-    λ e. by-eq (Simple b) b 0x5C (λ e z. omega arith)
-    λ e. by-eq (Simple b) b 0x62 (λ e z. omega arith)
-    λ e. by-eq (Simple b) b 0x66 (λ e z. omega arith)
-    λ e. by-eq (Simple b) b 0x6E (λ e z. omega arith)
-    λ e. by-eq (Simple b) b 0x72 (λ e z. omega arith)
-    λ e. by-eq (Simple b) b 0x74 (λ e z. omega arith) (λ e. new-ascii v b)
+fit-asks : (b n : ℕ) → 0x22 ≤ b → b < 0x80 → 2 ≤ n → n ≤ 8 → Fit b (Asks n)
+unfolding Fit
+fit-asks b n h l k m = (h, l, k, m)
 
--- a letter that asks for digits asks for two to eight
-abbrev Hex : ℕ → ℕ → Type 0
-Hex b n = 0 < n → (0x22 ≤ b) × (b < 0x80) × (2 ≤ n) × (n ≤ 8)
+fit-neither : (b : ℕ) → Fit b Neither
+unfolding Fit
+fit-neither b = tt
 
-new-letter : (v : Edition) (b : ℕ) → Hex b (newHexLength v b)
-new-letter Toml10 b = λ z. omega arith
-new-letter Toml11 b = by-eq (Hex b) b 0x78 (λ e z. omega arith) (λ e z. omega arith)
+new-fit : (v : Edition) (b : ℕ) → Fit b (newLetter v b)
+new-fit Toml10 b = fit-neither b
+new-fit Toml11 b =
+    by-eq (Fit b) b 0x65 (λ e. fit-stands b 0x1B (omega arith) (omega arith) (omega arith))
+    λ _. by-eq (Fit b) b 0x78 (λ e. fit-asks b 2 (omega arith) (omega arith) (omega arith) (omega arith)) (λ _. fit-neither b)
 
-pub hex-letter : (v : Edition) (b : ℕ) → Hex b (hexLength v b)
-unfolding hexLength
-hex-letter v b =
-    by-eq (Hex b) b 0x75 (λ e z. omega arith)
-    λ e. by-eq (Hex b) b 0x55 (λ e z. omega arith) (λ e. new-letter v b)
+letter-fit : (v : Edition) (b : ℕ) → Fit b (letterOf v b)
+unfolding letterOf
+letter-fit v b =
+    by-eq (Fit b) b 0x22 (λ e. fit-stands b 0x22 (omega arith) (omega arith) (omega arith))
+    λ _. by-eq (Fit b) b 0x5C (λ e. fit-stands b 0x5C (omega arith) (omega arith) (omega arith))
+    λ _. by-eq (Fit b) b 0x62 (λ e. fit-stands b 0x08 (omega arith) (omega arith) (omega arith))
+    λ _. by-eq (Fit b) b 0x66 (λ e. fit-stands b 0x0C (omega arith) (omega arith) (omega arith))
+    λ _. by-eq (Fit b) b 0x6E (λ e. fit-stands b 0x0A (omega arith) (omega arith) (omega arith))
+    λ _. by-eq (Fit b) b 0x72 (λ e. fit-stands b 0x0D (omega arith) (omega arith) (omega arith))
+    λ _. by-eq (Fit b) b 0x74 (λ e. fit-stands b 0x09 (omega arith) (omega arith) (omega arith))
+    λ _. by-eq (Fit b) b 0x75 (λ e. fit-asks b 4 (omega arith) (omega arith) (omega arith) (omega arith))
+    λ _. by-eq (Fit b) b 0x55 (λ e. fit-asks b 8 (omega arith) (omega arith) (omega arith) (omega arith)) (λ _. new-fit v b)
+
+-- the letter in front, and none
+pub letter-none : (v : Edition) (s : List ℕ) → length s ≡ 0 → Neither ≡ letterAt v s
+letter-none v [] h = refl
+letter-none v (b ∷ s) h = absurd (omega arith)
+
+pub letter-some : (v : Edition) (s : List ℕ) → 0 < length s → letterOf v (getD s 0 0) ≡ letterAt v s
+letter-some v [] h = absurd (omega arith)
+letter-some v (b ∷ s) h = refl
+
+-- a byte is there, and it is a visible one of ASCII
+pub record Visible (s : List ℕ) : Type 0 where
+  pub some : 0 < length s
+  pub visible : 0x22 ≤ getD s 0 0
+  pub low : getD s 0 0 < 0x80
+
+module _ (v : Edition) where
+  pub stands-fit : (s : List ℕ) (c : ℕ) → letterAt v s ≡ Stands c → Visible s × (c < 0x80)
+  unfolding Fit
+  stands-fit [] c e = let z : _≡_ {A = ℕ} 0 1 = cc in absurd (omega arith)
+  stands-fit (b ∷ s) c e =
+      let f : Fit b (Stands c) = subst (Fit b) e (letter-fit v b) in
+      (record { some = omega arith; visible = f .0; low = f .1 }, f .2)
+
+  pub asks-fit : (s : List ℕ) (n : ℕ) → letterAt v s ≡ Asks n → Visible s × (2 ≤ n) × (n ≤ 8)
+  unfolding Fit
+  asks-fit [] n e = let z : _≡_ {A = ℕ} 0 1 = cc in absurd (omega arith)
+  asks-fit (b ∷ s) n e =
+      let f : Fit b (Asks n) = subst (Fit b) e (letter-fit v b) in
+      (record { some = omega arith; visible = f .0; low = f .1 }, f .2, f .3)
 
 -- ---- digits
 
@@ -92,19 +129,17 @@ module _ (n at : ℕ) (s : List ℕ) where
   hex-none v h e t = rw (le-ltb _ _ h, ← e, t)
 
 module _ (v : Edition) (at : ℕ) (s : List ℕ) where
-  pub escape-hex : (n : ℕ) → n ≡ hexLength v (getD s 0 0) → 0 < n → hexPiece n at (drop 1 s) ≡ escapePiece v at s
+  pub escape-hex : (n : ℕ) → letterAt v s ≡ Asks n → hexPiece n at (drop 1 s) ≡ escapePiece v at s
   unfolding escapePiece
-  escape-hex n e h = rw (← e, lt-ltb _ _ h)
+  escape-hex n e = rw e
 
-  pub escape-simple : (n c : ℕ) → n ≡ hexLength v (getD s 0 0) → n ≤ 0 → c ≡ simpleEscape v (getD s 0 0) → 0 < c
-      → charPiece 2 c ≡ escapePiece v at s
+  pub escape-simple : (c : ℕ) → letterAt v s ≡ Stands c → charPiece 2 c ≡ escapePiece v at s
   unfolding escapePiece
-  escape-simple n c e h f l = rw (← e, le-ltb _ _ h, ← f, lt-ltb _ _ l)
+  escape-simple c e = rw e
 
-  pub escape-none : (n c : ℕ) → n ≡ hexLength v (getD s 0 0) → n ≤ 0 → c ≡ simpleEscape v (getD s 0 0) → c ≤ 0
-      → badChar 1 0x5C MissingEscape (at + 1) ≡ escapePiece v at s
+  pub escape-none : letterAt v s ≡ Neither → badChar 1 0x5C MissingEscape (at + 1) ≡ escapePiece v at s
   unfolding escapePiece
-  escape-none n c e h f l = rw (← e, le-ltb _ _ h, ← f, le-ltb _ _ l)
+  escape-none e = rw e
 
 -- ---- they are fine
 
@@ -130,19 +165,16 @@ module _ (n at : ℕ) (s t : List ℕ) (two : 2 ≤ n) (long : 2 + length t ≤ 
 module _ (v : Edition) (at : ℕ) (s t : List ℕ) (long : length s ≡ suc (length t)) where
   pub escape-fine : FineAt (escapePiece v at t) s
   unfolding escapePiece
-  escape-fine =
-      let b = getD t 0 0 in
-      by-lt (λ (p : Piece). FineAt p s) 0 (hexLength v b)
-      (λ h.
-      let l = hex-letter v b h in
-      let k = there t 0 (omega arith) in
-      hex-fine (hexLength v b) at s (drop 1 t) (l .2) (omega (arith, length-drop 1 t)))
-      λ h. by-lt (λ (p : Piece). FineAt p s) 0 (simpleEscape v b)
-      (λ h.
-      let l = simple-ascii v b h in
-      let k = there t 0 (omega arith) in
-      let one : length (encodeScalar (simpleEscape v b)) ≡ 1 = ap length (encode-1 _ (l .2)) in
-      fine-char 2 _ s (omega arith) (omega arith) (inl (omega arith)) (omega arith))
-      (λ h.
-      let one : length (encodeScalar 0x5C) ≡ 1 = ap length (encode-1 0x5C (omega arith)) in
-      fine-bad-char 1 0x5C MissingEscape _ s (omega arith) (omega arith) (inl (omega arith)) (omega arith))
+  escape-fine = go (letterAt v t) refl
+    where
+      go : (l : Letter) → letterAt v t ≡ l → FineAt (escapeBy l at (drop 1 t)) s
+      go (Stands c) e =
+          let f = stands-fit v t c e in
+          let one : length (encodeScalar c) ≡ 1 = ap length (encode-1 c (f .1)) in
+          fine-char 2 c s (omega arith) (omega (arith, f .0 .some)) (inl (omega (arith, f .1))) (omega arith)
+      go (Asks n) e =
+          let f = asks-fit v t n e in
+          hex-fine n at s (drop 1 t) (f .1) (omega (arith, f .0 .some, length-drop 1 t))
+      go Neither e =
+          let one : length (encodeScalar 0x5C) ≡ 1 = ap length (encode-1 0x5C (omega arith)) in
+          fine-bad-char 1 0x5C MissingEscape _ s (omega arith) (omega arith) (inl (omega arith)) (omega arith)

@@ -19,6 +19,8 @@ use Rattle.text.specs.Utf8.{Scalar, Utf8}
 use Rattle.text.specs.Utf8Read.{isScalar}
 use Rattle.text.proofs.EncodeLaws.{true-scalar}
 use Rattle.text.proofs.CutLaws.{scalar-utf8, utf8-append, cut-at}
+use Rattle.strings.specs.declared.Letter.{Letter}
+use Rattle.strings.specs.declared.Letter.the-variants.{Stands, Asks, Neither}
 use Rattle.strings.specs.declared.Piece.{Piece}
 use Rattle.strings.specs.declared.Ends.{Ends}
 use Rattle.strings.specs.declared.Given.the-variants.{Copy, Char, Nothing}
@@ -28,14 +30,14 @@ use Rattle.strings.specs.declared.Encoding.{Encoding}
 use Rattle.strings.specs.declared.Encoding.the-variants.{LiteralString, BasicString, MlLiteralString, MlBasicString, UnquotedKey}
 use Rattle.strings.specs.Encodings.{mllPlain, mlbPlain, basicInvalid, mlbInvalid}
 use Rattle.strings.specs.Pieces.{gives, Pieces, collect}
-use Rattle.strings.specs.Escapes.{simpleEscape, hexLength, hexFrom, hexPiece, escapePiece}
+use Rattle.strings.specs.Escapes.{letterAt, hexFrom, hexPiece, escapeBy, escapePiece}
 use Rattle.strings.specs.Bodies.{literalPiece, mlLiteralPiece, basicPiece, skips, escapedLine, escapedNl, escapedMore, mlbContent, mlBasicPiece, keyPiece, pieceOf}
 use Rattle.strings.specs.Marks.{lineOpened, lineClosed, lineEnds, threes, newlineLen, mlStart, mlClosed, trimmed, mlEnd, mlEnds, keyEnds, endsOf, bodyOf}
 use Rattle.strings.specs.Decoding.{bytesOf}
 use Rattle.classes.proofs.RunLaws.{there}
 use Rattle.strings.proofs.PieceLaws.{gives-copy}
 use Rattle.strings.proofs.Fine.{Fine}
-use Rattle.strings.proofs.EscapeLaws.{hex-letter, simple-ascii}
+use Rattle.strings.proofs.EscapeLaws.{stands-fit, asks-fit}
 use Rattle.strings.proofs.BodyLaws.{piece-fine}
 use Rattle.strings.proofs.MarkLaws.{ends-within, threes-long, closed-long, closed-threes}
 use Rattle.strings.proofs.AsciiLaws.{EndsAt, basic-high, mlb-high, basic-invalid-low, mlb-invalid-low, wschar-low, hexdig-low, skips-low, nil-utf8, front-one, front-add, front-low, front-high, behind-at, between}
@@ -118,12 +120,16 @@ module _ (at : ℕ) (s : List ℕ) (slash : getD s 0 0 ≡ 0x5C) where
 
   escape-whole : (v : Edition) → Whole s (escapePiece v at (drop 1 s))
   unfolding escapePiece
-  escape-whole v =
-      let b = getD (drop 1 s) 0 0 in
-      by-lt (Whole s) 0 (hexLength v b) (λ h. let l = hex-letter v b h in hex-whole (hexLength v b) (l .1) (omega arith))
-      λ h. by-lt (Whole s) 0 (simpleEscape v b)
-      (λ h. let l = simple-ascii v b h in whole-char s 2 _ _ (inl (omega arith)) (two (l .1) (omega arith)))
-      (λ h. whole-char s 1 0x5C _ (inl (omega arith)) one)
+  escape-whole v = go (letterAt v (drop 1 s)) refl
+    where
+      go : (l : Letter) → letterAt v (drop 1 s) ≡ l → Whole s (escapeBy l at (drop 1 (drop 1 s)))
+      go (Stands c) e =
+          let f = stands-fit v (drop 1 s) c e in
+          whole-char s 2 c _ (inl (omega (arith, f .1))) (two (f .0 .low) (omega (arith, f .0 .visible)))
+      go (Asks n) e =
+          let f = asks-fit v (drop 1 s) n e in
+          hex-whole n (f .0 .low) (omega (arith, f .0 .visible))
+      go Neither e = whole-char s 1 0x5C _ (inl (omega arith)) one
 
   -- the backslash, w blanks, and one or two bytes that are there
   blanks : (w : ℕ) → w ≤ run wschar (drop 1 s) → Utf8 (take (1 + w) s)

@@ -5,12 +5,14 @@ use Prim.Native.Nat.{ℕ, _+_, _-_, _*_}
 use mathlib.Core.Bool.{cond}
 use mathlib.Core.List.{List, [], _∷_}
 use lib.Dec.{eqb, ltb}
-use lib.ListN.{take, drop, getD}
+use lib.ListN.{take, drop}
 use Rattle.classes.specs.Classes.{hexdig}
 use Rattle.classes.specs.Runs.{run}
 use Rattle.text.specs.Utf8Read.{isScalar}
 use Rattle.strings.specs.declared.Edition.{Edition}
 use Rattle.strings.specs.declared.Edition.the-variants.{Toml10, Toml11}
+use Rattle.strings.specs.declared.Letter.{Letter}
+use Rattle.strings.specs.declared.Letter.the-variants.{Stands, Asks, Neither}
 use Rattle.strings.specs.declared.Piece.{Piece}
 use Rattle.strings.specs.declared.DecodeError.the-variants.{MissingEscape, FewDigits, NotScalar}
 use Rattle.strings.specs.Pieces.{charPiece, badChar}
@@ -22,35 +24,33 @@ use Rattle.strings.specs.Pieces.{charPiece, badChar}
 -- escape-seq-char =/ %x6E         ; n    line feed       U+000A
 -- escape-seq-char =/ %x72         ; r    carriage return U+000D
 -- escape-seq-char =/ %x74         ; t    tab             U+0009
--- and in 1.1.0:
--- escape-seq-char =/ %x65         ; e    escape          U+001B
-abbrev pub newEscape : Edition → ℕ → ℕ
-newEscape Toml10 b = 0
-newEscape Toml11 b = cond (eqb b 0x65) 0x1B 0
-
--- the character of a letter, 0 where it has none
-unfoldable pub simpleEscape : Edition → ℕ → ℕ
-simpleEscape v b =
-    cond (eqb b 0x22) 0x22
-    (cond (eqb b 0x5C) 0x5C
-    (cond (eqb b 0x62) 0x08
-    (cond (eqb b 0x66) 0x0C
-    (cond (eqb b 0x6E) 0x0A
-    (cond (eqb b 0x72) 0x0D
-    (cond (eqb b 0x74) 0x09
-    (newEscape v b)))))))
-
 -- escape-seq-char =/ %x75 4HEXDIG ; uXXXX                U+XXXX
 -- escape-seq-char =/ %x55 8HEXDIG ; UXXXXXXXX            U+XXXXXXXX
 -- and in 1.1.0:
+-- escape-seq-char =/ %x65         ; e    escape          U+001B
 -- escape-seq-char =/ %x78 2HEXDIG ; xHH                  U+00HH
-abbrev pub newHexLength : Edition → ℕ → ℕ
-newHexLength Toml10 b = 0
-newHexLength Toml11 b = cond (eqb b 0x78) 2 0
+abbrev pub newLetter : Edition → ℕ → Letter
+newLetter Toml10 b = Neither
+newLetter Toml11 b = cond (eqb b 0x65) (Stands 0x1B) (cond (eqb b 0x78) (Asks 2) Neither)
 
--- how many digits a letter asks for, 0 where it asks for none
-unfoldable pub hexLength : Edition → ℕ → ℕ
-hexLength v b = cond (eqb b 0x75) 4 (cond (eqb b 0x55) 8 (newHexLength v b))
+-- what a letter is for: it stands for a character, or asks for so many digits, or neither
+unfoldable pub letterOf : Edition → ℕ → Letter
+letterOf v b =
+    cond (eqb b 0x22) (Stands 0x22)
+    (cond (eqb b 0x5C) (Stands 0x5C)
+    (cond (eqb b 0x62) (Stands 0x08)
+    (cond (eqb b 0x66) (Stands 0x0C)
+    (cond (eqb b 0x6E) (Stands 0x0A)
+    (cond (eqb b 0x72) (Stands 0x0D)
+    (cond (eqb b 0x74) (Stands 0x09)
+    (cond (eqb b 0x75) (Asks 4)
+    (cond (eqb b 0x55) (Asks 8)
+    (newLetter v b)))))))))
+
+-- the same of the first byte of s; where there is none, neither
+abbrev pub letterAt : Edition → List ℕ → Letter
+letterAt v [] = Neither
+letterAt v (b ∷ s) = letterOf v b
 
 -- the value of a hex digit: 0 to 9, A to F, a to f
 unfoldable pub hexValue : ℕ → ℕ
@@ -69,10 +69,13 @@ hexPiece n at s =
     (cond (isScalar (hexFrom 0 (take n s))) (charPiece (2 + n) (hexFrom 0 (take n s)))
     (badChar (2 + n) 0xFFFD NotScalar (at + 2)))
 
--- a backslash at place `at`, with s behind it. Behind it the end or another letter: error 8 there, and the backslash is
--- given alone.
+-- a backslash at place `at`, by the letter behind it, with s behind that. Neither: error 8 behind the backslash, which is
+-- given alone
+abbrev pub escapeBy : Letter → ℕ → List ℕ → Piece
+escapeBy (Stands c) at s = charPiece 2 c
+escapeBy (Asks n) at s = hexPiece n at s
+escapeBy Neither at s = badChar 1 0x5C MissingEscape (at + 1)
+
+-- the same, with s behind the backslash
 unfoldable pub escapePiece : Edition → ℕ → List ℕ → Piece
-escapePiece v at s =
-    cond (ltb 0 (hexLength v (getD s 0 0))) (hexPiece (hexLength v (getD s 0 0)) at (drop 1 s))
-    (cond (ltb 0 (simpleEscape v (getD s 0 0))) (charPiece 2 (simpleEscape v (getD s 0 0)))
-    (badChar 1 0x5C MissingEscape (at + 1)))
+escapePiece v at s = escapeBy (letterAt v s) at (drop 1 s)

@@ -104,6 +104,14 @@ pub enum Verdict {
     },
 }
 
+// What the letter behind a backslash is for: it stands for a character, it asks for so many hex
+// digits, or it is none of the edition's.
+pub enum Letter {
+    Stands(u32),
+    Asks(usize),
+    Neither,
+}
+
 // What a piece gives: the bytes that it takes, a character, or nothing.
 pub enum Given {
     Copy,

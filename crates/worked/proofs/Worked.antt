@@ -6,7 +6,7 @@ use Rattle.classes.specs.Runs.{run}
 use Rattle.text.specs.Utf8.{encodeScalar}
 use Rattle.strings.specs.Encodings.{choiceIn, choiceBy, mllPlain, mlbPlain, basicInvalid, mlbInvalid}
 use Rattle.strings.specs.Pieces.{gives, notes}
-use Rattle.strings.specs.Escapes.{simpleEscape, hexLength, hexValue, hexFrom, hexPiece, escapePiece}
+use Rattle.strings.specs.Escapes.{letterOf, hexValue, hexFrom, hexPiece, escapePiece}
 use Rattle.strings.specs.Bodies.{literalPiece, mlLiteralPiece, basicPiece, skips, escapedNl, escapedMore, mlbContent, mlBasicPiece, keyPiece}
 use Rattle.strings.specs.Marks.{lineEnds, threes, newlineLen, mlStart, mlClosed, trimmed, mlEnd, mlEnds, keyEnds}
 use Rattle.strings.specs.Decoding.{bytesOf, errorsOf}
@@ -17,5 +17,5 @@ use Rattle.lexer.specs.Whole.{recordsOf}
 use Rattle.worked.specs.Examples.{Hold, examples}
 
 pub worked : Hold examples
-unfolding wschar tokenStart lineTail triple upToTwo mlTail newlineTail kindBy kindOf extent tokenLen walk tokensFrom startOf tokensOf recordsOf literalChar mllChar basicUnescaped mlbUnescaped hexdig unquotedChar run encodeScalar choiceBy choiceIn mllPlain mlbPlain basicInvalid mlbInvalid gives notes simpleEscape hexLength hexValue hexFrom hexPiece escapePiece literalPiece mlLiteralPiece basicPiece skips escapedNl escapedMore mlbContent mlBasicPiece keyPiece lineEnds threes newlineLen mlStart mlClosed trimmed mlEnd mlEnds keyEnds bytesOf errorsOf
+unfolding wschar tokenStart lineTail triple upToTwo mlTail newlineTail kindBy kindOf extent tokenLen walk tokensFrom startOf tokensOf recordsOf literalChar mllChar basicUnescaped mlbUnescaped hexdig unquotedChar run encodeScalar choiceBy choiceIn mllPlain mlbPlain basicInvalid mlbInvalid gives notes letterOf hexValue hexFrom hexPiece escapePiece literalPiece mlLiteralPiece basicPiece skips escapedNl escapedMore mlbContent mlBasicPiece keyPiece lineEnds threes newlineLen mlStart mlClosed trimmed mlEnd mlEnds keyEnds bytesOf errorsOf
 worked = (refl, (refl, (refl, (refl, (refl, ((refl, refl), ((refl, refl), ((refl, refl), ((refl, refl), ((refl, refl), ((refl, refl), ((refl, refl), ((refl, refl), tt)))))))))))))

@@ -1,68 +1,56 @@
--- `escape_seq_char` is right because a letter asks for digits, or has a character, or neither.
+-- `escape_seq_char` is right because a letter stands for a character, or asks for digits, or neither.
 -- Assumes nothing.
-use Prim.Native.Nat.{_<_}
-use mathlib.Core.Path.{_≡_, _∙_}
-use native.Mathlib.Omega.{arith}
+use Prim.Native.Nat.{_≤_, _<_}
+use mathlib.Core.Path.{_≡_, sym, _∙_}
 use borrow.Author.Needs.{needs}
-use lib.ListN.{length, getD}
-use Rattle.strings.specs.Escapes.{hexLength}
+use lib.ListN.{length}
+use Rattle.strings.specs.declared.Letter.the-variants.{Asks}
+use Rattle.strings.specs.Escapes.{letterAt}
 use Rattle.strings.proofs.Fine.{rest-is}
-use Rattle.strings.proofs.EscapeLaws.{hex-letter, escape-hex, escape-simple, escape-none}
-use Rattle.classes.proofs.RunLaws.{there}
+use Rattle.strings.proofs.EscapeLaws.{asks-fit, escape-hex, escape-simple, escape-none}
 use Rattle.pieces.proofs.string.escape_seq_char.Statement.{statement}
 use Rattle.pieces.proofs.string.escape_seq_char.Tie as tie
 
--- a letter that asks for digits is there
-some : (c : tie.Then1) → 0 < length (c .before .before .before .before .args .s .now)
-some c =
-    let letter = hex-letter _ _ (rw (c .before .hex-length .ensures) at (c .if1 .taken)) in
-    there (c .before .before .before .before .args .s .now) 0 (omega (arith, c .before .before .peek .ensures))
+-- the letter asks for digits
+asked : (c : tie.After-letter2)
+    → let a = c .before .before .before .before .args in letterAt (a .v) (a .s .now) ≡ Asks (c .letter2 .given .0 .0)
+asked c = sym (c .before .before .letter-at .ensures) ∙ c .letter2 .given .1
 
--- how many digits the letter asks for
-asked : (c : tie.After-hex-length)
-    → let a = c .before .before .before .args in c .hex-length .result ≡ hexLength (a .v) (getD (a .s .now) 0 0)
-asked c = rw (c .before .peek .ensures) at (c .hex-length .ensures)
+-- so it is there, and asks for eight at most
+fits : (c : tie.After-letter2)
+    → (0 < length (c .before .before .before .before .args .s .now)) × (c .letter2 .given .0 .0 ≤ 8)
+fits c =
+    let a = c .before .before .before .before .args in
+    let fit = asks-fit (a .v) (a .s .now) (c .letter2 .given .0 .0) (asked c) in
+    (fit .0 .some, fit .2)
 
-peek-requires : tie.Need-peek-requires
-peek-requires c κs = search needs
+letter-at-requires : tie.Need-letter-at-requires
+letter-at-requires c κs = search needs
 
-hex-length-requires : tie.Need-hex-length-requires
-hex-length-requires c κs = search needs
+enum-known-letter : tie.Need-enum-known-letter
+enum-known-letter c = search needs
+
+char-piece-requires : tie.Need-char-piece-requires
+char-piece-requires c κs = search needs
+
+enum-known-letter-2 : tie.Need-enum-known-letter-2
+enum-known-letter-2 c = search needs
 
 sub-hexescape : tie.Need-sub-hexescape
-sub-hexescape c = some c
+sub-hexescape c = fits (c .before) .0
 
 part-hexescape-start : tie.Need-part-hexescape-start
-part-hexescape-start c = some c
+part-hexescape-start c = fits (c .before) .0
 
 part-hexescape-end : tie.Need-part-hexescape-end
 part-hexescape-end c = search needs
 
 hexescape-requires : tie.Need-hexescape-requires
 hexescape-requires c κs =
-    let hex-length = c .before .before .hex-length in
-    let pre = c .before .before .before .before .before .pre in
-    (omega (arith, hex-length .ensures, hex-letter _ _ (rw (hex-length .ensures) at (c .before .if1 .taken)) .3), pre)
+    (fits (c .before .before) .1, c .before .before .before .before .before .before .pre)
 
-returns : tie.Need-returns
-returns c =
-    let a = c .before .before .before .before .before .before .args in
-    rw rest-is at (c .hexescape .ensures)
-    ∙ escape-hex (a .v) (a .at) (a .s .now) _ (asked (c .before .before .before)) (c .before .before .if1 .taken)
-
-simple-escape-requires : tie.Need-simple-escape-requires
-simple-escape-requires c κs = search needs
-
-char-piece-requires : tie.Need-char-piece-requires
-char-piece-requires c κs = search needs
-
-returns-2 : tie.Need-returns-2
-returns-2 c =
-    let a = c .before .before .before .before .before .before .before .args in
-    let digits = asked (c .before .before .before .before) in
-    let simple = rw (c .before .before .before .before .before .peek .ensures) at (c .before .before .simple-escape .ensures) in
-    c .char-piece .ensures
-    ∙ escape-simple (a .v) (a .at) (a .s .now) _ _ digits (c .before .before .before .if1 .left) simple (c .before .if2 .taken)
+enum-told : tie.Need-enum-told
+enum-told c = search needs
 
 add-bad-char : tie.Need-add-bad-char
 add-bad-char c = search needs
@@ -70,28 +58,38 @@ add-bad-char c = search needs
 bad-char-requires : tie.Need-bad-char-requires
 bad-char-requires c κs = search needs
 
+returns : tie.Need-returns
+returns c =
+    let a = c .before .before .before .before .before .before .args in
+    let letter = sym (c .before .before .before .before .letter-at .ensures) ∙ c .before .before .letter .given .1 in
+    c .char-piece .ensures ∙ escape-simple (a .v) (a .at) (a .s .now) _ letter
+
+returns-2 : tie.Need-returns-2
+returns-2 c =
+    let a = c .before .before .before .before .before .before .before .args in
+    rw rest-is at (c .hexescape .ensures) ∙ escape-hex (a .v) (a .at) (a .s .now) _ (asked (c .before .before .before))
+
 returns-3 : tie.Need-returns-3
 returns-3 c =
-    let a = c .before .before .before .before .before .before .before .args in
-    let digits = asked (c .before .before .before .before) in
-    let simple = rw (c .before .before .before .before .before .peek .ensures) at (c .before .before .simple-escape .ensures) in
-    c .bad-char .ensures
-    ∙ escape-none (a .v) (a .at) (a .s .now) _ _ digits (c .before .before .before .if1 .left) simple (c .before .if2 .left)
+    let a = c .before .before .before .before .before .args in
+    let letter = sym (c .before .before .before .letter-at .ensures) ∙ c .before .enum-told .given .1 in
+    c .bad-char .ensures ∙ escape-none (a .v) (a .at) (a .s .now) letter
 
 pub escape-seq-char-spec : {M : Type 1} → statement M
 escape-seq-char-spec =
     tie.close
     (tie.spec
-    peek-requires
-    hex-length-requires
+    letter-at-requires
+    enum-known-letter
+    char-piece-requires
+    enum-known-letter-2
     sub-hexescape
     part-hexescape-start
     part-hexescape-end
     hexescape-requires
-    returns
-    simple-escape-requires
-    char-piece-requires
-    returns-2
+    enum-told
     add-bad-char
     bad-char-requires
+    returns
+    returns-2
     returns-3)
