@@ -7,11 +7,11 @@ use mathlib.Core.List.{List, [], _∷_, _++_, append-assoc}
 use native.Mathlib.Omega.{arith}
 use native.Mathlib.Nat.{add-zero}
 use lib.ListN.{length, take, drop, getD, length-append, take-append-drop}
-use lib.Seq.{getD-append-add, getD-drop}
+use lib.Seq.{drop-at, getD-drop}
 use lib.Dec.{eqb}
 use borrow.Author.Tests.{eqb-true, ne-eqb}
 use Rattle.classes.specs.Classes.{wschar, mlbUnescaped}
-use Rattle.classes.specs.Runs.{run}
+use Rattle.classes.specs.Runs.{run, firstIs}
 use Rattle.classes.proofs.Conds.{cond-case, by-eq, or-left, or-inv}
 use Rattle.text.specs.Utf8.{encodeScalar}
 use Rattle.text.proofs.EncodeLaws.{parts}
@@ -24,6 +24,7 @@ use Rattle.strings.specs.Pieces.{Pieces, copyPiece, dropPiece}
 use Rattle.strings.specs.Escapes.{escapePiece}
 use Rattle.strings.specs.Bodies.{skips, escapedLine, escapedNl, escapedMore, mlbContent, mlBasicPiece, pieceOf}
 use Rattle.strings.proofs.PieceLaws.{wrong≢clean}
+use Rattle.strings.proofs.PlaceForms.{escaped-nl-is, escaped-more-is, content-is, ml-basic-piece-is}
 use Rattle.strings.proofs.AsciiLaws.{mlb-high}
 use Rattle.grammar.specs.Grammar.{x20, x09, Newline, x0A, x0D-0A, EscapeSeqChar, Ws, MlbUnescaped, WscharNewline, newline}
 use Rattle.grammar.proofs.ListLaws.{first-there, two-there}
@@ -65,8 +66,8 @@ ws-run Ws.stop x0D-0A s = refl
 ws-run (Ws.more x20 w) n s = ap suc (ws-run w n s)
 ws-run (Ws.more x09 w) n s = ap suc (ws-run w n s)
 
-line-front : {w n : List ℕ} → Ws w → Newline n → (s : List ℕ) → skips (getD (w ++ (n ++ s)) 0 0) ≡ true
-unfolding skips wschar
+line-front : {w n : List ℕ} → Ws w → Newline n → (s : List ℕ) → firstIs skips (w ++ (n ++ s)) ≡ true
+unfolding firstIs skips wschar
 line-front Ws.stop x0A s = refl
 line-front Ws.stop x0D-0A s = refl
 line-front (Ws.more x20 w) n s = refl
@@ -75,17 +76,11 @@ line-front (Ws.more x09 w) n s = refl
 line-at : (at : ℕ) {w n : List ℕ} → Ws w → Newline n → (s : List ℕ)
     → escapedNl at (w ++ (n ++ s)) ≡ dropPiece (1 + (length w + length n))
 unfolding escapedNl
-line-at at {w} {n} x y s = rw (ws-run x y s) (go y)
+line-at at {w} {n} x y s = rw (ws-run x y s, drop-at w (n ++ s) (length w) refl) (go y)
   where
-    zeroth : (y : List ℕ) → getD (w ++ y) (length w) 0 ≡ getD y 0 0
-    zeroth y = ap (λ (i : ℕ). getD (w ++ y) i 0) (sym (add-zero (length w))) ∙ getD-append-add w y 0 0
-
-    go : {n : List ℕ} → Newline n
-        → escapedLine at (length w) (getD (w ++ (n ++ s)) (length w) 0) (getD (w ++ (n ++ s)) (length w + 1) 0)
-        ≡ dropPiece (1 + (length w + length n))
-    go x0A = rw (zeroth (0x0A ∷ s)) (ap dropPiece (omega arith))
-    go x0D-0A =
-        rw (zeroth (0x0D ∷ (0x0A ∷ s)), getD-append-add w (0x0D ∷ (0x0A ∷ s)) 1 0) (ap dropPiece (omega arith))
+    go : {n : List ℕ} → Newline n → escapedLine at (length w) (n ++ s) ≡ dropPiece (1 + (length w + length n))
+    go x0A = ap dropPiece (omega arith)
+    go x0D-0A = ap dropPiece (omega arith)
 
 -- one stands before r
 pub record Ended (r : List ℕ) : Type 0 where
@@ -106,9 +101,9 @@ ws-taken (b ∷ r) = go (wschar b) refl (ws-taken r)
     go false e i = Ws.stop
 
 ended : (at : ℕ) (r : List ℕ) → escapedNl at r .verdict ≡ Clean → Ended r
-unfolding escapedNl
 ended at r =
-    by-eq (IfClean (Ended r)) (getD r k 0) 0x0A
+    rw escaped-nl-is
+    (by-eq (IfClean (Ended r)) (getD r k 0) 0x0A
     (λ e h. let w = first-there s 0x0A (omega arith) (zeroth ∙ e) in fin (0x0A ∷ []) (w .0) x0A (w .1))
     λ _. by-eq (IfClean (Ended r)) (getD r k 0) 0x0D
     (λ e. by-eq (IfClean (Ended r)) (getD r (k + 1) 0) 0x0A
@@ -116,7 +111,7 @@ ended at r =
     let w = two-there s 0x0D 0x0A (omega arith) (omega arith) (zeroth ∙ e) (getD-drop k r 1 0 ∙ l) in
     fin (0x0D ∷ (0x0A ∷ [])) (w .0) x0D-0A (w .1))
     (λ l h. absurd (wrong≢clean h)))
-    (λ e h. absurd (wrong≢clean h))
+    (λ e h. absurd (wrong≢clean h)))
   where
     k : ℕ
     k = run wschar r
@@ -180,7 +175,7 @@ module _ (ed : Edition) where
   newline-reads n x0A at s = reads-plain P mlbPlain plain at 0x0A s lf-plain
   newline-reads n x0D-0A at s = reads-copy P false at (0x0D ∷ (0x0A ∷ [])) s (crlf-piece at s) (omega arith)
 
-  slash-piece : (at : ℕ) (r : List ℕ) → P false at (0x5C ∷ r) ≡ cond (skips (getD r 0 0)) (escapedNl at r) (escapePiece ed at r)
+  slash-piece : (at : ℕ) (r : List ℕ) → P false at (0x5C ∷ r) ≡ cond (firstIs skips r) (escapedNl at r) (escapePiece ed at r)
   unfolding mlBasicPiece mlbContent mlbPlain mlbUnescaped
   slash-piece at r = refl
 
@@ -188,8 +183,8 @@ module _ (ed : Edition) where
       → P false at (0x5C ∷ (t ++ s)) ≡ escapePiece ed at (t ++ s)
   escape-piece {t} e at s =
       let w = shape e in
-      let out : skips (getD (t ++ s) 0 0) ≡ false =
-      ap (λ x. skips (getD (x ++ s) 0 0)) (w .is) ∙ visible-out (w .b) (omega (arith, w .visible)) in
+      let out : firstIs skips (t ++ s) ≡ false =
+      ap (λ x. firstIs skips (x ++ s)) (w .is) ∙ visible-out (w .b) (omega (arith, w .visible)) in
       slash-piece at (t ++ s) ∙ rw out
 
   -- ---- a line-ending backslash is read, and what it drops
@@ -237,25 +232,25 @@ module _ (ed : Edition) where
     is-ended : b ≡ 0x5C → Ended r → Content b r
 
   pub content-inv : (at b : ℕ) (r : List ℕ) → P false at (b ∷ r) .verdict ≡ Clean → Content b r
-  unfolding mlBasicPiece mlbContent
   content-inv at b r =
       let Q : Piece → Type 0 = IfClean (Content b r) in
-      cond-case Q (mlbPlain b) (λ h e. is-plain h)
+      rw (ml-basic-piece-is, content-is)
+      (cond-case Q (mlbPlain b) (λ h e. is-plain h)
       λ _. by-eq Q b 0x5C
       (λ p. cond-case Q (skips (getD r 0 0)) (λ h e. is-ended p (ended at r e)) (λ h e. is-escape p (escape-inv ed at r e)))
       λ _. by-eq Q b 0x0D
       (λ p. by-eq Q (getD r 0 0) 0x0A
       (λ l e. let w = first-there r 0x0A (omega arith) l in is-crlf (w .0) p (w .1)) (λ l e. absurd (wrong≢clean e)))
-      (λ p e. absurd (wrong≢clean e))
+      (λ p e. absurd (wrong≢clean e)))
 
   -- within a line-ending escape
   pub skip-inv : (at b : ℕ) (r : List ℕ) → P true at (b ∷ r) .verdict ≡ Clean → Skipped b r
-  unfolding mlBasicPiece escapedMore
   skip-inv at b r =
       let Q : Piece → Type 0 = IfClean (Skipped b r) in
-      cond-case Q (skips b)
+      rw (ml-basic-piece-is, escaped-more-is)
+      (cond-case Q (skips b)
       (λ h. by-eq Q b 0x0D
       (λ p. by-eq Q (getD r 0 0) 0x0A
       (λ l e. let w = first-there r 0x0A (omega arith) l in is-two (w .0) p (w .1)) (λ l e. absurd (wrong≢clean e)))
       (λ p e. is-one (skip-is b h p)))
-      (λ h e. is-out h)
+      (λ h e. is-out h))

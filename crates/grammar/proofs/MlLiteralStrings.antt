@@ -22,6 +22,7 @@ use Rattle.strings.specs.Pieces.{Pieces, copyPiece}
 use Rattle.strings.specs.Bodies.{mlLiteralPiece, pieceOf}
 use Rattle.strings.specs.Decoding.{bytesOf, errorsOf}
 use Rattle.strings.proofs.PieceLaws.{wrong≢clean}
+use Rattle.strings.proofs.PlaceForms.{ml-literal-piece-is}
 use Rattle.grammar.specs.Grammar.{x0A, x0D-0A, MllChar, MllContent, mll-char, newline, MllContents, MllContents1, some-content, MllQuotes, one, two, MllGroups, OptMllQuotes, absent, present, MlLiteralBody, ml-literal-body, MlLiteralString, ml-literal-string}
 use Rattle.lexing.proofs.ByLength.{by-length}
 use Rattle.grammar.specs.Prose.{MlLiteralObeys}
@@ -67,13 +68,13 @@ abbrev Good : ℕ → List ℕ → Type 0
 Good b r = (mllPlain b ≡ true) ⊎ ((b ≡ 0x0D) × (s : List ℕ) × (r ≡ 0x0A ∷ s))
 
 clean : (at b : ℕ) (r : List ℕ) → P false at (b ∷ r) .verdict ≡ Clean → Good b r
-unfolding mlLiteralPiece
 clean at b r =
-    cond-case (IfClean (Good b r)) (mllPlain b) (λ h e. inl h)
+    rw ml-literal-piece-is
+    (cond-case (IfClean (Good b r)) (mllPlain b) (λ h e. inl h)
     λ h. by-eq (IfClean (Good b r)) b 0x0D
     (λ c. by-eq (IfClean (Good b r)) (getD r 0 0) 0x0A
     (λ l e. let w = first-there r 0x0A (omega arith) l in inr (c, w .0, w .1)) (λ l e. absurd (wrong≢clean e)))
-    (λ c e. absurd (wrong≢clean e))
+    (λ c e. absurd (wrong≢clean e)))
 
 char-reads : ReadsChars P mllPlain
 char-reads = reads-char P mllPlain plain plain-high

@@ -18,6 +18,7 @@ use Rattle.strings.specs.declared.Ends.{Ends}
 use Rattle.strings.specs.Encodings.{markError}
 use Rattle.strings.specs.Pieces.{gives, notesAt, collect}
 use Rattle.strings.specs.Bodies.{pieceOf}
+use Rattle.classes.specs.Runs.{stands}
 use Rattle.strings.specs.Marks.{threes, newlineLen, mlStart, mlClosed, mlEnds, endsOf, bodyOf}
 use Rattle.strings.specs.Decoding.{bytesOf, errorsOf}
 use Rattle.classes.proofs.Conds.{both-left, both-right}
@@ -119,7 +120,7 @@ starts-len (b ∷ (c ∷ s)) = go (eqb b 10) (eqb b 13 && eqb c 10)
 
 -- the count on bytes that a mark follows is the count on code points
 module _ {q : ℕ} (m : Mark q) where
-  head-is : (cs r : List ℕ) → eqb (getD (encodes cs ++ (q ∷ r)) 0 0) 10 ≡ eqb (getD cs 0 0) 10
+  head-is : (cs r : List ℕ) → stands 0x0A (encodes cs ++ (q ∷ r)) ≡ stands 0x0A cs
   head-is [] r = ne-eqb q 10 (λ e. omega arith)
   head-is (c ∷ cs) r = rw (parts c .whole) (first-is c 10 (omega arith))
 

@@ -24,7 +24,8 @@ use Rattle.strings.specs.declared.Encoding.the-variants.{LiteralString, BasicSt
 use Rattle.strings.specs.Encodings.{mlbPlain, plain}
 use Rattle.strings.specs.Pieces.{copyPiece, charPiece}
 use Rattle.strings.specs.Escapes.{letterAt, hexFrom, escapePiece}
-use Rattle.strings.specs.Bodies.{basicPiece, skips, mlbContent, mlBasicPiece, pieceOf}
+use Rattle.strings.specs.Bodies.{basicPiece, skips, mlBasicPiece, pieceOf}
+use Rattle.strings.proofs.PlaceForms.{basic-piece-is, content-is, ml-basic-piece-is}
 use Rattle.strings.proofs.EscapeLaws.{stands-fit, asks-fit, hex-char, escape-hex, escape-simple}
 use Rattle.strings.proofs.PlainLaws.{plain-piece}
 use Rattle.pieces.specs.declared.string.Escape.{Escape}
@@ -93,12 +94,10 @@ and-false false = refl
 
 module _ (v : Edition) (at : ℕ) (s : List ℕ) (backslash : getD s 0 0 ≡ 0x5C) where
   pub basic-escape : escapePiece v at (drop 1 s) ≡ basicPiece v at s
-  unfolding basicPiece
-  basic-escape = rw (backslash, basic-stops)
+  basic-escape = rw (basic-piece-is, backslash, basic-stops)
 
   ml-basic-escape : (d : Bool) → skips (getD s 1 0) ≡ false → escapePiece v at (drop 1 s) ≡ mlBasicPiece v d at s
-  unfolding mlBasicPiece mlbContent
-  ml-basic-escape d h = rw (backslash, not-skipped, and-false d, mlb-stops, h)
+  ml-basic-escape d h = rw (ml-basic-piece-is, content-is, backslash, not-skipped, and-false d, mlb-stops, h)
 
 -- ---- an escape that is found is the rule's
 

@@ -19,7 +19,8 @@ use Rattle.strings.specs.Encodings.{mllPlain, mlbPlain, basicInvalid, ml
 use Rattle.strings.specs.declared.Given.the-variants.{Copy}
 use Rattle.strings.specs.declared.Verdict.{Verdict}
 use Rattle.strings.specs.declared.Verdict.the-variants.{Clean, Wrong}
-use Rattle.strings.specs.Bodies.{literalPiece, mlLiteralPiece, basicPiece, skips, escapedLine, escapedNl, escapedMore, mlbContent, mlBasicPiece, keyPiece, pieceOf}
+use Rattle.strings.specs.Bodies.{literalPiece, mlLiteralPiece, basicPiece, skips, escapedNl, escapedMore, mlbContent, mlBasicPiece, keyPiece, pieceOf}
+use Rattle.strings.proofs.PlaceForms.{literal-piece-is, ml-literal-piece-is, basic-piece-is, lineBy, escaped-nl-is, escaped-more-is, content-is, ml-basic-piece-is, key-piece-is}
 use Rattle.strings.proofs.Fine.{FineAt, Fine, fine-copy, fine-drop}
 use Rattle.strings.proofs.EscapeLaws.{escape-fine}
 
@@ -48,24 +49,23 @@ module _ (at : ℕ) (s : List ℕ) (h : 0 < length s) where
   fine-one w = fine-copy 1 w s (omega arith) h
 
   literal-fine : FineAt (literalPiece at s) s
-  unfolding literalPiece
-  literal-fine = cond-case Good (literalChar (getD s 0 0)) (fine-run literalChar Clean) (λ e. fine-one _)
+  literal-fine = rw literal-piece-is (cond-case Good (literalChar (getD s 0 0)) (fine-run literalChar Clean) (λ e. fine-one _))
 
   ml-literal-fine : FineAt (mlLiteralPiece at s) s
-  unfolding mlLiteralPiece
   ml-literal-fine =
-      cond-case Good (mllPlain (getD s 0 0)) (fine-run mllPlain Clean)
-      λ e. by-eq Good (getD s 0 0) 0x0D (λ f. by-eq Good (getD s 1 0) 0x0A (λ g. fine-one _) (λ g. fine-one _)) (λ f. fine-one _)
+      rw ml-literal-piece-is
+      (cond-case Good (mllPlain (getD s 0 0)) (fine-run mllPlain Clean)
+      λ e. by-eq Good (getD s 0 0) 0x0D (λ f. by-eq Good (getD s 1 0) 0x0A (λ g. fine-one _) (λ g. fine-one _)) (λ f. fine-one _))
 
   basic-fine : (v : Edition) → FineAt (basicPiece v at s) s
-  unfolding basicPiece
   basic-fine v =
-      cond-case Good (basicUnescaped (getD s 0 0)) (fine-run basicUnescaped Clean)
+      rw basic-piece-is
+      (cond-case Good (basicUnescaped (getD s 0 0)) (fine-run basicUnescaped Clean)
       λ e. by-eq Good (getD s 0 0) 0x5C (λ f. escape-fine v at s (drop 1 s) (omega (arith, length-drop 1 s)))
-      (λ f. fine-run basicInvalid _ (invalid-basic (getD s 0 0) e f))
+      (λ f. fine-run basicInvalid _ (invalid-basic (getD s 0 0) e f)))
 
   -- a line-ending escape, where t stands behind the backslash at the front of s
-  line-fine : (t : List ℕ) (w : ℕ) → length s ≡ suc (length t) → w ≤ length t → FineAt (escapedLine at w (getD t w 0) (getD t (w + 1) 0)) s
+  line-fine : (t : List ℕ) (w : ℕ) → length s ≡ suc (length t) → w ≤ length t → FineAt (lineBy at w (getD t w 0) (getD t (w + 1) 0)) s
   line-fine t w long l =
       by-eq Good (getD t w 0) 0x0A (λ e. let k = there t w (omega arith) in fine-drop (2 + w) _ s (omega arith) (omega arith))
       λ e. by-eq Good (getD t w 0) 0x0D
@@ -77,22 +77,21 @@ module _ (at : ℕ) (s : List ℕ) (h : 0 < length s) where
       (λ f. fine-drop (1 + w) _ s (omega arith) (omega arith))
 
   escaped-fine : (t : List ℕ) → length s ≡ suc (length t) → FineAt (escapedNl at t) s
-  unfolding escapedNl
-  escaped-fine t long = line-fine t (run wschar t) long (run-le wschar t)
+  escaped-fine t long = rw escaped-nl-is (line-fine t (run wschar t) long (run-le wschar t))
 
   more-fine : FineAt (escapedMore at s) s
-  unfolding escapedMore
   more-fine =
-      by-eq Good (getD s 0 0) 0x0D
+      rw escaped-more-is
+      (by-eq Good (getD s 0 0) 0x0D
       (λ e. by-eq Good (getD s 1 0) 0x0A
       (λ f. let k = there s 1 (omega arith) in fine-drop 2 _ s (omega arith) (omega arith))
       (λ f. fine-drop 1 _ s (omega arith) h))
-      (λ e. fine-drop 1 _ s (omega arith) h)
+      (λ e. fine-drop 1 _ s (omega arith) h))
 
   content-fine : (v : Edition) → FineAt (mlbContent v at s) s
-  unfolding mlbContent
   content-fine v =
-      cond-case Good (mlbPlain (getD s 0 0)) (fine-run mlbPlain Clean)
+      rw content-is
+      (cond-case Good (mlbPlain (getD s 0 0)) (fine-run mlbPlain Clean)
       λ e. by-eq Good (getD s 0 0) 0x5C
       (λ f. cond-case Good (skips (getD s 1 0))
       (λ g. escaped-fine (drop 1 s) (omega (arith, length-drop 1 s)))
@@ -101,15 +100,13 @@ module _ (at : ℕ) (s : List ℕ) (h : 0 < length s) where
       (λ g. by-eq Good (getD s 1 0) 0x0A
       (λ i. let k = there s 1 (omega arith) in fine-copy 2 _ s (omega arith) (omega arith))
       (λ i. fine-one _))
-      (λ g. fine-run mlbInvalid _ (invalid-mlb (getD s 0 0) e f g))
+      (λ g. fine-run mlbInvalid _ (invalid-mlb (getD s 0 0) e f g)))
 
   ml-basic-fine : (v : Edition) (d : Bool) → FineAt (mlBasicPiece v d at s) s
-  unfolding mlBasicPiece
-  ml-basic-fine v d = cond-case Good (d && skips (getD s 0 0)) (λ e. more-fine) (λ e. content-fine v)
+  ml-basic-fine v d = rw ml-basic-piece-is (cond-case Good (d && skips (getD s 0 0)) (λ e. more-fine) (λ e. content-fine v))
 
   key-fine : FineAt (keyPiece at s) s
-  unfolding keyPiece
-  key-fine = cond-case Good (unquotedChar (getD s 0 0)) (fine-run unquotedChar Clean) (λ e. fine-one _)
+  key-fine = rw key-piece-is (cond-case Good (unquotedChar (getD s 0 0)) (fine-run unquotedChar Clean) (λ e. fine-one _))
 
 pub piece-fine : (e : Encoding) → Fine (pieceOf e)
 piece-fine LiteralString d at s h = literal-fine at s h

@@ -10,7 +10,7 @@ use native.Mathlib.Omega.{arith}
 use lib.Dec.{eqb}
 use lib.ListN.{length, drop, getD, length-append}
 use Rattle.classes.specs.Classes.{basicUnescaped, hexdig}
-use Rattle.classes.specs.Runs.{run}
+use Rattle.classes.specs.Runs.{run, firstIs, stands}
 use Rattle.text.specs.Utf8.{encodeScalar}
 use Rattle.text.specs.declared.refusal.Refusal.{Refusal}
 use Rattle.text.specs.declared.refusal.Refusal.the-variants.{NoKind}
@@ -86,18 +86,18 @@ stays-cond false f g = g
 basic-same : (at : ℕ) (s : List ℕ) → Stays (basicPiece Toml11 at s) (basicPiece Toml10 at s)
 unfolding basicPiece
 basic-same at s =
-    stays-cond (basicUnescaped (getD s 0 0)) (stays-self _)
-    (stays-cond (eqb (getD s 0 0) 0x5C) (escape-same at (drop 1 s)) (stays-self _))
+    stays-cond (firstIs basicUnescaped s) (stays-self _)
+    (stays-cond (stands 0x5C s) (escape-same at (drop 1 s)) (stays-self _))
 
 content-same : (at : ℕ) (s : List ℕ) → Stays (mlbContent Toml11 at s) (mlbContent Toml10 at s)
 unfolding mlbContent
 content-same at s =
-    stays-cond (mlbPlain (getD s 0 0)) (stays-self _)
-    (stays-cond (eqb (getD s 0 0) 0x5C) (stays-cond (skips (getD s 1 0)) (stays-self _) (escape-same at (drop 1 s))) (stays-self _))
+    stays-cond (firstIs mlbPlain s) (stays-self _)
+    (stays-cond (stands 0x5C s) (stays-cond (firstIs skips (drop 1 s)) (stays-self _) (escape-same at (drop 1 s))) (stays-self _))
 
 ml-basic-same : (d : Bool) (at : ℕ) (s : List ℕ) → Stays (mlBasicPiece Toml11 d at s) (mlBasicPiece Toml10 d at s)
 unfolding mlBasicPiece
-ml-basic-same d at s = stays-cond (d && skips (getD s 0 0)) (stays-self _) (content-same at s)
+ml-basic-same d at s = stays-cond (d && firstIs skips s) (stays-self _) (content-same at s)
 
 -- the same encoding in TOML 1.1
 abbrev pub later : Encoding → Encoding

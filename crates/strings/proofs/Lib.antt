@@ -1,4 +1,5 @@
 pub mod PieceLaws
+pub mod PlaceForms
 pub mod StoreLaws
 pub mod Fine
 pub mod EscapeLaws

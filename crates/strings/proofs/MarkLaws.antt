@@ -16,6 +16,7 @@ use Rattle.strings.specs.declared.Encoding.the-variants.{LiteralString, 
 use Rattle.strings.specs.declared.Ends.{Ends}
 use Rattle.strings.specs.Marks.{lineOpened, lineStart, lineClosed, lineEnd, lineEnds, threes, newlineLen, mlStart, mlClosed, trimmed, mlEnd, mlEnds, keyEnds, endsOf}
 use Rattle.classes.proofs.RunLaws.{there}
+use Rattle.strings.proofs.PlaceForms.{newline-len-is}
 
 -- ---- one mark at each end
 
@@ -69,14 +70,14 @@ module _ (q : ℕ) (s : List ℕ) where
   threes-long e = leb-true 3 (length s) (both-left (leb 3 (length s)) _ e)
 
 pub newline-le : (s : List ℕ) → newlineLen s ≤ length s
-unfolding newlineLen
 newline-le s =
-    by-eq (λ (n : ℕ). n ≤ length s) (getD s 0 0) 0x0A (λ e. let k = there s 0 (omega arith) in k)
+    rw newline-len-is
+    (by-eq (λ (n : ℕ). n ≤ length s) (getD s 0 0) 0x0A (λ e. let k = there s 0 (omega arith) in k)
     λ e. cond-case (λ (n : ℕ). n ≤ length s) (eqb (getD s 0 0) 0x0D && eqb (getD s 1 0) 0x0A)
     (λ f.
     let g = eqb-true (getD s 1 0) 0x0A (both-right (eqb (getD s 0 0) 0x0D) _ f) in
     there s 1 (omega arith))
-    (λ f. omega arith)
+    (λ f. omega arith))
 
 pub start-open : (t : List ℕ) → 3 + newlineLen (drop 3 t) ≡ mlStart true t
 unfolding mlStart

@@ -35,6 +35,7 @@ use Rattle.strings.specs.Pieces.{gives, notes, notesAt, collect, copyPie
 use Rattle.strings.specs.Bodies.{literalPiece, mlLiteralPiece, basicPiece, mlbContent, mlBasicPiece, keyPiece, pieceOf}
 use Rattle.strings.specs.Marks.{lineEnds, endsOf, bodyOf}
 use Rattle.strings.specs.Decoding.{bytesOf, errorsOf, bytesBy, errorsBy, decodeIn, after}
+use Rattle.strings.proofs.PlaceForms.{literal-piece-is, ml-literal-piece-is, basic-piece-is, content-is, ml-basic-piece-is, key-piece-is}
 use Rattle.strings.proofs.PieceLaws.{collect-step, notes-none}
 use Rattle.strings.proofs.MarkLaws.{line-both}
 use Rattle.strings.proofs.DecodeLaws.{bytes-is, errors-is, fitted-written, decode-valid}
@@ -49,12 +50,11 @@ run-all p (b ∷ s) f = rw (f 0 (omega arith)) (ap suc (run-all p s (λ k h. f (
 
 -- a plain byte begins a piece that takes the whole run as it stands
 pub plain-piece : (e : Encoding) (at : ℕ) (s : List ℕ) → plain e (getD s 0 0) ≡ true → pieceOf e false at s ≡ copyPiece (run (plain e) s)
-unfolding literalPiece mlLiteralPiece basicPiece mlBasicPiece mlbContent keyPiece
-plain-piece LiteralString at s h = rw h
-plain-piece MlLiteralString at s h = rw h
-plain-piece (BasicString v) at s h = rw h
-plain-piece (MlBasicString v) at s h = rw h
-plain-piece UnquotedKey at s h = rw h
+plain-piece LiteralString at s h = rw (literal-piece-is, h)
+plain-piece MlLiteralString at s h = rw (ml-literal-piece-is, h)
+plain-piece (BasicString v) at s h = rw (basic-piece-is, h)
+plain-piece (MlBasicString v) at s h = rw (ml-basic-piece-is, content-is, h)
+plain-piece UnquotedKey at s h = rw (key-piece-is, h)
 
 module _ (e : Encoding) (at : ℕ) (s : List ℕ) (all : run (plain e) s ≡ length s) where
   one-piece : 0 < length s → pieceOf e false at s ≡ copyPiece (length s)

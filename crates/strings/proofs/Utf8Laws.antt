@@ -13,7 +13,7 @@ use lib.ListN.{length, take, drop, getD, take-append-drop, length-drop}
 use lib.Seq.{take-length, getD-drop, drop-drop}
 use borrow.Author.Tests.{eqb-true, ltb-true}
 use Rattle.classes.specs.Classes.{wschar, hexdig, literalChar, basicUnescaped, unquotedChar}
-use Rattle.classes.specs.Runs.{run}
+use Rattle.classes.specs.Runs.{run, firstIs, stands}
 use Rattle.classes.proofs.Conds.{cond-case, by-lt, by-eq, both-left, both-right}
 use Rattle.text.specs.Utf8.{Scalar, Utf8}
 use Rattle.text.specs.Utf8Read.{isScalar}
@@ -31,10 +31,11 @@ use Rattle.strings.specs.declared.Encoding.the-variants.{LiteralString, 
 use Rattle.strings.specs.Encodings.{mllPlain, mlbPlain, basicInvalid, mlbInvalid}
 use Rattle.strings.specs.Pieces.{gives, Pieces, collect}
 use Rattle.strings.specs.Escapes.{letterAt, hexFrom, hexPiece, escapeBy, escapePiece}
-use Rattle.strings.specs.Bodies.{literalPiece, mlLiteralPiece, basicPiece, skips, escapedLine, escapedNl, escapedMore, mlbContent, mlBasicPiece, keyPiece, pieceOf}
+use Rattle.strings.specs.Bodies.{literalPiece, mlLiteralPiece, basicPiece, skips, escapedNl, escapedMore, mlbContent, mlBasicPiece, keyPiece, pieceOf}
 use Rattle.strings.specs.Marks.{lineOpened, lineClosed, lineEnds, threes, newlineLen, mlStart, mlClosed, trimmed, mlEnd, mlEnds, keyEnds, endsOf, bodyOf}
 use Rattle.strings.specs.Decoding.{bytesOf}
 use Rattle.classes.proofs.RunLaws.{there}
+use Rattle.strings.proofs.PlaceForms.{basic-piece-is, lineBy, escaped-nl-is, escaped-more-is, content-is, ml-basic-piece-is, newline-len-is}
 use Rattle.strings.proofs.PieceLaws.{gives-copy}
 use Rattle.strings.proofs.Fine.{Fine}
 use Rattle.strings.proofs.EscapeLaws.{stands-fit, asks-fit}
@@ -63,17 +64,17 @@ Copies p = p .given ≡ Copy
 
 literal-copies : (at : ℕ) (s : List ℕ) → literalPiece at s .given ≡ Copy
 unfolding literalPiece
-literal-copies at s = cond-case Copies (literalChar (getD s 0 0)) (λ e. refl) (λ e. refl)
+literal-copies at s = cond-case Copies (firstIs literalChar s) (λ e. refl) (λ e. refl)
 
 ml-literal-copies : (at : ℕ) (s : List ℕ) → mlLiteralPiece at s .given ≡ Copy
 unfolding mlLiteralPiece
 ml-literal-copies at s =
-    cond-case Copies (mllPlain (getD s 0 0)) (λ e. refl)
-    (λ e. cond-case Copies (eqb (getD s 0 0) 0x0D) (λ e. cond-case Copies (eqb (getD s 1 0) 0x0A) (λ e. refl) (λ e. refl)) (λ e. refl))
+    cond-case Copies (firstIs mllPlain s) (λ e. refl)
+    (λ e. cond-case Copies (stands 0x0D s) (λ e. cond-case Copies (stands 0x0A (drop 1 s)) (λ e. refl) (λ e. refl)) (λ e. refl))
 
 key-copies : (at : ℕ) (s : List ℕ) → keyPiece at s .given ≡ Copy
 unfolding keyPiece
-key-copies at s = cond-case Copies (unquotedChar (getD s 0 0)) (λ e. refl) (λ e. refl)
+key-copies at s = cond-case Copies (firstIs unquotedChar s) (λ e. refl) (λ e. refl)
 
 -- ---- pieces of the basic kinds
 
@@ -144,7 +145,7 @@ module _ (at : ℕ) (s : List ℕ) (slash : getD s 0 0 ≡ 0x5C) where
   same-front : (n m : ℕ) → n ≡ m → Utf8 (take n s) → Utf8 (take m s)
   same-front n m e u = subst (λ (k : ℕ). Utf8 (take k s)) e u
 
-  line-whole : (w : ℕ) → w ≤ run wschar (drop 1 s) → Whole s (escapedLine at w (getD (drop 1 s) w 0) (getD (drop 1 s) (w + 1) 0))
+  line-whole : (w : ℕ) → w ≤ run wschar (drop 1 s) → Whole s (lineBy at w (getD (drop 1 s) w 0) (getD (drop 1 s) (w + 1) 0))
   line-whole w h =
       let u = blanks w h in
       let b = getD (drop 1 s) w 0 in
@@ -162,8 +163,7 @@ module _ (at : ℕ) (s : List ℕ) (slash : getD s 0 0 ≡ 0x5C) where
       (λ f. whole-drop s (1 + w) _ u)
 
   nl-whole : Whole s (escapedNl at (drop 1 s))
-  unfolding escapedNl
-  nl-whole = line-whole (run wschar (drop 1 s)) (omega arith)
+  nl-whole = rw escaped-nl-is (line-whole (run wschar (drop 1 s)) (omega arith))
 
 module _ (at : ℕ) (s : List ℕ) (h : 0 < length s) where
   -- CR LF
@@ -173,36 +173,34 @@ module _ (at : ℕ) (s : List ℕ) (h : 0 < length s) where
       front-add 1 1 s (front-one s h (omega arith)) (front-one (drop 1 s) (there (drop 1 s) 0 (omega arith)) (omega arith))
 
   basic-whole : (v : Edition) → Utf8 s → Whole s (basicPiece v at s)
-  unfolding basicPiece
   basic-whole v u =
-      cond-case (Whole s) (basicUnescaped (getD s 0 0)) (λ e. whole-copy s _ _ (front-high basicUnescaped basic-high s u))
+      rw basic-piece-is
+      (cond-case (Whole s) (basicUnescaped (getD s 0 0)) (λ e. whole-copy s _ _ (front-high basicUnescaped basic-high s u))
       λ e. by-eq (Whole s) (getD s 0 0) 0x5C (λ f. escape-whole at s f v)
-      (λ f. whole-copy s _ _ (front-low basicInvalid basic-invalid-low (run basicInvalid s) s (omega arith)))
+      (λ f. whole-copy s _ _ (front-low basicInvalid basic-invalid-low (run basicInvalid s) s (omega arith))))
 
   more-whole : skips (getD s 0 0) ≡ true → Whole s (escapedMore at s)
-  unfolding escapedMore
   more-whole k =
-      let low = front-one s h (skips-low (getD s 0 0) k) in
+      rw escaped-more-is
+      (let low = front-one s h (skips-low (getD s 0 0) k) in
       by-eq (Whole s) (getD s 0 0) 0x0D
       (λ e. by-eq (Whole s) (getD s 1 0) 0x0A (λ f. whole-drop s 2 _ (crlf e f)) (λ f. whole-drop s 1 _ low))
-      (λ e. whole-drop s 1 _ low)
+      (λ e. whole-drop s 1 _ low))
 
   content-whole : (v : Edition) → Utf8 s → Whole s (mlbContent v at s)
-  unfolding mlbContent
   content-whole v u =
-      cond-case (Whole s) (mlbPlain (getD s 0 0)) (λ e. whole-copy s _ _ (front-high mlbPlain mlb-high s u))
+      rw content-is
+      (cond-case (Whole s) (mlbPlain (getD s 0 0)) (λ e. whole-copy s _ _ (front-high mlbPlain mlb-high s u))
       λ e. by-eq (Whole s) (getD s 0 0) 0x5C
       (λ f. cond-case (Whole s) (skips (getD s 1 0)) (λ g. nl-whole at s f) (λ g. escape-whole at s f v))
       λ f. by-eq (Whole s) (getD s 0 0) 0x0D
       (λ g. by-eq (Whole s) (getD s 1 0) 0x0A
       (λ i. whole-copy s 2 _ (crlf g i))
       (λ i. whole-copy s 1 _ (front-one s h (omega arith))))
-      (λ g. whole-copy s _ _ (front-low mlbInvalid mlb-invalid-low (run mlbInvalid s) s (omega arith)))
+      (λ g. whole-copy s _ _ (front-low mlbInvalid mlb-invalid-low (run mlbInvalid s) s (omega arith))))
 
   ml-basic-whole : (v : Edition) (d : Bool) → Utf8 s → Whole s (mlBasicPiece v d at s)
-  unfolding mlBasicPiece
-  ml-basic-whole v d u =
-      cond-case (Whole s) (d && skips (getD s 0 0)) (λ e. more-whole (both-right d (skips (getD s 0 0)) e)) (λ e. content-whole v u)
+  ml-basic-whole v d u = rw ml-basic-piece-is (cond-case (Whole s) (d && skips (getD s 0 0)) (λ e. more-whole (both-right d (skips (getD s 0 0)) e)) (λ e. content-whole v u))
 
 abbrev WholeAll : Pieces → Type 0
 WholeAll P = (d : Bool) (at : ℕ) (s : List ℕ) → 0 < length s → Utf8 s → Whole s (P d at s)
@@ -255,15 +253,15 @@ module _ (q : ℕ) (low : q < 0x80) (t : List ℕ) (u : Utf8 t) where
   line-utf8 = line-cuts (lineOpened q t) (lineClosed (cond (lineOpened q t) 1 0) q t) refl refl
 
 newline-utf8 : (s : List ℕ) → Utf8 (take (newlineLen s) s)
-unfolding newlineLen
 newline-utf8 s =
-    by-eq (λ (n : ℕ). Utf8 (take n s)) (getD s 0 0) 0x0A (λ e. front-one s (there s 0 (omega arith)) (omega arith))
+    rw newline-len-is
+    (by-eq (λ (n : ℕ). Utf8 (take n s)) (getD s 0 0) 0x0A (λ e. front-one s (there s 0 (omega arith)) (omega arith))
     λ e. cond-case (λ (n : ℕ). Utf8 (take n s)) (eqb (getD s 0 0) 0x0D && eqb (getD s 1 0) 0x0A)
     (λ f.
     let a = eqb-true (getD s 0 0) 0x0D (both-left (eqb (getD s 0 0) 0x0D) _ f) in
     let b = eqb-true (getD s 1 0) 0x0A (both-right (eqb (getD s 0 0) 0x0D) _ f) in
     crlf 0 s (there s 0 (omega arith)) a b)
-    (λ f. nil-utf8)
+    (λ f. nil-utf8))
 
 module _ (q : ℕ) (low : q < 0x80) where
   -- three marks at the front

@@ -6,9 +6,9 @@ use Prim.Native.Nat.{ℕ, _+_}
 use mathlib.Core.Bool.{Bool, cond, _&&_, _||_}
 use mathlib.Core.List.{List}
 use lib.Dec.{eqb}
-use lib.ListN.{drop, getD}
+use lib.ListN.{drop}
 use Rattle.classes.specs.Classes.{wschar, literalChar, basicUnescaped, unquotedChar}
-use Rattle.classes.specs.Runs.{run}
+use Rattle.classes.specs.Runs.{run, firstIs, stands}
 use Rattle.strings.specs.declared.Edition.{Edition}
 use Rattle.strings.specs.declared.Piece.{Piece}
 use Rattle.strings.specs.declared.Encoding.{Encoding}
@@ -21,61 +21,61 @@ use Rattle.strings.specs.Escapes.{escapePiece}
 -- a byte that is not allowed in a literal string: error 2 at it
 unfoldable pub literalPiece : ℕ → List ℕ → Piece
 literalPiece at s =
-    cond (literalChar (getD s 0 0)) (copyPiece (run literalChar s))
+    cond (firstIs literalChar s) (copyPiece (run literalChar s))
     (badCopy 1 LiteralInvalid at at)
 
 -- a CR: error 4 behind it, unless the byte there is an LF. A byte that is not allowed in an ml-literal string: error 5 at it
 unfoldable pub mlLiteralPiece : ℕ → List ℕ → Piece
 mlLiteralPiece at s =
-    cond (mllPlain (getD s 0 0)) (copyPiece (run mllPlain s))
-    (cond (eqb (getD s 0 0) 0x0D) (cond (eqb (getD s 1 0) 0x0A) (copyPiece 1) (badCopy 1 LoneCr (at + 1) (at + 1)))
+    cond (firstIs mllPlain s) (copyPiece (run mllPlain s))
+    (cond (stands 0x0D s) (cond (stands 0x0A (drop 1 s)) (copyPiece 1) (badCopy 1 LoneCr (at + 1) (at + 1)))
     (badCopy 1 MlLiteralInvalid at at))
 
 -- bytes that are not allowed in a basic string: error 7 at their whole run
 unfoldable pub basicPiece : Edition → ℕ → List ℕ → Piece
 basicPiece v at s =
-    cond (basicUnescaped (getD s 0 0)) (copyPiece (run basicUnescaped s))
-    (cond (eqb (getD s 0 0) 0x5C) (escapePiece v at (drop 1 s))
+    cond (firstIs basicUnescaped s) (copyPiece (run basicUnescaped s))
+    (cond (stands 0x5C s) (escapePiece v at (drop 1 s))
     (badCopy (run basicInvalid s) BasicInvalid at (at + run basicInvalid s)))
 
 -- what a line-ending escape drops: blanks, LF and CR
 unfoldable pub skips : ℕ → Bool
 skips b = wschar b || (eqb b 0x0A || eqb b 0x0D)
 
--- a line-ending escape's own line, whose backslash is at place `at`: w blanks, and then the bytes b and next
-abbrev pub escapedLine : ℕ → ℕ → ℕ → ℕ → Piece
-escapedLine at w b next =
-    cond (eqb b 0x0A) (dropPiece (2 + w))
-    (cond (eqb b 0x0D) (cond (eqb next 0x0A) (dropPiece (3 + w)) (badDrop (2 + w) LoneCr (at + (2 + w))))
+-- a line-ending escape's own line, whose backslash is at place `at`: w blanks, and then s
+abbrev pub escapedLine : ℕ → ℕ → List ℕ → Piece
+escapedLine at w s =
+    cond (stands 0x0A s) (dropPiece (2 + w))
+    (cond (stands 0x0D s) (cond (stands 0x0A (drop 1 s)) (dropPiece (3 + w)) (badDrop (2 + w) LoneCr (at + (2 + w))))
     (badDrop (1 + w) MissingNewline (at + (1 + w))))
 
 -- mlb-escaped-nl = escape ws newline *( wschar / newline )
 -- the backslash, the blanks behind it and the newline; s stands behind the backslash. No newline: error 13 behind the blanks
 unfoldable pub escapedNl : ℕ → List ℕ → Piece
-escapedNl at s = escapedLine at (run wschar s) (getD s (run wschar s) 0) (getD s (run wschar s + 1) 0)
+escapedNl at s = escapedLine at (run wschar s) (drop (run wschar s) s)
 
 -- what it drops in the lines that follow, a piece for each blank and each newline
 unfoldable pub escapedMore : ℕ → List ℕ → Piece
 escapedMore at s =
-    cond (eqb (getD s 0 0) 0x0D) (cond (eqb (getD s 1 0) 0x0A) (dropPiece 2) (badDrop 1 LoneCr (at + 1)))
+    cond (stands 0x0D s) (cond (stands 0x0A (drop 1 s)) (dropPiece 2) (badDrop 1 LoneCr (at + 1)))
     (dropPiece 1)
 
 -- bytes that are not allowed in an ml-basic string: error 12 at their run, which ends at a CR too
 unfoldable pub mlbContent : Edition → ℕ → List ℕ → Piece
 mlbContent v at s =
-    cond (mlbPlain (getD s 0 0)) (copyPiece (run mlbPlain s))
-    (cond (eqb (getD s 0 0) 0x5C) (cond (skips (getD s 1 0)) (escapedNl at (drop 1 s)) (escapePiece v at (drop 1 s)))
-    (cond (eqb (getD s 0 0) 0x0D) (cond (eqb (getD s 1 0) 0x0A) (copyPiece 2) (badCopy 1 LoneCr (at + 1) (at + 1)))
+    cond (firstIs mlbPlain s) (copyPiece (run mlbPlain s))
+    (cond (stands 0x5C s) (cond (firstIs skips (drop 1 s)) (escapedNl at (drop 1 s)) (escapePiece v at (drop 1 s)))
+    (cond (stands 0x0D s) (cond (stands 0x0A (drop 1 s)) (copyPiece 2) (badCopy 1 LoneCr (at + 1) (at + 1)))
     (badCopy (run mlbInvalid s) MlBasicInvalid at (at + run mlbInvalid s))))
 
 -- within a line-ending escape, what it drops comes first
 unfoldable pub mlBasicPiece : Edition → Bool → ℕ → List ℕ → Piece
-mlBasicPiece v dropping at s = cond (dropping && skips (getD s 0 0)) (escapedMore at s) (mlbContent v at s)
+mlBasicPiece v dropping at s = cond (dropping && firstIs skips s) (escapedMore at s) (mlbContent v at s)
 
 -- a byte that is not allowed in a key: error 15 at it
 unfoldable pub keyPiece : ℕ → List ℕ → Piece
 keyPiece at s =
-    cond (unquotedChar (getD s 0 0)) (copyPiece (run unquotedChar s))
+    cond (firstIs unquotedChar s) (copyPiece (run unquotedChar s))
     (badCopy 1 KeyInvalid at at)
 
 -- the kinds; only an ml-basic body has line-ending escapes

@@ -6,6 +6,7 @@ use mathlib.Core.Bool.{Bool, true, false, cond, _&&_}
 use mathlib.Core.List.{List, [], _∷_}
 use lib.Dec.{eqb, leb, ltb}
 use lib.ListN.{length, take, drop, getD}
+use Rattle.classes.specs.Runs.{stands}
 use Rattle.strings.specs.declared.Encoding.{Encoding}
 use Rattle.strings.specs.declared.Encoding.the-variants.{LiteralString, BasicString, MlLiteralString, MlBasicString, UnquotedKey}
 use Rattle.strings.specs.declared.Ends.{Ends}
@@ -40,7 +41,7 @@ threes q s = leb 3 (length s) && (eqb (getD s 0 0) q && (eqb (getD s 1 0) q && e
 
 -- how long a newline at the front is: LF, or CR LF
 unfoldable pub newlineLen : List ℕ → ℕ
-newlineLen s = cond (eqb (getD s 0 0) 0x0A) 1 (cond (eqb (getD s 0 0) 0x0D && eqb (getD s 1 0) 0x0A) 2 0)
+newlineLen s = cond (stands 0x0A s) 1 (cond (stands 0x0D s && stands 0x0A (drop 1 s)) 2 0)
 
 -- the body starts behind the opening, where it is there, and behind a newline right after
 unfoldable pub mlStart : Bool → List ℕ → ℕ

@@ -7,7 +7,7 @@ use borrow.Author.Tests.{ne-eqb}
 use Rattle.classes.specs.Classes.{basicUnescaped}
 use Rattle.classes.proofs.RunLaws.{run-le, run-none, run-first}
 use Rattle.strings.specs.Encodings.{basicInvalid}
-use Rattle.strings.specs.Bodies.{basicPiece}
+use Rattle.strings.proofs.PlaceForms.{basic-piece-is}
 use Rattle.strings.proofs.Fine.{rest-is}
 use Rattle.pieces.proofs.EscapeAtLaws.{basic-escape}
 use Rattle.pieces.proofs.string.decode_basic_string.Statement.{statement}
@@ -40,13 +40,12 @@ copy-piece-requires : tie.Need-copy-piece-requires
 copy-piece-requires c κs = search needs
 
 returns-2 : tie.Need-returns-2
-unfolding basicPiece
 returns-2 c =
     let s = c .before .before .before .before .before .before .args .s .now in
     let some = c .before .before .before .before .before .before .pre .0 in
     let n = c .before .before .basic-unescaped .ensures in
     let first = run-first basicUnescaped s some _ n (c .before .if2 .taken) in
-    c .copy-piece .ensures ∙ rw (first, ← n)
+    c .copy-piece .ensures ∙ rw (basic-piece-is, first, ← n)
 
 basic-invalid-requires : tie.Need-basic-invalid-requires
 basic-invalid-requires c κs = search needs
@@ -60,14 +59,13 @@ bad-copy-requires : tie.Need-bad-copy-requires
 bad-copy-requires c κs = search needs
 
 returns-3 : tie.Need-returns-3
-unfolding basicPiece
 returns-3 c =
     let s = c .before .before .before .before .before .before .before .args .s .now in
     let some = c .before .before .before .before .before .before .before .pre .0 in
     let n = c .before .before .before .basic-unescaped .ensures in
     let none = run-none basicUnescaped s some _ n (c .before .before .if2 .left) in
     let other = ne-eqb _ 0x5C (c .before .before .before .before .if1 .left) in
-    c .bad-copy .ensures ∙ rw (none, other, ← (c .before .basic-invalid .ensures))
+    c .bad-copy .ensures ∙ rw (basic-piece-is, none, other, ← (c .before .basic-invalid .ensures))
 
 pub decode-basic-string-spec : {M : Type 1} → statement M
 decode-basic-string-spec =

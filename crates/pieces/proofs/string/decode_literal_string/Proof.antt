@@ -3,7 +3,7 @@
 use mathlib.Core.Path.{_∙_}
 use borrow.Author.Needs.{needs}
 use Rattle.classes.specs.Classes.{literalChar}
-use Rattle.strings.specs.Bodies.{literalPiece}
+use Rattle.strings.proofs.PlaceForms.{literal-piece-is}
 use Rattle.classes.proofs.RunLaws.{run-none, run-first}
 use Rattle.pieces.proofs.string.decode_literal_string.Statement.{statement}
 use Rattle.pieces.proofs.string.decode_literal_string.Tie as tie
@@ -15,23 +15,22 @@ copy-piece-requires : tie.Need-copy-piece-requires
 copy-piece-requires c κs = search needs
 
 returns : tie.Need-returns
-unfolding literalPiece
 returns c =
     let n = c .before .before .literal-chars in
     let args = c .before .before .before .before .args in
     let pre = c .before .before .before .before .pre in
-    c .copy-piece .ensures ∙ rw (run-first literalChar (args .s .now) pre _ (n .ensures) (c .before .if1 .taken), ← (n .ensures))
+    c .copy-piece .ensures
+    ∙ rw (literal-piece-is, run-first literalChar (args .s .now) pre _ (n .ensures) (c .before .if1 .taken), ← (n .ensures))
 
 bad-copy-requires : tie.Need-bad-copy-requires
 bad-copy-requires c κs = search needs
 
 returns-2 : tie.Need-returns-2
-unfolding literalPiece
 returns-2 c =
     let n = c .before .before .literal-chars in
     let args = c .before .before .before .before .args in
     let pre = c .before .before .before .before .pre in
-    c .bad-copy .ensures ∙ rw (run-none literalChar (args .s .now) pre _ (n .ensures) (c .before .if1 .left))
+    c .bad-copy .ensures ∙ rw (literal-piece-is, run-none literalChar (args .s .now) pre _ (n .ensures) (c .before .if1 .left))
 
 pub decode-literal-string-spec : {M : Type 1} → statement M
 decode-literal-string-spec =

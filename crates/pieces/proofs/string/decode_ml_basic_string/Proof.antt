@@ -2,7 +2,7 @@
 -- Assumes nothing.
 use mathlib.Core.Path.{_∙_}
 use borrow.Author.Needs.{needs}
-use Rattle.strings.specs.Bodies.{mlBasicPiece}
+use Rattle.strings.proofs.PlaceForms.{ml-basic-piece-is}
 use Rattle.pieces.proofs.string.decode_ml_basic_string.Statement.{statement}
 use Rattle.pieces.proofs.string.decode_ml_basic_string.Tie as tie
 
@@ -16,28 +16,25 @@ mlb-escaped-more-requires : tie.Need-mlb-escaped-more-requires
 mlb-escaped-more-requires c κs = search needs
 
 returns : tie.Need-returns
-unfolding mlBasicPiece
 returns c =
     let if1 = c .before .before .before .before .if1 in
     let is-skipped = c .before .before .is-skipped in
-    c .mlb-escaped-more .ensures ∙ rw (if1 .taken, ← (is-skipped .ensures), c .before .if2 .taken)
+    c .mlb-escaped-more .ensures ∙ rw (ml-basic-piece-is, if1 .taken, ← (is-skipped .ensures), c .before .if2 .taken)
 
 mlb-content-requires : tie.Need-mlb-content-requires
 mlb-content-requires c κs = search needs
 
 returns-2 : tie.Need-returns-2
-unfolding mlBasicPiece
 returns-2 c =
     let if1 = c .before .before .before .before .if1 in
     let is-skipped = c .before .before .is-skipped in
-    c .mlb-content .ensures ∙ rw (if1 .taken, ← (is-skipped .ensures), c .before .if2 .left)
+    c .mlb-content .ensures ∙ rw (ml-basic-piece-is, if1 .taken, ← (is-skipped .ensures), c .before .if2 .left)
 
 mlb-content-requires-2 : tie.Need-mlb-content-requires-2
 mlb-content-requires-2 c κs = search needs
 
 returns-3 : tie.Need-returns-3
-unfolding mlBasicPiece
-returns-3 c = c .mlb-content2 .ensures ∙ rw (c .before .if1 .left)
+returns-3 c = c .mlb-content2 .ensures ∙ rw (ml-basic-piece-is, c .before .if1 .left)
 
 pub decode-ml-basic-string-spec : {M : Type 1} → statement M
 decode-ml-basic-string-spec =

@@ -6,7 +6,7 @@ use lib.ListN.{getD}
 use borrow.Author.Needs.{needs}
 use borrow.Author.Tests.{eq-eqb, ne-eqb}
 use Rattle.strings.specs.Encodings.{mllPlain}
-use Rattle.strings.specs.Bodies.{mlLiteralPiece}
+use Rattle.strings.proofs.PlaceForms.{ml-literal-piece-is}
 use Rattle.classes.proofs.RunLaws.{run-none, run-first}
 use Rattle.pieces.proofs.string.decode_ml_literal_string.Statement.{statement}
 use Rattle.pieces.proofs.string.decode_ml_literal_string.Tie as tie
@@ -24,12 +24,12 @@ copy-piece-requires : tie.Need-copy-piece-requires
 copy-piece-requires c κs = search needs
 
 returns : tie.Need-returns
-unfolding mlLiteralPiece
 returns c =
     let n = c .before .before .mll-chars in
     let args = c .before .before .before .before .args in
     let pre = c .before .before .before .before .pre in
-    c .copy-piece .ensures ∙ rw (run-first mllPlain (args .s .now) (pre .0) _ (n .ensures) (c .before .if1 .taken), ← (n .ensures))
+    c .copy-piece .ensures
+    ∙ rw (ml-literal-piece-is, run-first mllPlain (args .s .now) (pre .0) _ (n .ensures) (c .before .if1 .taken), ← (n .ensures))
 
 shared-slice-read-if2 : tie.Need-shared-slice-read-if2
 shared-slice-read-if2 c = search needs
@@ -41,11 +41,11 @@ copy-piece-requires-2 : tie.Need-copy-piece-requires-2
 copy-piece-requires-2 c κs = search needs
 
 returns-2 : tie.Need-returns-2
-unfolding mlLiteralPiece
 returns-2 c =
     let plain = not-plain (c .before .before .before .before .before) in
     let next = eq-eqb _ 0x0A (c .before .if3 .taken) in
-    c .copy-piece2 .ensures ∙ rw (plain, eq-eqb _ 0x0D (c .before .before .before .if2 .taken), ← (c .before .before .peek .ensures), next)
+    c .copy-piece2 .ensures
+    ∙ rw (ml-literal-piece-is, plain, eq-eqb _ 0x0D (c .before .before .before .if2 .taken), ← (c .before .before .peek .ensures), next)
 
 add-bad-copy : tie.Need-add-bad-copy
 add-bad-copy c = search needs
@@ -57,20 +57,19 @@ bad-copy-requires : tie.Need-bad-copy-requires
 bad-copy-requires c κs = search needs
 
 returns-3 : tie.Need-returns-3
-unfolding mlLiteralPiece
 returns-3 c =
     let plain = not-plain (c .before .before .before .before .before) in
     let next = ne-eqb _ 0x0A (c .before .if3 .left) in
-    c .bad-copy .ensures ∙ rw (plain, eq-eqb _ 0x0D (c .before .before .before .if2 .taken), ← (c .before .before .peek .ensures), next)
+    c .bad-copy .ensures
+    ∙ rw (ml-literal-piece-is, plain, eq-eqb _ 0x0D (c .before .before .before .if2 .taken), ← (c .before .before .peek .ensures), next)
 
 bad-copy-requires-2 : tie.Need-bad-copy-requires-2
 bad-copy-requires-2 c κs = search needs
 
 returns-4 : tie.Need-returns-4
-unfolding mlLiteralPiece
 returns-4 c =
     let plain = not-plain (c .before .before .before) in
-    c .bad-copy2 .ensures ∙ rw (plain, ne-eqb _ 0x0D (c .before .if2 .left))
+    c .bad-copy2 .ensures ∙ rw (ml-literal-piece-is, plain, ne-eqb _ 0x0D (c .before .if2 .left))
 
 pub decode-ml-literal-string-spec : {M : Type 1} → statement M
 decode-ml-literal-string-spec =

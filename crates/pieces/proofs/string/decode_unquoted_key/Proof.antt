@@ -3,7 +3,7 @@
 use mathlib.Core.Path.{_∙_}
 use borrow.Author.Needs.{needs}
 use Rattle.classes.specs.Classes.{unquotedChar}
-use Rattle.strings.specs.Bodies.{keyPiece}
+use Rattle.strings.proofs.PlaceForms.{key-piece-is}
 use Rattle.classes.proofs.RunLaws.{run-none, run-first}
 use Rattle.pieces.proofs.string.decode_unquoted_key.Statement.{statement}
 use Rattle.pieces.proofs.string.decode_unquoted_key.Tie as tie
@@ -15,21 +15,21 @@ copy-piece-requires : tie.Need-copy-piece-requires
 copy-piece-requires c κs = search needs
 
 returns : tie.Need-returns
-unfolding keyPiece
 returns c =
     let s = c .before .before .before .before .args .s .now in
     let n = c .before .before .unquoted-chars .ensures in
-    c .copy-piece .ensures ∙ rw (run-first unquotedChar s (c .before .before .before .before .pre) _ n (c .before .if1 .taken), ← n)
+    c .copy-piece .ensures
+    ∙ rw (key-piece-is, run-first unquotedChar s (c .before .before .before .before .pre) _ n (c .before .if1 .taken), ← n)
 
 bad-copy-requires : tie.Need-bad-copy-requires
 bad-copy-requires c κs = search needs
 
 returns-2 : tie.Need-returns-2
-unfolding keyPiece
 returns-2 c =
     let s = c .before .before .before .before .args .s .now in
     let n = c .before .before .unquoted-chars .ensures in
-    c .bad-copy .ensures ∙ rw (run-none unquotedChar s (c .before .before .before .before .pre) _ n (c .before .if1 .left))
+    c .bad-copy .ensures
+    ∙ rw (key-piece-is, run-none unquotedChar s (c .before .before .before .before .pre) _ n (c .before .if1 .left))
 
 pub decode-unquoted-key-spec : {M : Type 1} → statement M
 decode-unquoted-key-spec =

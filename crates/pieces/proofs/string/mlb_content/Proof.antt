@@ -7,7 +7,7 @@ use borrow.Author.Tests.{eq-eqb, ne-eqb}
 use Rattle.strings.proofs.Fine.{rest-is}
 use Rattle.classes.proofs.RunLaws.{run-le, run-none, run-first}
 use Rattle.strings.specs.Encodings.{mlbPlain, mlbInvalid}
-use Rattle.strings.specs.Bodies.{mlbContent}
+use Rattle.strings.proofs.PlaceForms.{content-is}
 use Rattle.pieces.proofs.string.mlb_content.Statement.{statement}
 use Rattle.pieces.proofs.string.mlb_content.Tie as tie
 
@@ -18,12 +18,12 @@ copy-piece-requires : tie.Need-copy-piece-requires
 copy-piece-requires c κs = search needs
 
 returns : tie.Need-returns
-unfolding mlbContent
 returns c =
     let n = c .before .before .mlb-unescaped in
     let args = c .before .before .before .before .args in
     let pre = c .before .before .before .before .pre in
-    c .copy-piece .ensures ∙ rw (run-first mlbPlain (args .s .now) (pre .0) _ (n .ensures) (c .before .if1 .taken), ← (n .ensures))
+    c .copy-piece .ensures
+    ∙ rw (content-is, run-first mlbPlain (args .s .now) (pre .0) _ (n .ensures) (c .before .if1 .taken), ← (n .ensures))
 
 shared-slice-read-b : tie.Need-shared-slice-read-b
 shared-slice-read-b c = search needs
@@ -47,7 +47,6 @@ mlb-escaped-nl-requires : tie.Need-mlb-escaped-nl-requires
 mlb-escaped-nl-requires c κs = search needs
 
 returns-2 : tie.Need-returns-2
-unfolding mlbContent
 returns-2 c =
     let args = c .before .before .before .before .before .before .before .before .before .before .args in
     let pre = c .before .before .before .before .before .before .before .before .before .before .pre in
@@ -58,7 +57,7 @@ returns-2 c =
     let is-skipped = c .before .before .before .is-skipped in
     let none = run-none mlbPlain (args .s .now) (pre .0) _ (mlb-unescaped .ensures) (if1 .left) in
     rw rest-is at (c .mlb-escaped-nl .ensures)
-    ∙ rw (none, eq-eqb _ 0x5C (if2 .taken), ← (peek .ensures), ← (is-skipped .ensures), c .before .before .if3 .taken)
+    ∙ rw (content-is, none, eq-eqb _ 0x5C (if2 .taken), ← (peek .ensures), ← (is-skipped .ensures), c .before .before .if3 .taken)
 
 sub-escape-seq-char : tie.Need-sub-escape-seq-char
 sub-escape-seq-char c = search needs
@@ -73,7 +72,6 @@ escape-seq-char-requires : tie.Need-escape-seq-char-requires
 escape-seq-char-requires c κs = search needs
 
 returns-3 : tie.Need-returns-3
-unfolding mlbContent
 returns-3 c =
     let args = c .before .before .before .before .before .before .before .before .before .before .args in
     let pre = c .before .before .before .before .before .before .before .before .before .before .pre in
@@ -84,7 +82,7 @@ returns-3 c =
     let is-skipped = c .before .before .before .is-skipped in
     let none = run-none mlbPlain (args .s .now) (pre .0) _ (mlb-unescaped .ensures) (if1 .left) in
     rw rest-is at (c .escape-seq-char .ensures)
-    ∙ rw (none, eq-eqb _ 0x5C (if2 .taken), ← (peek .ensures), ← (is-skipped .ensures), c .before .before .if3 .left)
+    ∙ rw (content-is, none, eq-eqb _ 0x5C (if2 .taken), ← (peek .ensures), ← (is-skipped .ensures), c .before .before .if3 .left)
 
 peek-requires-2 : tie.Need-peek-requires-2
 peek-requires-2 c κs = search needs
@@ -93,7 +91,6 @@ copy-piece-requires-2 : tie.Need-copy-piece-requires-2
 copy-piece-requires-2 c κs = search needs
 
 returns-4 : tie.Need-returns-4
-unfolding mlbContent
 returns-4 c =
     let args = c .before .before .before .before .before .before .before .before .before .args in
     let pre = c .before .before .before .before .before .before .before .before .before .pre in
@@ -105,7 +102,7 @@ returns-4 c =
     let none = run-none mlbPlain (args .s .now) (pre .0) _ (mlb-unescaped .ensures) (if1 .left) in
     let other = ne-eqb _ 0x5C (if2 .left) in
     let return = eq-eqb _ 0x0D (if4 .taken) in
-    c .copy-piece2 .ensures ∙ rw (none, other, return, ← (peek2 .ensures), eq-eqb _ 0x0A (c .before .if5 .taken))
+    c .copy-piece2 .ensures ∙ rw (content-is, none, other, return, ← (peek2 .ensures), eq-eqb _ 0x0A (c .before .if5 .taken))
 
 add-bad-copy : tie.Need-add-bad-copy
 add-bad-copy c = search needs
@@ -117,7 +114,6 @@ bad-copy-requires : tie.Need-bad-copy-requires
 bad-copy-requires c κs = search needs
 
 returns-5 : tie.Need-returns-5
-unfolding mlbContent
 returns-5 c =
     let args = c .before .before .before .before .before .before .before .before .before .args in
     let pre = c .before .before .before .before .before .before .before .before .before .pre in
@@ -129,7 +125,7 @@ returns-5 c =
     let none = run-none mlbPlain (args .s .now) (pre .0) _ (mlb-unescaped .ensures) (if1 .left) in
     let other = ne-eqb _ 0x5C (if2 .left) in
     let return = eq-eqb _ 0x0D (if4 .taken) in
-    c .bad-copy .ensures ∙ rw (none, other, return, ← (peek2 .ensures), ne-eqb _ 0x0A (c .before .if5 .left))
+    c .bad-copy .ensures ∙ rw (content-is, none, other, return, ← (peek2 .ensures), ne-eqb _ 0x0A (c .before .if5 .left))
 
 mlb-invalid-requires : tie.Need-mlb-invalid-requires
 mlb-invalid-requires c κs = search needs
@@ -143,7 +139,6 @@ bad-copy-requires-2 : tie.Need-bad-copy-requires-2
 bad-copy-requires-2 c κs = search needs
 
 returns-6 : tie.Need-returns-6
-unfolding mlbContent
 returns-6 c =
     let args = c .before .before .before .before .before .before .before .before .args in
     let pre = c .before .before .before .before .before .before .before .before .pre in
@@ -152,7 +147,7 @@ returns-6 c =
     let if2 = c .before .before .before .if2 in
     let none = run-none mlbPlain (args .s .now) (pre .0) _ (mlb-unescaped .ensures) (if1 .left) in
     c .bad-copy2 .ensures
-    ∙ rw (none, ne-eqb _ 0x5C (if2 .left), ne-eqb _ 0x0D (c .before .before .if4 .left), ← (c .before .mlb-invalid .ensures))
+    ∙ rw (content-is, none, ne-eqb _ 0x5C (if2 .left), ne-eqb _ 0x0D (c .before .before .if4 .left), ← (c .before .mlb-invalid .ensures))
 
 pub mlb-content-spec : {M : Type 1} → statement M
 mlb-content-spec =

@@ -9,7 +9,7 @@ use lib.ListN.{length}
 use Rattle.classes.specs.Classes.{wschar}
 use Rattle.classes.specs.Runs.{run}
 use Rattle.classes.proofs.RunLaws.{run-le}
-use Rattle.strings.specs.Bodies.{escapedNl}
+use Rattle.strings.proofs.PlaceForms.{escaped-nl-is}
 use Rattle.pieces.proofs.string.mlb_escaped_nl.Statement.{statement}
 use Rattle.pieces.proofs.string.mlb_escaped_nl.Tie as tie
 
@@ -33,10 +33,9 @@ drop-piece-requires : tie.Need-drop-piece-requires
 drop-piece-requires c κs = search needs
 
 returns : tie.Need-returns
-unfolding escapedNl
 returns c =
     c .drop-piece .ensures
-    ∙ rw (← (blanks (c .before .before .before)), ← (c .before .before .peek .ensures), eq-eqb _ 0x0A (c .before .if1 .taken))
+    ∙ rw (escaped-nl-is, ← (blanks (c .before .before .before)), ← (c .before .before .peek .ensures), eq-eqb _ 0x0A (c .before .if1 .taken))
 
 add-peek : tie.Need-add-peek
 add-peek c = omega (arith, within (c .before .before .before))
@@ -51,13 +50,13 @@ drop-piece-requires-2 : tie.Need-drop-piece-requires-2
 drop-piece-requires-2 c κs = search needs
 
 returns-2 : tie.Need-returns-2
-unfolding escapedNl
 returns-2 c =
     let w = blanks (c .before .before .before .before .before .before) in
     let byte = c .before .before .before .before .before .peek .ensures in
     let other = ne-eqb _ 0x0A (c .before .before .before .before .if1 .left) in
     let return = eq-eqb _ 0x0D (c .before .before .before .if2 .taken) in
-    c .drop-piece2 .ensures ∙ rw (← w, ← byte, other, return, ← (c .before .before .peek2 .ensures), eq-eqb _ 0x0A (c .before .if3 .taken))
+    c .drop-piece2 .ensures
+    ∙ rw (escaped-nl-is, ← w, ← byte, other, return, ← (c .before .before .peek2 .ensures), eq-eqb _ 0x0A (c .before .if3 .taken))
 
 add-bad-drop : tie.Need-add-bad-drop
 add-bad-drop c = omega (arith, within (c .before .before .before .before .before))
@@ -72,13 +71,13 @@ bad-drop-requires : tie.Need-bad-drop-requires
 bad-drop-requires c κs = search needs
 
 returns-3 : tie.Need-returns-3
-unfolding escapedNl
 returns-3 c =
     let w = blanks (c .before .before .before .before .before .before) in
     let byte = c .before .before .before .before .before .peek .ensures in
     let other = ne-eqb _ 0x0A (c .before .before .before .before .if1 .left) in
     let return = eq-eqb _ 0x0D (c .before .before .before .if2 .taken) in
-    c .bad-drop .ensures ∙ rw (← w, ← byte, other, return, ← (c .before .before .peek2 .ensures), ne-eqb _ 0x0A (c .before .if3 .left))
+    c .bad-drop .ensures
+    ∙ rw (escaped-nl-is, ← w, ← byte, other, return, ← (c .before .before .peek2 .ensures), ne-eqb _ 0x0A (c .before .if3 .left))
 
 add-bad-drop-4 : tie.Need-add-bad-drop-4
 add-bad-drop-4 c = omega (arith, within (c .before .before .before))
@@ -93,12 +92,11 @@ bad-drop-requires-2 : tie.Need-bad-drop-requires-2
 bad-drop-requires-2 c κs = search needs
 
 returns-4 : tie.Need-returns-4
-unfolding escapedNl
 returns-4 c =
     let w = blanks (c .before .before .before .before) in
     let byte = c .before .before .before .peek .ensures in
     c .bad-drop2 .ensures
-    ∙ rw (← w, ← byte, ne-eqb _ 0x0A (c .before .before .if1 .left), ne-eqb _ 0x0D (c .before .if2 .left))
+    ∙ rw (escaped-nl-is, ← w, ← byte, ne-eqb _ 0x0A (c .before .before .if1 .left), ne-eqb _ 0x0D (c .before .if2 .left))
 
 pub mlb-escaped-nl-spec : {M : Type 1} → statement M
 mlb-escaped-nl-spec =
