@@ -13,7 +13,7 @@ use Rattle.classes.proofs.RunLaws.{run-le}
 use Rattle.text.specs.declared.utf8.Encoded.{Encoded}
 use Rattle.text.specs.Refusals.{limit}
 use Rattle.text.specs.Utf8.{Scalar, encodeScalar}
-use Rattle.text.specs.Answers.{padded, encodedOf}
+use Rattle.text.specs.CheckMeans.{padded, encodedOf}
 use Rattle.text.proofs.EncodeLaws.{scalar-true, encode-length}
 use Rattle.strings.specs.declared.Encoding.{Encoding}
 use Rattle.strings.specs.declared.Encoding.the-variants.{UnquotedKey}

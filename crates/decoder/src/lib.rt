@@ -7,10 +7,10 @@ ghost use lib.ListN.{length};
 ghost use Rattle.text.specs.Refusals.{limit};
 ghost use Rattle.text.specs.Told.{checkFault};
 ghost use Rattle.text.specs.declared.utf8.Utf8Check.the-variants.{Valid};
-ghost use Rattle.strings.specs.Encodings.{choiceBy, choiceOf};
+ghost use Rattle.strings.specs.Encodings.{choiceBy};
 ghost use Rattle.strings.specs.declared.Choice.the-variants.{Known};
-ghost use Rattle.strings.specs.Decoding.{bytesOf, errorsOf, bytesBy, errorsBy, decodedBy, decodeIn, decodeOf, after};
-ghost use Rattle.strings.specs.Decoding.{decodedNumber, decodedValue, decodedErrors, decodedLength, decodeRefusal, decodeReturned, decodeNoted};
+ghost use Rattle.strings.specs.Decoding.{bytesOf, errorsOf, bytesBy, errorsBy, decodedBy, decodeIn, after};
+ghost use Rattle.strings.specs.Told.{decodedNumber, decodedValue, decodedErrors, decodedLength, decodeRefusal, decodeReturned, decodeNoted};
 ghost use Rattle.strings.proofs.PlainLaws.{Named};
 ghost use Rattle.strings.specs.Marks.{endsOf};
 ghost use Rattle.strings.proofs.KeyLaws.{KeyCopied};
@@ -45,11 +45,11 @@ use token::TokenKind;
 // front of the records; what is behind them stays. A call that is refused writes nothing.
 pub fn decode(text: &[u8], kind: usize, output: &mut [u8], errors: &mut [[usize; 3]]) -> Decoded
     ensures answer { λ r.
-        ⌜ r ≡ decodeOf (now (text .entry)) kind (length (now (output .entry))) (length (now (errors .entry))) ⌝ }
+        ⌜ r ≡ decodeIn (now (text .entry)) 10 kind (length (now (output .entry))) (length (now (errors .entry))) ⌝ }
     ensures output { λ r.
-        ⌜ now (output .exit) ≡ after r (bytesBy (choiceOf kind) (now (text .entry))) (now (output .entry)) ⌝ }
+        ⌜ now (output .exit) ≡ after r (bytesBy (choiceBy 10 kind) (now (text .entry))) (now (output .entry)) ⌝ }
     ensures records { λ r.
-        ⌜ now (errors .exit) ≡ after r (errorsBy (choiceOf kind) (now (text .entry))) (now (errors .entry)) ⌝ }
+        ⌜ now (errors .exit) ≡ after r (errorsBy (choiceBy 10 kind) (now (text .entry))) (now (errors .entry)) ⌝ }
     ensures number { λ r.
         ⌜ decodedNumber r ≡ decodeRefusal (now (text .entry)) 10 kind (length (now (output .entry))) (length (now (errors .entry))) ⌝ }
     ensures value { λ r.

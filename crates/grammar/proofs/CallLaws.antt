@@ -19,7 +19,8 @@ use Rattle.strings.specs.declared.Decoded.the-variants.{Written}
 use Rattle.strings.specs.declared.Edition.{Edition}
 use Rattle.strings.specs.declared.Edition.the-variants.{Toml10, Toml11}
 use Rattle.strings.specs.Encodings.{choiceIn, choiceBy, editionNumber}
-use Rattle.strings.specs.Decoding.{bytesOf, errorsOf, fitted, decodedBy, decodedNumber, decodedValue, decodedErrors}
+use Rattle.strings.specs.Decoding.{bytesOf, errorsOf, fitted, decodedBy}
+use Rattle.strings.specs.Told.{decodedNumber, decodedValue, decodedErrors}
 use Rattle.strings.proofs.DecodeLaws.{fitted-short, fitted-few, fitted-written, decode-valid}
 use Rattle.token.specs.KindNumbers.{kindNumber}
 use Rattle.grammar.specs.Strings.{StringKind, literal, basic, ml-literal, ml-basic, tokenKind, encoding}

@@ -20,7 +20,7 @@ use Rattle.strings.specs.declared.Letter.the-variants.{Stands, Asks, Neither}
 use Rattle.strings.specs.declared.Piece.{Piece}
 use Rattle.strings.specs.declared.Verdict.the-variants.{Clean}
 use Rattle.strings.specs.Pieces.{Pieces, charPiece}
-use Rattle.strings.specs.Escapes.{newLetter, letterOf, letterAt, hexFrom, hexValue, hexPiece, escapeBy, escapePiece}
+use Rattle.strings.specs.Escapes.{newLetter, letterOf, hexFrom, hexValue, hexPiece, escapeBy, escapePiece}
 use Rattle.strings.proofs.PieceLaws.{wrong≢clean}
 use Rattle.strings.proofs.EscapeLaws.{hex-char, escape-hex, escape-simple}
 use Rattle.grammar.specs.Grammar.{HexDig, HexDigits, stop, more, EscapeSeqChar, x22, x5C, x62, x66, x6E, x72, x74, x75, x55, x65, x78}

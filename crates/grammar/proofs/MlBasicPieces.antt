@@ -67,7 +67,7 @@ ws-run (Ws.more x20 w) n s = ap suc (ws-run w n s)
 ws-run (Ws.more x09 w) n s = ap suc (ws-run w n s)
 
 line-front : {w n : List ℕ} → Ws w → Newline n → (s : List ℕ) → firstIs skips (w ++ (n ++ s)) ≡ true
-unfolding firstIs skips wschar
+unfolding skips wschar
 line-front Ws.stop x0A s = refl
 line-front Ws.stop x0D-0A s = refl
 line-front (Ws.more x20 w) n s = refl

@@ -18,7 +18,7 @@ use mathlib.Core.{Path._≡_, Logic._↔_, List.List, List.[], List._++_, List.L
 use lib.{ListN.length, ListN.drop}
 use Rattle.text.specs.{Utf8.Scalar, Utf8.encodes, Utf8.All, Utf8.Utf8, Refusals.limit}
 use Rattle.strings.specs.declared.{Edition.Edition, Decoded.Decoded, Decoded.the-variants.Written}
-use Rattle.strings.specs.{Encodings.choiceBy, Encodings.editionNumber, Decoding.bytesOf, Decoding.errorsOf, Decoding.bytesBy, Decoding.decodeIn, Decoding.after, Decoding.decodedNumber}
+use Rattle.strings.specs.{Encodings.choiceBy, Encodings.editionNumber, Decoding.bytesOf, Decoding.errorsOf, Decoding.bytesBy, Decoding.decodeIn, Decoding.after, Told.decodedNumber}
 use Rattle.token.specs.{KindNumbers.kindNumber, Records.tokenOf, Records.textOf}
 use Rattle.token.specs.declared.{Token.Token}
 use Rattle.lexer.specs.{Tokens.tokensOf, Lines.lineFeeds, Lines.lineOf, Steps.cursorOf, Steps.startAnswer, Steps.stepOf}

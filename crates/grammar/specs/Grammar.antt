@@ -8,7 +8,6 @@ use mathlib.Core.{Path._≡_, List.List, List.[], List._∷_, List._++_}
 use Rattle.strings.specs.declared.{Edition.Edition, Edition.the-variants.Toml11}
 
 -- ---- Whitespace
-
 -- wschar =  %x20  ; Space
 -- wschar =/ %x09  ; Horizontal tab
 pub data Wschar : ℕ → Type 0 where
@@ -21,7 +20,6 @@ pub data Ws : List ℕ → Type 0 where
   more : {c : ℕ} {r : List ℕ} → Wschar c → Ws r → Ws (c ∷ r)
 
 -- ---- Newline
-
 -- newline =  %x0A     ; LF
 -- newline =/ %x0D.0A  ; CRLF
 pub data Newline : List ℕ → Type 0 where
@@ -34,14 +32,12 @@ pub data OptNewline : List ℕ → Type 0 where
   present : {t : List ℕ} → Newline t → OptNewline t
 
 -- ---- Comment
-
 -- non-ascii = %x80-D7FF / %xE000-10FFFF
 pub data NonAscii : ℕ → Type 0 where
   x80-D7FF : {c : ℕ} → 0x80 ≤ c → c ≤ 0xD7FF → NonAscii c
   xE000-10FFFF : {c : ℕ} → 0xE000 ≤ c → c ≤ 0x10FFFF → NonAscii c
 
 -- ---- Basic String
-
 -- quotation-mark = %x22            ; "
 abbrev pub quotation-mark : ℕ
 quotation-mark = 0x22
@@ -114,7 +110,6 @@ pub data BasicString (ed : Edition) : List ℕ → List ℕ → Type 0 where
   basic-string : {t v : List ℕ} → BasicChars ed t v → BasicString ed (quotation-mark ∷ (t ++ (quotation-mark ∷ []))) v
 
 -- ---- Multiline Basic String
-
 -- ml-basic-string-delim = 3quotation-mark
 abbrev pub ml-basic-string-delim : List ℕ
 ml-basic-string-delim = quotation-mark ∷ (quotation-mark ∷ (quotation-mark ∷ []))
@@ -189,7 +184,6 @@ pub data MlBasicString (ed : Edition) : List ℕ → List ℕ → Type 0 where
       → MlBasicString ed (ml-basic-string-delim ++ (n ++ (b ++ ml-basic-string-delim))) v
 
 -- ---- Literal String
-
 -- apostrophe = %x27 ; ' apostrophe
 abbrev pub apostrophe : ℕ
 apostrophe = 0x27
@@ -211,7 +205,6 @@ pub data LiteralString : List ℕ → List ℕ → Type 0 where
   literal-string : {s : List ℕ} → LiteralChars s → LiteralString (apostrophe ∷ (s ++ (apostrophe ∷ []))) s
 
 -- ---- Multiline Literal String
-
 -- ml-literal-string-delim = 3apostrophe
 abbrev pub ml-literal-string-delim : List ℕ
 ml-literal-string-delim = apostrophe ∷ (apostrophe ∷ (apostrophe ∷ []))

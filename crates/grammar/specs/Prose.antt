@@ -19,7 +19,6 @@ startsBlank [] = false
 startsBlank (c ∷ s) = (eqb c 0x20 || eqb c 0x09) || startsNewline (c ∷ s)
 
 -- ---- the newline after the opening: where the body b keeps none of it in front
-
 abbrev pub Trimmed : {n : List ℕ} → OptNewline n → List ℕ → Type 0
 Trimmed OptNewline.absent b = startsNewline b ≡ false
 Trimmed (OptNewline.present n) b = Unit {0}
@@ -28,7 +27,6 @@ abbrev pub MlLiteralObeys : {t v : List ℕ} → MlLiteralString t v → Type 0
 MlLiteralObeys (ml-literal-string {n} {b} o d) = Trimmed o b
 
 -- ---- a line-ending backslash: nothing that it could drop follows; f is all that follows in the body
-
 abbrev pub Drops : {ed : Edition} {t w : List ℕ} → MlbContent ed t w → List ℕ → Type 0
 Drops (mlb-char c) f = Unit {0}
 Drops (MlbContent.newline n) f = Unit {0}

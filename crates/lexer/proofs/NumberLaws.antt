@@ -8,7 +8,7 @@ use lib.Dec.{ltb, eqb}
 use Rattle.classes.proofs.Conds.{cond-case, of-choice}
 use Rattle.text.specs.Refusals.{limit}
 use Rattle.text.specs.Utf8Read.{validPrefix}
-use Rattle.text.specs.Answers.{checkOf}
+use Rattle.text.specs.CheckMeans.{checkOf}
 use Rattle.text.specs.Told.{checkFault}
 use Rattle.text.specs.declared.utf8.Utf8Check.{Utf8Check}
 use Rattle.text.specs.declared.utf8.Utf8Check.the-variants.{Valid}

@@ -193,9 +193,18 @@ fn letter_at(v: Edition, s: &[u8]) -> Letter
     letter_of(v, s[0])
 }
 
+// In two parts, below the small letters and among them: so each table is small, and the compiler puts it into its callers.
 fn letter_of(v: Edition, b: u8) -> Letter
     ensures { λ r. ⌜ r ≡ letterOf v b ⌝ }
 {
+    if b < b'a' {
+        return match b {
+            b'"' => Letter::Stands(0x22),
+            b'\\' => Letter::Stands(0x5C),
+            b'U' => Letter::Asks(8),
+            _ => Letter::Neither,
+        };
+    }
     match b {
         b'b' => Letter::Stands(0x08),
         b'f' => Letter::Stands(0x0C),
@@ -203,9 +212,6 @@ fn letter_of(v: Edition, b: u8) -> Letter
         b'r' => Letter::Stands(0x0D),
         b't' => Letter::Stands(0x09),
         b'u' => Letter::Asks(4),
-        b'U' => Letter::Asks(8),
-        b'\\' => Letter::Stands(0x5C),
-        b'"' => Letter::Stands(0x22),
         _ => new_letter(v, b),
     }
 }

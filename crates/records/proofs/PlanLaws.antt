@@ -9,7 +9,7 @@ use lib.ListN.{length}
 use Rattle.classes.proofs.Conds.{cond-case}
 use Rattle.text.specs.Refusals.{limit}
 use Rattle.text.specs.Utf8Read.{validPrefix}
-use Rattle.text.specs.Answers.{checkOf}
+use Rattle.text.specs.CheckMeans.{checkOf}
 use Rattle.text.specs.declared.refusal.Refusal.{Refusal}
 use Rattle.text.specs.declared.refusal.Refusal.the-variants.{FewTokens}
 use Rattle.text.specs.declared.utf8.Utf8Check.{Utf8Check}

@@ -3,7 +3,7 @@
 use Prim.Native.Nat.{ℕ}
 use mathlib.Core.{Bool.cond, List.List, List._++_}
 use lib.{ListN.length, ListN.drop, Dec.ltb}
-use Rattle.text.specs.{Answers.checkOf}
+use Rattle.text.specs.{CheckMeans.checkOf}
 use Rattle.text.specs.declared.{utf8.Utf8Check.Utf8Check, utf8.Utf8Check.the-variants.Valid, utf8.Utf8Check.the-variants.Refused as Broken}
 use Rattle.token.specs.declared.{Token.Token}
 use Rattle.lexer.specs.{Tokens.tokensOf, Whole.tokenCount}

@@ -8,7 +8,7 @@ use native.Mathlib.Omega.{arith}
 use lib.Dec.{ltb}
 use lib.ListN.{length}
 use borrow.Author.Tests.{ltb-false}
-use Rattle.text.specs.Answers.{checkOf}
+use Rattle.text.specs.CheckMeans.{checkOf}
 use Rattle.text.specs.declared.refusal.Refusal.the-variants.{ShortOutput, FewErrors}
 use Rattle.text.specs.declared.utf8.Utf8Check.{Utf8Check}
 use Rattle.text.specs.declared.utf8.Utf8Check.the-variants.{Valid, Refused as NotValid}

@@ -1,9 +1,9 @@
 -- The pieces of each body are fine.
 -- Assumes nothing.
 use Prim.Native.Nat.{ℕ, suc, _+_, _≤_, _<_}
-use mathlib.Core.Path.{_≡_}
+use mathlib.Core.Path.{_≡_, refl}
 use mathlib.Core.Bool.{Bool, true, false, _&&_}
-use mathlib.Core.List.{List}
+use mathlib.Core.List.{List, [], _++_}
 use native.Mathlib.Omega.{arith}
 use lib.ListN.{length, drop, getD, length-drop}
 use borrow.Author.Tests.{ne-eqb}
@@ -18,9 +18,11 @@ use Rattle.strings.specs.declared.Encoding.the-variants.{LiteralString, 
 use Rattle.strings.specs.Encodings.{mllPlain, mlbPlain, basicInvalid, mlbInvalid}
 use Rattle.strings.specs.declared.Given.the-variants.{Copy}
 use Rattle.strings.specs.declared.Verdict.{Verdict}
-use Rattle.strings.specs.declared.Verdict.the-variants.{Clean, Wrong}
+use Rattle.strings.specs.declared.Verdict.the-variants.{Clean}
+use Rattle.strings.specs.Pieces.{collect}
 use Rattle.strings.specs.Bodies.{literalPiece, mlLiteralPiece, basicPiece, skips, escapedNl, escapedMore, mlbContent, mlBasicPiece, keyPiece, pieceOf}
 use Rattle.strings.proofs.PlaceForms.{literal-piece-is, ml-literal-piece-is, basic-piece-is, lineBy, escaped-nl-is, escaped-more-is, content-is, ml-basic-piece-is, key-piece-is}
+use Rattle.strings.proofs.PieceLaws.{collect-step}
 use Rattle.strings.proofs.Fine.{FineAt, Fine, fine-copy, fine-drop}
 use Rattle.strings.proofs.EscapeLaws.{escape-fine}
 
@@ -114,3 +116,16 @@ piece-fine MlLiteralString d at s h = ml-literal-fine at s h
 piece-fine (BasicString v) d at s h = basic-fine at s h v
 piece-fine (MlBasicString v) d at s h = ml-basic-fine at s h v d
 piece-fine UnquotedKey d at s h = key-fine at s h
+
+-- ---- what is collected of a body, without the count of bytes to skip
+
+module _ {A : Type 0} (e : Encoding) (g : Piece → List ℕ → List A) where
+  -- of no bytes nothing
+  pub collected-none : (d : Bool) (at : ℕ) → collect (pieceOf e) g 0 d at [] ≡ []
+  collected-none d at = refl
+
+  -- else what g says of the first piece p, and then what is collected of the rest behind the bytes that it takes
+  pub collected-step : (d : Bool) (at : ℕ) (s : List ℕ) → 0 < length s
+      → let p = pieceOf e d at s in
+      collect (pieceOf e) g 0 d at s ≡ g p s ++ collect (pieceOf e) g 0 (p .dropping) (at + p .take) (drop (p .take) s)
+  collected-step d at s h = collect-step (pieceOf e) g d at s h (piece-fine e d at s h .some)

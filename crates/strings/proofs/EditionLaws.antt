@@ -1,15 +1,15 @@
 -- A text that is free of error in TOML 1.0 is free of error in TOML 1.1, with the same value. Not the other way round: an
 -- example stands at the end.
 -- Assumes nothing.
-use Prim.Native.Nat.{ℕ, zero, suc, pred, _<_}
-use mathlib.Core.Path.{_≡_, refl, sym, ap, _∙_}
+use Prim.Native.Nat.{ℕ, zero, suc, pred}
+use mathlib.Core.Path.{_≡_, refl, ap}
 use mathlib.Core.Logic.{_⊎_, inl, inr}
 use mathlib.Core.Bool.{Bool, true, false, cond, _&&_}
 use mathlib.Core.List.{List, [], _∷_, _++_}
 use native.Mathlib.Omega.{arith}
 use lib.Dec.{eqb}
-use lib.ListN.{length, drop, getD, length-append}
-use Rattle.classes.specs.Classes.{basicUnescaped, hexdig}
+use lib.ListN.{length, drop, length-append}
+use Rattle.classes.specs.Classes.{basicUnescaped}
 use Rattle.classes.specs.Runs.{run, firstIs, stands}
 use Rattle.text.specs.Utf8.{encodeScalar}
 use Rattle.text.specs.declared.refusal.Refusal.{Refusal}
@@ -24,12 +24,12 @@ use Rattle.strings.specs.declared.Letter.{Letter}
 use Rattle.strings.specs.declared.Letter.the-variants.{Stands, Asks, Neither}
 use Rattle.strings.specs.declared.Piece.{Piece}
 use Rattle.strings.specs.declared.Verdict.the-variants.{Clean}
-use Rattle.strings.specs.Encodings.{mlbPlain, basicInvalid, choiceIn, choiceBy, markError}
-use Rattle.strings.specs.Pieces.{gives, notes, notesAt, Pieces, collect, charPiece, copyPiece}
-use Rattle.strings.specs.Escapes.{newLetter, letterOf, letterAt, hexValue, hexFrom, hexPiece, escapeBy, escapePiece}
-use Rattle.strings.specs.Bodies.{basicPiece, skips, escapedNl, escapedMore, mlbContent, mlBasicPiece, pieceOf}
+use Rattle.strings.specs.Encodings.{mlbPlain, choiceIn, choiceBy, markError}
+use Rattle.strings.specs.Pieces.{gives, notes, notesAt, collect}
+use Rattle.strings.specs.Escapes.{newLetter, letterOf, letterAt, escapeBy, escapePiece}
+use Rattle.strings.specs.Bodies.{basicPiece, skips, mlbContent, mlBasicPiece, pieceOf}
 use Rattle.strings.specs.Marks.{lineEnds, endsOf, bodyOf}
-use Rattle.strings.specs.Decoding.{bytesOf, missing, errorsOf, bytesBy, errorsBy}
+use Rattle.strings.specs.Decoding.{bytesOf, errorsOf, bytesBy, errorsBy}
 use Rattle.strings.proofs.PieceLaws.{wrong≢clean, notes-clean}
 
 -- ---- letters: those of 1.0 mean the same in 1.1

@@ -9,7 +9,7 @@ use native.Mathlib.Omega.{arith}
 use lib.ListN.{length, take, drop, getD, length-drop}
 use lib.Seq.{take-suc}
 use native.Mathlib.Numerals.{add-one}
-use borrow.Author.Tests.{lt-ltb, le-ltb}
+use borrow.Author.Tests.{ne-eqb, lt-ltb, le-ltb}
 use Rattle.classes.specs.Classes.{hexdig}
 use Rattle.classes.specs.Runs.{run}
 use Rattle.classes.proofs.Conds.{cond-case, by-lt, by-eq}
@@ -66,6 +66,11 @@ letter-fit v b =
     λ _. by-eq (Fit b) b 0x74 (λ e. fit-stands b 0x09 (omega arith) (omega arith) (omega arith))
     λ _. by-eq (Fit b) b 0x75 (λ e. fit-asks b 4 (omega arith) (omega arith) (omega arith) (omega arith))
     λ _. by-eq (Fit b) b 0x55 (λ e. fit-asks b 8 (omega arith) (omega arith) (omega arith) (omega arith)) (λ _. new-fit v b)
+
+-- 1.1 adds small letters only
+pub new-small : (v : Edition) (b : ℕ) → b < 0x61 → Neither ≡ newLetter v b
+new-small Toml10 b h = refl
+new-small Toml11 b h = rw (ne-eqb b 0x65 (λ e. omega arith), ne-eqb b 0x78 (λ e. omega arith))
 
 -- the letter in front, and none
 pub letter-none : (v : Edition) (s : List ℕ) → length s ≡ 0 → Neither ≡ letterAt v s

@@ -14,7 +14,7 @@ use Rattle.classes.proofs.Conds.{cond-case}
 use Rattle.classes.proofs.RunLaws.{run-step, run-first}
 use Rattle.text.specs.Refusals.{limit}
 use Rattle.text.specs.Utf8Read.{ascii}
-use Rattle.text.specs.Answers.{checkOf}
+use Rattle.text.specs.CheckMeans.{checkOf}
 use Rattle.text.specs.declared.utf8.Utf8Check.the-variants.{Valid}
 use Rattle.text.proofs.ReadLaws.{valid-ascii, valid-end}
 use Rattle.text.proofs.AnswerLaws.{answer-valid}

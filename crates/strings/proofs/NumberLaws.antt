@@ -9,7 +9,7 @@ use lib.ListN.{length}
 use Rattle.classes.proofs.Conds.{cond-case, of-choice}
 use Rattle.text.specs.Refusals.{limit, refusalLength}
 use Rattle.text.specs.Utf8Read.{validPrefix}
-use Rattle.text.specs.Answers.{checkOf}
+use Rattle.text.specs.CheckMeans.{checkOf}
 use Rattle.text.specs.Told.{checkFault}
 use Rattle.text.specs.declared.refusal.Refusal.{Refusal}
 use Rattle.text.specs.declared.refusal.Refusal.the-variants.{TooLong, ShortOutput, FewErrors}
@@ -23,8 +23,8 @@ use Rattle.strings.specs.declared.Decoded.{Decoded}
 use Rattle.strings.specs.declared.Decoded.the-variants.{Written, Refused}
 use Rattle.strings.specs.Encodings.{choiceIn, unnamed, choiceBy}
 use Rattle.strings.specs.Decoding.{bytesOf, errorsOf, errorsBy, fitted, decodedBy, decodeIn}
-use Rattle.strings.specs.Decoding.{decodedNumber, decodedValue, decodedErrors, decodedLength}
-use Rattle.strings.specs.Decoding.{chosenRefusal, decodeRefusal, chosenReturned, decodeReturned, decodeNoted}
+use Rattle.strings.specs.Told.{decodedNumber, decodedValue, decodedErrors, decodedLength}
+use Rattle.strings.specs.Told.{chosenRefusal, decodeRefusal, chosenReturned, decodeReturned, decodeNoted}
 
 -- ---- a number that asks for no decoder is refused without a second number
 

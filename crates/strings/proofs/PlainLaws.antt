@@ -18,7 +18,7 @@ use Rattle.classes.proofs.ByteTable.{rest-is}
 use Rattle.classes.proofs.RunLaws.{run-first}
 use Rattle.text.specs.Refusals.{limit}
 use Rattle.text.specs.Utf8Read.{ascii, validPrefix}
-use Rattle.text.specs.Answers.{checkOf}
+use Rattle.text.specs.CheckMeans.{checkOf}
 use Rattle.text.specs.declared.utf8.Utf8Check.the-variants.{Valid}
 use Rattle.text.proofs.FieldLaws.{bits-left, bits-right}
 use Rattle.text.proofs.ReadLaws.{valid-ascii, valid-end}
@@ -32,7 +32,7 @@ use Rattle.strings.specs.declared.Ends.{Ends}
 use Rattle.strings.specs.declared.Decoded.the-variants.{Written}
 use Rattle.strings.specs.Encodings.{plain, choiceIn, choiceBy}
 use Rattle.strings.specs.Pieces.{gives, notes, notesAt, collect, copyPiece}
-use Rattle.strings.specs.Bodies.{literalPiece, mlLiteralPiece, basicPiece, mlbContent, mlBasicPiece, keyPiece, pieceOf}
+use Rattle.strings.specs.Bodies.{pieceOf}
 use Rattle.strings.specs.Marks.{lineEnds, endsOf, bodyOf}
 use Rattle.strings.specs.Decoding.{bytesOf, errorsOf, bytesBy, errorsBy, decodeIn, after}
 use Rattle.strings.proofs.PlaceForms.{literal-piece-is, ml-literal-piece-is, basic-piece-is, content-is, ml-basic-piece-is, key-piece-is}

@@ -1,16 +1,12 @@
--- What is said of an answered `decode`, besides its answer: a statement only, proved as `decode-answered` in
+-- STATEMENT. What is said of an answered `decode`, besides its answer, proved as `decode-answered` in
 -- proofs/AnswerLaws.antt. Not to be believed.
 -- Assumes nothing.
 use Prim.Native.Nat.{ℕ, _+_, _*_, _≤_}
-use mathlib.Core.Path.{_≡_}
-use mathlib.Core.List.{List}
-use lib.ListN.{length}
-use Rattle.text.specs.Refusals.{limit}
-use Rattle.text.specs.Utf8.{Utf8}
-use Rattle.strings.specs.declared.Encoding.{Encoding}
-use Rattle.strings.specs.declared.Choice.the-variants.{Known}
-use Rattle.strings.specs.Encodings.{choiceBy}
-use Rattle.strings.specs.Decoding.{bytesOf, errorsOf}
+use mathlib.Core.{Path._≡_, List.List}
+use lib.{ListN.length}
+use Rattle.text.specs.{Refusals.limit, Utf8.Utf8}
+use Rattle.strings.specs.{Encodings.choiceBy, Decoding.bytesOf, Decoding.errorsOf}
+use Rattle.strings.specs.declared.{Encoding.Encoding, Choice.the-variants.Known}
 
 -- n bytes and m errors were written, to o bytes of output and e error records
 pub record Answered (t : List ℕ) (edition kind o e n m : ℕ) : Type 0 where

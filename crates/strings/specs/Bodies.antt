@@ -1,22 +1,12 @@
 -- RULE. The piece at the front of each kind of body, whose first byte stands at place `at` of the text. A run of bytes
 -- that stand for themselves is one piece. Errors 2, 4, 5, 7, 12 and 15 keep their bytes; 13 gives nothing, and neither
 -- does a CR within a line-ending escape.
--- Assumes nothing.
 use Prim.Native.Nat.{ℕ, _+_}
-use mathlib.Core.Bool.{Bool, cond, _&&_, _||_}
-use mathlib.Core.List.{List}
-use lib.Dec.{eqb}
-use lib.ListN.{drop}
-use Rattle.classes.specs.Classes.{wschar, literalChar, basicUnescaped, unquotedChar}
-use Rattle.classes.specs.Runs.{run, firstIs, stands}
-use Rattle.strings.specs.declared.Edition.{Edition}
-use Rattle.strings.specs.declared.Piece.{Piece}
-use Rattle.strings.specs.declared.Encoding.{Encoding}
-use Rattle.strings.specs.declared.Encoding.the-variants.{LiteralString, BasicString, MlLiteralString, MlBasicString, UnquotedKey}
-use Rattle.strings.specs.Encodings.{mllPlain, mlbPlain, basicInvalid, mlbInvalid}
-use Rattle.strings.specs.declared.DecodeError.the-variants.{LiteralInvalid, LoneCr, MlLiteralInvalid, BasicInvalid, MlBasicInvalid, MissingNewline, KeyInvalid}
-use Rattle.strings.specs.Pieces.{Pieces, copyPiece, badCopy, dropPiece, badDrop}
-use Rattle.strings.specs.Escapes.{escapePiece}
+use mathlib.Core.{Bool.Bool, Bool.cond, Bool._&&_, Bool._||_, List.List}
+use lib.{Dec.eqb, ListN.drop}
+use Rattle.classes.specs.{Classes.wschar, Classes.literalChar, Classes.basicUnescaped, Classes.unquotedChar, Runs.run, Runs.firstIs, Runs.stands}
+use Rattle.strings.specs.{Encodings.mllPlain, Encodings.mlbPlain, Encodings.basicInvalid, Encodings.mlbInvalid, Pieces.Pieces, Pieces.copyPiece, Pieces.badCopy, Pieces.dropPiece, Pieces.badDrop, Escapes.escapePiece}
+use Rattle.strings.specs.declared.{Edition.Edition, Piece.Piece, Encoding.Encoding, Encoding.the-variants.LiteralString, Encoding.the-variants.BasicString, Encoding.the-variants.MlLiteralString, Encoding.the-variants.MlBasicString, Encoding.the-variants.UnquotedKey, DecodeError.the-variants.LiteralInvalid, DecodeError.the-variants.LoneCr, DecodeError.the-variants.MlLiteralInvalid, DecodeError.the-variants.BasicInvalid, DecodeError.the-variants.MlBasicInvalid, DecodeError.the-variants.MissingNewline, DecodeError.the-variants.KeyInvalid}
 
 -- a byte that is not allowed in a literal string: error 2 at it
 unfoldable pub literalPiece : ℕ → List ℕ → Piece

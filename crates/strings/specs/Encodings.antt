@@ -1,19 +1,11 @@
 -- RULE. Which numbers of a kind and an edition ask for which decoder, and what the kinds differ in: the error of a
 -- missing mark, the bytes that stand for themselves, and those that are not allowed.
--- Assumes nothing.
 use Prim.Native.Nat.{ℕ}
-use mathlib.Core.Bool.{Bool, cond, not, _||_}
-use lib.Dec.{eqb}
-use Rattle.classes.specs.Classes.{literalChar, mllChar, basicUnescaped, mlbUnescaped, unquotedChar}
-use Rattle.text.specs.declared.refusal.Refusal.the-variants.{NoKind, NoEdition}
-use Rattle.strings.specs.declared.Edition.{Edition}
-use Rattle.strings.specs.declared.Edition.the-variants.{Toml10, Toml11}
-use Rattle.strings.specs.declared.Encoding.{Encoding}
-use Rattle.strings.specs.declared.Encoding.the-variants.{LiteralString, BasicString, MlLiteralString, MlBasicString, UnquotedKey}
-use Rattle.strings.specs.declared.DecodeError.{DecodeError}
-use Rattle.strings.specs.declared.DecodeError.the-variants.{LiteralMissingQuote, MlLiteralMissingQuote, BasicMissingQuote, MlBasicMissingQuote, EmptyKey}
-use Rattle.strings.specs.declared.Choice.{Choice}
-use Rattle.strings.specs.declared.Choice.the-variants.{Known, Unknown}
+use mathlib.Core.{Bool.Bool, Bool.cond, Bool.not, Bool._||_}
+use lib.{Dec.eqb}
+use Rattle.classes.specs.{Classes.literalChar, Classes.mllChar, Classes.basicUnescaped, Classes.mlbUnescaped, Classes.unquotedChar}
+use Rattle.text.specs.declared.{refusal.Refusal.the-variants.NoKind, refusal.Refusal.the-variants.NoEdition}
+use Rattle.strings.specs.declared.{Edition.Edition, Edition.the-variants.Toml10, Edition.the-variants.Toml11, Encoding.Encoding, Encoding.the-variants.LiteralString, Encoding.the-variants.BasicString, Encoding.the-variants.MlLiteralString, Encoding.the-variants.MlBasicString, Encoding.the-variants.UnquotedKey, DecodeError.DecodeError, DecodeError.the-variants.LiteralMissingQuote, DecodeError.the-variants.MlLiteralMissingQuote, DecodeError.the-variants.BasicMissingQuote, DecodeError.the-variants.MlBasicMissingQuote, DecodeError.the-variants.EmptyKey, Choice.Choice, Choice.the-variants.Known, Choice.the-variants.Unknown}
 
 -- the numbers of the four string kinds, and 3 for a key; any other is refused, and told
 unfoldable pub choiceIn : Edition → ℕ → Choice
@@ -35,16 +27,12 @@ abbrev pub editionNumber : Edition → ℕ
 editionNumber Toml10 = 10
 editionNumber Toml11 = 11
 
--- what the numbers of an edition and a kind ask for
+-- what the numbers of an edition and a kind ask for; a call that names no edition reads TOML 1.0, whose number is 10
 unfoldable pub choiceBy : ℕ → ℕ → Choice
 choiceBy edition kind =
     cond (eqb edition 10) (choiceIn Toml10 kind)
     (cond (eqb edition 11) (choiceIn Toml11 kind)
     (unnamed edition (choiceIn Toml10 kind)))
-
--- a call that names no edition reads TOML 1.0
-abbrev pub choiceOf : ℕ → Choice
-choiceOf kind = choiceBy 10 kind
 
 -- the error of a quote mark that is missing, at either end; a key has no mark, and its error is that it is empty
 abbrev pub markError : Encoding → DecodeError

@@ -1,22 +1,21 @@
 -- RULE. A backslash and what it stands for, in each edition of TOML: errors 8, 9 and 10. Which letters there are is said here
 -- and nowhere else. TOML 1.1.0 has all of 1.0.0's, and two more.
--- Assumes nothing.
 use Prim.Native.Nat.{ℕ, _+_, _-_, _*_}
-use mathlib.Core.Bool.{cond}
-use mathlib.Core.List.{List, [], _∷_}
-use lib.Dec.{eqb, ltb}
-use lib.ListN.{take, drop}
-use Rattle.classes.specs.Classes.{hexdig}
-use Rattle.classes.specs.Runs.{run}
-use Rattle.text.specs.Utf8Read.{isScalar}
-use Rattle.strings.specs.declared.Edition.{Edition}
-use Rattle.strings.specs.declared.Edition.the-variants.{Toml10, Toml11}
-use Rattle.strings.specs.declared.Letter.{Letter}
-use Rattle.strings.specs.declared.Letter.the-variants.{Stands, Asks, Neither}
-use Rattle.strings.specs.declared.Piece.{Piece}
-use Rattle.strings.specs.declared.DecodeError.the-variants.{MissingEscape, FewDigits, NotScalar}
-use Rattle.strings.specs.Pieces.{charPiece, badChar}
+use mathlib.Core.{Bool.cond, List.List, List.[], List._∷_}
+use lib.{Dec.eqb, Dec.ltb, ListN.take, ListN.drop}
+use Rattle.classes.specs.{Classes.hexdig, Runs.run}
+use Rattle.text.specs.{Utf8Read.isScalar}
+use Rattle.strings.specs.{Pieces.charPiece, Pieces.badChar}
+use Rattle.strings.specs.declared.{Edition.Edition, Edition.the-variants.Toml10, Edition.the-variants.Toml11, Letter.Letter, Letter.the-variants.Stands, Letter.the-variants.Asks, Letter.the-variants.Neither, Piece.Piece, DecodeError.the-variants.MissingEscape, DecodeError.the-variants.FewDigits, DecodeError.the-variants.NotScalar}
 
+-- what 1.1.0 adds:
+-- escape-seq-char =/ %x65         ; e    escape          U+001B
+-- escape-seq-char =/ %x78 2HEXDIG ; xHH                  U+00HH
+abbrev pub newLetter : Edition → ℕ → Letter
+newLetter Toml10 b = Neither
+newLetter Toml11 b = cond (eqb b 0x65) (Stands 0x1B) (cond (eqb b 0x78) (Asks 2) Neither)
+
+-- what a letter is for: it stands for a character, or asks for so many digits, or neither
 -- escape-seq-char =  %x22         ; "    quotation mark  U+0022
 -- escape-seq-char =/ %x5C         ; \    reverse solidus U+005C
 -- escape-seq-char =/ %x62         ; b    backspace       U+0008
@@ -26,14 +25,6 @@ use Rattle.strings.specs.Pieces.{charPiece, badChar}
 -- escape-seq-char =/ %x74         ; t    tab             U+0009
 -- escape-seq-char =/ %x75 4HEXDIG ; uXXXX                U+XXXX
 -- escape-seq-char =/ %x55 8HEXDIG ; UXXXXXXXX            U+XXXXXXXX
--- and in 1.1.0:
--- escape-seq-char =/ %x65         ; e    escape          U+001B
--- escape-seq-char =/ %x78 2HEXDIG ; xHH                  U+00HH
-abbrev pub newLetter : Edition → ℕ → Letter
-newLetter Toml10 b = Neither
-newLetter Toml11 b = cond (eqb b 0x65) (Stands 0x1B) (cond (eqb b 0x78) (Asks 2) Neither)
-
--- what a letter is for: it stands for a character, or asks for so many digits, or neither
 unfoldable pub letterOf : Edition → ℕ → Letter
 letterOf v b =
     cond (eqb b 0x22) (Stands 0x22)

@@ -1,18 +1,12 @@
 -- RULE. The marks of a text and the body between them. A mark that is missing is simply not removed; but an ml-literal
 -- text without its closing loses all its trailing apostrophes.
--- Assumes nothing.
 use Prim.Native.Nat.{ℕ, suc, _+_, _-_}
-use mathlib.Core.Bool.{Bool, true, false, cond, _&&_}
-use mathlib.Core.List.{List, [], _∷_}
-use lib.Dec.{eqb, leb, ltb}
-use lib.ListN.{length, take, drop, getD}
-use Rattle.classes.specs.Runs.{stands}
-use Rattle.strings.specs.declared.Encoding.{Encoding}
-use Rattle.strings.specs.declared.Encoding.the-variants.{LiteralString, BasicString, MlLiteralString, MlBasicString, UnquotedKey}
-use Rattle.strings.specs.declared.Ends.{Ends}
+use mathlib.Core.{Bool.Bool, Bool.true, Bool.false, Bool.cond, Bool._&&_, List.List, List.[], List._∷_}
+use lib.{Dec.eqb, Dec.leb, Dec.ltb, ListN.length, ListN.take, ListN.drop, ListN.getD}
+use Rattle.classes.specs.{Runs.stands}
+use Rattle.strings.specs.declared.{Encoding.Encoding, Encoding.the-variants.LiteralString, Encoding.the-variants.BasicString, Encoding.the-variants.MlLiteralString, Encoding.the-variants.MlBasicString, Encoding.the-variants.UnquotedKey, Ends.Ends}
 
 -- ---- one mark q at each end
-
 abbrev pub lineOpened : ℕ → List ℕ → Bool
 lineOpened q t = ltb 0 (length t) && eqb (getD t 0 0) q
 
@@ -34,7 +28,6 @@ lineEnds q t =
     record { opened = lineOpened q t; closed = lineClosed start q t; start = start; end = lineEnd (lineClosed start q t) t }
 
 -- ---- three marks q at each end, and a newline behind the opening
-
 -- three marks at the front
 unfoldable pub threes : ℕ → List ℕ → Bool
 threes q s = leb 3 (length s) && (eqb (getD s 0 0) q && (eqb (getD s 1 0) q && eqb (getD s 2 0) q))
@@ -71,11 +64,8 @@ mlEnds trims q t =
     }
 
 -- ---- a key has no marks; in their place it has to be there
-
 unfoldable pub keyEnds : List ℕ → Ends
 keyEnds t = record { opened = ltb 0 (length t); closed = true; start = 0; end = length t }
-
--- ---- the kinds
 
 abbrev pub endsOf : Encoding → List ℕ → Ends
 endsOf LiteralString t = lineEnds 0x27 t

@@ -1,18 +1,29 @@
 -- RULE. A body is read in pieces, from left to right. A piece takes a byte or more; it gives those bytes, or a character,
--- or nothing; and it has at most one error.
--- Assumes nothing.
+-- or nothing; and it has at most one error, of the fifteen that there are.
 use Prim.Native.Nat.{ℕ, zero, suc, pred}
-use mathlib.Core.Bool.{Bool, true, false}
-use mathlib.Core.List.{List, [], _∷_, _++_}
-use lib.ListN.{take}
-use Rattle.text.specs.Utf8.{encodeScalar}
-use Rattle.strings.specs.declared.Piece.{Piece}
-use Rattle.strings.specs.declared.Given.{Given}
-use Rattle.strings.specs.declared.Given.the-variants.{Copy, Char, Nothing}
-use Rattle.strings.specs.declared.DecodeError.{DecodeError}
-use Rattle.strings.specs.declared.Verdict.{Verdict}
-use Rattle.strings.specs.declared.Verdict.the-variants.{Clean, Wrong}
-use Rattle.strings.specs.Errors.{errorNumber}
+use mathlib.Core.{Bool.Bool, Bool.true, Bool.false, List.List, List.[], List._∷_, List._++_}
+use lib.{ListN.take}
+use Rattle.text.specs.{Utf8.encodeScalar}
+use Rattle.strings.specs.declared.{Piece.Piece, Given.Given, Given.the-variants.Copy, Given.the-variants.Char, Given.the-variants.Nothing, DecodeError.DecodeError, Verdict.Verdict, Verdict.the-variants.Clean, Verdict.the-variants.Wrong}
+use Rattle.strings.specs.declared.DecodeError.the-variants.{LiteralMissingQuote, LiteralInvalid, MlLiteralMissingQuote, LoneCr, MlLiteralInvalid, BasicMissingQuote, BasicInvalid, MissingEscape, FewDigits, NotScalar, MlBasicMissingQuote, MlBasicInvalid, MissingNewline, EmptyKey, KeyInvalid}
+
+-- the number of an error
+abbrev pub errorNumber : DecodeError → ℕ
+errorNumber LiteralMissingQuote = 1
+errorNumber LiteralInvalid = 2
+errorNumber MlLiteralMissingQuote = 3
+errorNumber LoneCr = 4
+errorNumber MlLiteralInvalid = 5
+errorNumber BasicMissingQuote = 6
+errorNumber BasicInvalid = 7
+errorNumber MissingEscape = 8
+errorNumber FewDigits = 9
+errorNumber NotScalar = 10
+errorNumber MlBasicMissingQuote = 11
+errorNumber MlBasicInvalid = 12
+errorNumber MissingNewline = 13
+errorNumber EmptyKey = 14
+errorNumber KeyInvalid = 15
 
 -- the bytes that a piece of n bytes at the front of s gives
 abbrev pub givenOf : Given → ℕ → List ℕ → List ℕ
@@ -43,7 +54,9 @@ notesAt p s = notes p
 abbrev pub Pieces : Type 0
 Pieces = Bool → ℕ → List ℕ → Piece
 
--- what g says of each piece, joined: k bytes are skipped first, as the piece before took them
+-- what g says of each piece, joined: k bytes are skipped first, as the piece before took them. Without that count, as
+-- `collected-none` and `collected-step` of proofs/BodyLaws.antt say for each kind of body: of no bytes nothing; else what g
+-- says of the first piece, and then what is collected of the rest behind the bytes that it takes
 abbrev pub collect : {A : Type 0} → Pieces → (Piece → List ℕ → List A) → ℕ → Bool → ℕ → List ℕ → List A
 collect P g k d at [] = []
 collect P g zero d at (b ∷ r) =
@@ -51,7 +64,6 @@ collect P g zero d at (b ∷ r) =
 collect P g (suc k) d at (b ∷ r) = collect P g k d (suc at) r
 
 -- ---- the three ways to make a piece, each without an error and with one
-
 -- n bytes as they are
 abbrev pub copyPiece : ℕ → Piece
 copyPiece n = record { take = n; given = Copy; verdict = Clean; dropping = false }

@@ -1,10 +1,10 @@
 // What the decoders speak of: the five encodings, the errors of decoding, the pieces of a body, the
 // ends of a text, and the call's answer. These types are the rules' own as well as the code's; the one
 // function here says an error's number.
-// Rules: specs/Encodings.antt, Errors.antt, Pieces.antt, Escapes.antt, Bodies.antt, Marks.antt,
+// Rules: specs/Encodings.antt, Pieces.antt, Escapes.antt, Bodies.antt, Marks.antt,
 // Decoding.antt.
 ghost use mathlib.Core.Path.{_≡_};
-ghost use Rattle.strings.specs.Errors.{errorNumber};
+ghost use Rattle.strings.specs.Pieces.{errorNumber};
 use text::Refusal;
 
 // The edition of TOML that a basic string is written in: 1.0 or 1.1.

@@ -12,7 +12,7 @@ use Rattle.text.specs.Refusals.{limit}
 use Rattle.text.specs.Utf8.{Utf8}
 use Rattle.text.specs.Utf8Read.{validPrefix}
 use Rattle.text.specs.Lead.{faultLen}
-use Rattle.text.specs.Answers.{checkOf}
+use Rattle.text.specs.CheckMeans.{checkOf}
 use Rattle.text.specs.Told.{checkNumber, checkValue, checkLength, checkRefusal, checkReturned, checkFault}
 use Rattle.text.specs.CheckMeans.{Longest, CheckMeans}
 use Rattle.text.specs.declared.refusal.Refusal.the-variants.{NotUtf8, TooLong, FewTokens, ShortOutput, FewErrors, OutOfPlace, NoKind, NoEdition}

@@ -13,7 +13,7 @@ use borrow.Author.Tests.{eq-eqb}
 use Rattle.text.specs.Utf8.{Scalar, encodeScalar, encodes, All, Utf8}
 use Rattle.text.specs.Utf8Read.{validPrefix}
 use Rattle.text.specs.CheckMeans.{Begins, faulty}
-use Rattle.text.specs.Answers.{checkOf}
+use Rattle.text.specs.CheckMeans.{checkOf}
 use Rattle.text.specs.CheckMeans.{Longest}
 use Rattle.text.specs.LengthTells.{Mendable, LengthTells, LengthElse}
 use Rattle.text.specs.declared.refusal.Refusal.the-variants.{NotUtf8, TooLong, FewTokens, ShortOutput, FewErrors, OutOfPlace, NoKind, NoEdition}

@@ -1,12 +1,26 @@
--- RULE. What each answer of the UTF-8 check says of the bytes. The check's promise is an equation with the computed
--- `checkOf`; `check-means`, in proofs/AnswerLaws.antt, proves that the equation says just this. The length that goes with
--- refusal 1 is what Rust's own UTF-8 error tells: its `error_len`, 0 for none.
-use Prim.Native.Nat.{ℕ, _≤_, _<_}
-use mathlib.Core.{Path._≡_, List.List, List._++_, Bool.cond}
-use lib.{ListN.length, ListN.take, ListN.drop, Dec.eqb}
-use Rattle.text.specs.{Refusals.limit, Utf8.Scalar, Utf8.encodeScalar, Utf8.Utf8}
+-- RULE. What the calls of this crate answer, and what each answer of the UTF-8 check says of the bytes. The check's promise is
+-- an equation with the computed `checkOf`; `check-means`, in proofs/AnswerLaws.antt, proves that the equation says just what
+-- `CheckMeans` says. The length that goes with refusal 1 is what Rust's own UTF-8 error tells: its `error_len`, 0 for none.
+use Prim.Native.Nat.{ℕ, _-_, _≤_, _<_}
+use mathlib.Core.{Path._≡_, Bool.cond, List.List, List.[], List._++_}
+use lib.{ListN.length, ListN.take, ListN.drop, ListN.replicate, Dec.ltb, Dec.eqb}
+use Rattle.text.specs.{Refusals.limit, Utf8.Scalar, Utf8.encodeScalar, Utf8.Utf8, Utf8Read.isScalar, Utf8Read.validPrefix, Lead.faultLen}
 use Rattle.text.specs.declared.refusal.Refusal.the-variants.{NotUtf8, TooLong, FewTokens, ShortOutput, FewErrors, OutOfPlace, NoKind, NoEdition}
-use Rattle.text.specs.declared.{utf8.Utf8Check.Utf8Check, utf8.Utf8Check.the-variants.Valid, utf8.Utf8Check.the-variants.Refused}
+use Rattle.text.specs.declared.{utf8.Encoded.Encoded, utf8.Utf8Check.Utf8Check, utf8.Utf8Check.the-variants.Valid, utf8.Utf8Check.the-variants.Refused}
+
+-- the UTF-8 check: refusal 2 before 1, and with 1 the lengths of the longest valid prefix and of the faulty sequence
+unfoldable pub checkOf : List ℕ → Utf8Check
+checkOf s =
+    cond (ltb limit (length s)) (Refused TooLong)
+    (cond (eqb (validPrefix s) (length s)) Valid (Refused (NotUtf8 (validPrefix s) (faultLen (drop (validPrefix s) s)))))
+
+-- bytes in a run of four, zeros behind them
+abbrev pub padded : List ℕ → Encoded
+padded bytes = record { len = length bytes; bytes = bytes ++ replicate (4 - length bytes) 0 }
+
+-- the encoding of a scalar value, and no bytes for a number that is none
+unfoldable pub encodedOf : ℕ → Encoded
+encodedOf c = cond (isScalar c) (padded (encodeScalar c)) (padded [])
 
 -- bytes that begin the encoding of some scalar value: others, put behind them, make it whole
 abbrev pub Begins : List ℕ → Type 0

@@ -1,7 +1,6 @@
 pub mod Refusals
 pub mod Utf8
 pub mod CheckMeans
-pub mod Answers
 pub mod Told
 pub mod LengthTells
 pub mod Utf8Read

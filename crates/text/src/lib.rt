@@ -1,5 +1,5 @@
 // Text: the UTF-8 check, the encoding of a scalar value, and the refusals that every call of this
-// project gives. Rules: specs/Refusals.antt, Utf8.antt, CheckMeans.antt, CheckMeans.antt, Answers.antt.
+// project gives. Rules: specs/Refusals.antt, Utf8.antt, CheckMeans.antt.
 mod refusal;
 mod utf8;
 

@@ -1,5 +1,5 @@
 // UTF-8: the check, and the encoding of a scalar value.
-// Rules: specs/Utf8.antt, Answers.antt, and what the answers mean, CheckMeans.antt.
+// Rules: specs/Utf8.antt, CheckMeans.antt.
 ghost use mathlib.Core.Path.{_≡_};
 ghost use mathlib.Core.Bool.{true, false};
 ghost use Prim.Native.Nat.{ℕ, _+_, _*_, _^_, _%_, _<_, _≤_};
@@ -9,7 +9,7 @@ ghost use Rattle.classes.proofs.RunLaws.{Block, SameEnd};
 ghost use Rattle.text.specs.Utf8.{encodeScalar};
 ghost use Rattle.text.specs.Utf8Read.{isScalar, ascii, charLen, Passed, Along};
 ghost use Rattle.text.specs.Lead.{leadOf, onesOf, Among, Asked, Character, CharacterAt, fourAt, BegunAt, faultLen};
-ghost use Rattle.text.specs.Answers.{padded, encodedOf, checkOf};
+ghost use Rattle.text.specs.CheckMeans.{padded, encodedOf, checkOf};
 ghost use Rattle.text.specs.Told.{checkNumber, checkValue, checkLength, checkRefusal, checkReturned, checkFault};
 use crate::refusal::LIMIT;
 use crate::refusal::Refusal;

@@ -9,28 +9,28 @@ use Rattle.token.specs.declared.{TokenKind.TokenKind, KindRead.KindRead,
 use Rattle.token.specs.declared.TokenKind.the-variants.{Dot, Equals, Comma, LeftSquareBracket, RightSquareBracket, LeftCurlyBracket, RightCurlyBracket, Whitespace, Comment, Newline, LiteralString, BasicString, MlLiteralString, MlBasicString, Atom, Eof}
 
 -- the code points of a text, which are its bytes where it is ASCII
-abbrev pub ascii : String → List ℕ
-ascii none = []
-ascii (c then s) = code c ∷ ascii s
+abbrev pub codes : String → List ℕ
+codes none = []
+codes (c then s) = code c ∷ codes s
 
 -- the words for each kind
 abbrev pub kindText : TokenKind → List ℕ
-kindText Dot = ascii "`.`"
-kindText Equals = ascii "`=`"
-kindText Comma = ascii "`,`"
-kindText LeftSquareBracket = ascii "`[`"
-kindText RightSquareBracket = ascii "`]`"
-kindText LeftCurlyBracket = ascii "`{`"
-kindText RightCurlyBracket = ascii "`}`"
-kindText Whitespace = ascii "whitespace"
-kindText Comment = ascii "comment"
-kindText Newline = ascii "newline"
-kindText LiteralString = ascii "literal string"
-kindText BasicString = ascii "basic string"
-kindText MlLiteralString = ascii "multi-line literal string"
-kindText MlBasicString = ascii "multi-line basic string"
-kindText Atom = ascii "token"
-kindText Eof = ascii "end-of-input"
+kindText Dot = codes "`.`"
+kindText Equals = codes "`=`"
+kindText Comma = codes "`,`"
+kindText LeftSquareBracket = codes "`[`"
+kindText RightSquareBracket = codes "`]`"
+kindText LeftCurlyBracket = codes "`{`"
+kindText RightCurlyBracket = codes "`}`"
+kindText Whitespace = codes "whitespace"
+kindText Comment = codes "comment"
+kindText Newline = codes "newline"
+kindText LiteralString = codes "literal string"
+kindText BasicString = codes "basic string"
+kindText MlLiteralString = codes "multi-line literal string"
+kindText MlBasicString = codes "multi-line basic string"
+kindText Atom = codes "token"
+kindText Eof = codes "end-of-input"
 
 -- words in a run of 25 bytes, zeros behind them
 abbrev pub describedBy : List ℕ → Description

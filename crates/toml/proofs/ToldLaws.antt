@@ -20,7 +20,7 @@ use Rattle.place.specs.declared.SpanCheck.{SpanCheck}
 use Rattle.place.specs.declared.SpanCheck.the-variants.{Whole, Refused as Misplaced}
 use Rattle.place.specs.declared.Position.{Position}
 use Rattle.place.specs.declared.Position.the-variants.{At as Placed, Refused as Unplaced}
-use Rattle.strings.specs.Decoding.{decodedNumber, decodedValue, decodedErrors, decodedLength}
+use Rattle.strings.specs.Told.{decodedNumber, decodedValue, decodedErrors, decodedLength}
 use Rattle.strings.specs.declared.Decoded.{Decoded}
 use Rattle.strings.specs.declared.Decoded.the-variants.{Written, Refused as Undecoded}
 use Rattle.toml.specs.Numbers.{checkNumbers, cursorNumbers, startNumbers, stepNumbers, lexNumbers, spanNumbers, positionNumbers, decodeNumbers, toldBy}

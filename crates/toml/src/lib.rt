@@ -2,7 +2,7 @@
 // call and spells its answer; include/toml.h says the same in words. Rule: specs/Numbers.antt.
 ghost use mathlib.Core.Path.{_≡_};
 ghost use lib.ListN.{length};
-ghost use Rattle.text.specs.Answers.{checkOf};
+ghost use Rattle.text.specs.CheckMeans.{checkOf};
 ghost use Rattle.token.specs.Descriptions.{descriptionOf};
 ghost use Rattle.token.specs.Encodings.{encodingOf};
 ghost use Rattle.token.specs.Records.{spanOf};

@@ -5,7 +5,7 @@ use Prim.Native.Nat.{ℕ}
 use mathlib.Core.Path.{_≡_}
 use mathlib.Core.List.{List, [], _∷_}
 use Rattle.lexer.specs.Whole.{recordsOf}
-use Rattle.strings.specs.Encodings.{choiceOf}
+use Rattle.strings.specs.Encodings.{choiceBy}
 use Rattle.strings.specs.Decoding.{bytesBy, errorsBy}
 
 pub data Example : Type 0 where
@@ -15,7 +15,7 @@ pub data Example : Type 0 where
 abbrev pub Holds : Example → Type 0
 Holds (lexes text tokens) = recordsOf text ≡ tokens
 Holds (decodes kind text bytes errors) =
-    (bytesBy (choiceOf kind) text ≡ bytes) × (errorsBy (choiceOf kind) text ≡ errors)
+    (bytesBy (choiceBy 10 kind) text ≡ bytes) × (errorsBy (choiceBy 10 kind) text ≡ errors)
 
 abbrev pub Hold : List Example → Type 0
 Hold [] = Unit {0}

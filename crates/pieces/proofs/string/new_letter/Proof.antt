@@ -1,7 +1,7 @@
 -- `new_letter` is right because the editions have an arm each, and the later one adds two letters.
 -- Assumes nothing.
 use borrow.Author.Needs.{needs}
-use borrow.Author.Tests.{eq-eqb, ne-eqb}
+use borrow.Author.Tests.{ne-eqb}
 use Rattle.pieces.proofs.string.new_letter.Statement.{statement}
 use Rattle.pieces.proofs.string.new_letter.Tie as tie
 

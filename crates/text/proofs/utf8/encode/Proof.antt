@@ -2,7 +2,7 @@
 -- Assumes nothing.
 use mathlib.Core.Path.{sym, _∙_}
 use borrow.Author.Needs.{needs}
-use Rattle.text.specs.Answers.{encodedOf}
+use Rattle.text.specs.CheckMeans.{encodedOf}
 use Rattle.text.proofs.EncodeLaws.{true-scalar, scalar-lt}
 use Rattle.text.proofs.utf8.encode.Statement.{statement}
 use Rattle.text.proofs.utf8.encode.Tie as tie
