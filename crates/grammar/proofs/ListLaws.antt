@@ -19,11 +19,11 @@ last-split s n h =
     drop-cons s n 0 (omega arith) ∙ ap (λ x. getD s n 0 ∷ x) (drop-of-length-le s {i = suc n} (omega arith)) in
     sym (take-append-drop n s) ∙ ap (λ x. take n s ++ x) e
 
--- a byte that is not 0 is there
-pub first-there : (s : List ℕ) (b : ℕ) → 0 < b → getD s 0 0 ≡ b → (r : List ℕ) × (s ≡ b ∷ r)
-first-there [] b h e = absurd (omega arith)
-first-there (x ∷ s) b h e = (s, rw e)
+-- a byte that is not 0 and that `getD` gives stands in front of the rest
+pub first-splits : (s : List ℕ) (b : ℕ) → 0 < b → getD s 0 0 ≡ b → (r : List ℕ) × (s ≡ b ∷ r)
+first-splits [] b h e = absurd (omega arith)
+first-splits (x ∷ s) b h e = (s, rw e)
 
-pub two-there : (s : List ℕ) (b c : ℕ) → 0 < b → 0 < c → getD s 0 0 ≡ b → getD s 1 0 ≡ c → (r : List ℕ) × (s ≡ b ∷ (c ∷ r))
-two-there [] b c h k e f = absurd (omega arith)
-two-there (x ∷ s) b c h k e f = let w = first-there s c k f in (w .0, rw e (ap (b ∷_) (w .1)))
+pub two-split : (s : List ℕ) (b c : ℕ) → 0 < b → 0 < c → getD s 0 0 ≡ b → getD s 1 0 ≡ c → (r : List ℕ) × (s ≡ b ∷ (c ∷ r))
+two-split [] b c h k e f = absurd (omega arith)
+two-split (x ∷ s) b c h k e f = let w = first-splits s c k f in (w .0, rw e (ap (b ∷_) (w .1)))

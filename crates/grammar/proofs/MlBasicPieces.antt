@@ -27,7 +27,7 @@ use Rattle.strings.proofs.PieceLaws.{wrong≢clean}
 use Rattle.strings.proofs.PlaceForms.{escaped-nl-is, escaped-more-is, content-is, ml-basic-piece-is}
 use Rattle.strings.proofs.AsciiLaws.{mlb-high}
 use Rattle.grammar.specs.Grammar.{x20, x09, Newline, x0A, x0D-0A, EscapeSeqChar, Ws, MlbUnescaped, WscharNewline, newline}
-use Rattle.grammar.proofs.ListLaws.{first-there, two-there}
+use Rattle.grammar.proofs.ListLaws.{first-splits, two-split}
 use Rattle.grammar.proofs.Encoded.{side, ascii, beyond}
 use Rattle.grammar.proofs.Reading.{IfClean, CopiesRuns, Reads, ReadsChars, ReadsNewlines, reads-char, reads-plain, reads-copy, reads-drop}
 use Rattle.grammar.proofs.ClassLaws.{wschar-is, basic-at, mlb-basic, mlb-same}
@@ -104,11 +104,11 @@ ended : (at : ℕ) (r : List ℕ) → escapedNl at r .verdict ≡ Clean → Ende
 ended at r =
     rw escaped-nl-is
     (by-eq (IfClean (Ended r)) (getD r k 0) 0x0A
-    (λ e h. let w = first-there s 0x0A (omega arith) (zeroth ∙ e) in fin (0x0A ∷ []) (w .0) x0A (w .1))
+    (λ e h. let w = first-splits s 0x0A (omega arith) (zeroth ∙ e) in fin (0x0A ∷ []) (w .0) x0A (w .1))
     λ _. by-eq (IfClean (Ended r)) (getD r k 0) 0x0D
     (λ e. by-eq (IfClean (Ended r)) (getD r (k + 1) 0) 0x0A
     (λ l h.
-    let w = two-there s 0x0D 0x0A (omega arith) (omega arith) (zeroth ∙ e) (getD-drop k r 1 0 ∙ l) in
+    let w = two-split s 0x0D 0x0A (omega arith) (omega arith) (zeroth ∙ e) (getD-drop k r 1 0 ∙ l) in
     fin (0x0D ∷ (0x0A ∷ [])) (w .0) x0D-0A (w .1))
     (λ l h. absurd (wrong≢clean h)))
     (λ e h. absurd (wrong≢clean h)))
@@ -240,7 +240,7 @@ module _ (ed : Edition) where
       (λ p. cond-case Q (skips (getD r 0 0)) (λ h e. is-ended p (ended at r e)) (λ h e. is-escape p (escape-inv ed at r e)))
       λ _. by-eq Q b 0x0D
       (λ p. by-eq Q (getD r 0 0) 0x0A
-      (λ l e. let w = first-there r 0x0A (omega arith) l in is-crlf (w .0) p (w .1)) (λ l e. absurd (wrong≢clean e)))
+      (λ l e. let w = first-splits r 0x0A (omega arith) l in is-crlf (w .0) p (w .1)) (λ l e. absurd (wrong≢clean e)))
       (λ p e. absurd (wrong≢clean e)))
 
   -- within a line-ending escape
@@ -251,6 +251,6 @@ module _ (ed : Edition) where
       (cond-case Q (skips b)
       (λ h. by-eq Q b 0x0D
       (λ p. by-eq Q (getD r 0 0) 0x0A
-      (λ l e. let w = first-there r 0x0A (omega arith) l in is-two (w .0) p (w .1)) (λ l e. absurd (wrong≢clean e)))
+      (λ l e. let w = first-splits r 0x0A (omega arith) l in is-two (w .0) p (w .1)) (λ l e. absurd (wrong≢clean e)))
       (λ p e. is-one (skip-is b h p)))
       (λ h e. is-out h))

@@ -27,7 +27,7 @@ use Rattle.grammar.specs.Grammar.{x0A, x0D-0A, MllChar, MllContent, mll-
 use Rattle.lexing.proofs.ByLength.{by-length}
 use Rattle.grammar.specs.Prose.{MlLiteralObeys}
 use Rattle.grammar.specs.Strings.{Apart}
-use Rattle.grammar.proofs.ListLaws.{first-there}
+use Rattle.grammar.proofs.ListLaws.{first-splits}
 use Rattle.grammar.proofs.Encoded.{side, ascii, beyond, ascii-whole, ascii-led}
 use Rattle.grammar.proofs.Reading.{IfClean, CopiesRuns, ErrorFree, Reads, ReadsAs, ReadsChars, ReadsNewlines, reads-none, reads-then, reads-char, reads-plain, reads-copy, first-clean}
 use Rattle.grammar.proofs.ClassLaws.{literal-at, literal-is, literal-high, mll-literal, mll-same}
@@ -73,7 +73,7 @@ clean at b r =
     (cond-case (IfClean (Good b r)) (mllPlain b) (λ h e. inl h)
     λ h. by-eq (IfClean (Good b r)) b 0x0D
     (λ c. by-eq (IfClean (Good b r)) (getD r 0 0) 0x0A
-    (λ l e. let w = first-there r 0x0A (omega arith) l in inr (c, w .0, w .1)) (λ l e. absurd (wrong≢clean e)))
+    (λ l e. let w = first-splits r 0x0A (omega arith) l in inr (c, w .0, w .1)) (λ l e. absurd (wrong≢clean e)))
     (λ c e. absurd (wrong≢clean e)))
 
 char-reads : ReadsChars P mllPlain

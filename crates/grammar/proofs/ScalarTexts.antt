@@ -44,13 +44,13 @@ wschar-scalar : {c : ℕ} → Wschar c → Scalar c
 wschar-scalar Wschar.x20 = low (omega arith)
 wschar-scalar Wschar.x09 = low (omega arith)
 
-newline-scalars : {t : List ℕ} → Newline t → Scalars t
-newline-scalars Newline.x0A = one (omega arith)
-newline-scalars Newline.x0D-0A = next (low (omega arith)) (one (omega arith))
+newline-points : {t : List ℕ} → Newline t → Scalars t
+newline-points Newline.x0A = one (omega arith)
+newline-points Newline.x0D-0A = next (low (omega arith)) (one (omega arith))
 
-opt-newline-scalars : {t : List ℕ} → OptNewline t → Scalars t
-opt-newline-scalars OptNewline.absent = none
-opt-newline-scalars (OptNewline.present n) = newline-scalars n
+opt-newline-points : {t : List ℕ} → OptNewline t → Scalars t
+opt-newline-points OptNewline.absent = none
+opt-newline-points (OptNewline.present n) = newline-points n
 
 basic-scalar : {c : ℕ} → BasicUnescaped c → Scalar c
 basic-scalar (BasicUnescaped.wschar w) = wschar-scalar w
@@ -72,129 +72,129 @@ digit-scalar (digit e h) = low (omega arith)
 digit-scalar (upper e h k) = low (omega arith)
 digit-scalar (lower e h k) = low (omega arith)
 
-digits-scalars : {n a v : ℕ} {t : List ℕ} → HexDigits n a t v → Scalars t
-digits-scalars HexDigits.stop = none
-digits-scalars (HexDigits.more x r) = next (digit-scalar x) (digits-scalars r)
+digits-points : {n a v : ℕ} {t : List ℕ} → HexDigits n a t v → Scalars t
+digits-points HexDigits.stop = none
+digits-points (HexDigits.more x r) = next (digit-scalar x) (digits-points r)
 
-escape-scalars : {ed : Edition} {t : List ℕ} {v : ℕ} → EscapeSeqChar ed t v → Scalars t
-escape-scalars x22 = one (omega arith)
-escape-scalars x5C = one (omega arith)
-escape-scalars x62 = one (omega arith)
-escape-scalars x66 = one (omega arith)
-escape-scalars x6E = one (omega arith)
-escape-scalars x72 = one (omega arith)
-escape-scalars x74 = one (omega arith)
-escape-scalars (x75 d) = next (low (omega arith)) (digits-scalars d)
-escape-scalars (x55 d) = next (low (omega arith)) (digits-scalars d)
-escape-scalars x65 = one (omega arith)
-escape-scalars (x78 d) = next (low (omega arith)) (digits-scalars d)
+escape-points : {ed : Edition} {t : List ℕ} {v : ℕ} → EscapeSeqChar ed t v → Scalars t
+escape-points x22 = one (omega arith)
+escape-points x5C = one (omega arith)
+escape-points x62 = one (omega arith)
+escape-points x66 = one (omega arith)
+escape-points x6E = one (omega arith)
+escape-points x72 = one (omega arith)
+escape-points x74 = one (omega arith)
+escape-points (x75 d) = next (low (omega arith)) (digits-points d)
+escape-points (x55 d) = next (low (omega arith)) (digits-points d)
+escape-points x65 = one (omega arith)
+escape-points (x78 d) = next (low (omega arith)) (digits-points d)
 
 module _ {ed : Edition} where
-  escaped-scalars : {t : List ℕ} {v : ℕ} → Escaped ed t v → Scalars t
-  escaped-scalars (escaped e) = next (low (omega arith)) (escape-scalars e)
+  escaped-points : {t : List ℕ} {v : ℕ} → Escaped ed t v → Scalars t
+  escaped-points (escaped e) = next (low (omega arith)) (escape-points e)
 
   -- ---- basic strings
 
-  char-scalars : {t : List ℕ} {v : ℕ} → BasicChar ed t v → Scalars t
-  char-scalars (BasicChar.basic-unescaped c) = next (basic-scalar c) none
-  char-scalars (BasicChar.escaped-char e) = escaped-scalars e
+  char-points : {t : List ℕ} {v : ℕ} → BasicChar ed t v → Scalars t
+  char-points (BasicChar.basic-unescaped c) = next (basic-scalar c) none
+  char-points (BasicChar.escaped-char e) = escaped-points e
 
-  chars-scalars : {t v : List ℕ} → BasicChars ed t v → Scalars t
-  chars-scalars BasicChars.stop = none
-  chars-scalars (BasicChars.more c r) = join (char-scalars c) (chars-scalars r)
+  chars-points : {t v : List ℕ} → BasicChars ed t v → Scalars t
+  chars-points BasicChars.stop = none
+  chars-points (BasicChars.more c r) = join (char-points c) (chars-points r)
 
-  basic-scalars : {t v : List ℕ} → BasicString ed t v → Scalars t
-  basic-scalars (basic-string r) = next (low (omega arith)) (join (chars-scalars r) (one (omega arith)))
+  basic-points : {t v : List ℕ} → BasicString ed t v → Scalars t
+  basic-points (basic-string r) = next (low (omega arith)) (join (chars-points r) (one (omega arith)))
 
 -- ---- multi-line basic strings
 
-ws-scalars : {t : List ℕ} → Ws t → Scalars t
-ws-scalars Ws.stop = none
-ws-scalars (Ws.more w r) = next (wschar-scalar w) (ws-scalars r)
+ws-points : {t : List ℕ} → Ws t → Scalars t
+ws-points Ws.stop = none
+ws-points (Ws.more w r) = next (wschar-scalar w) (ws-points r)
 
-blank-scalars : {t : List ℕ} → WscharNewline t → Scalars t
-blank-scalars (WscharNewline.wschar w) = next (wschar-scalar w) none
-blank-scalars (WscharNewline.newline n) = newline-scalars n
+blank-points : {t : List ℕ} → WscharNewline t → Scalars t
+blank-points (WscharNewline.wschar w) = next (wschar-scalar w) none
+blank-points (WscharNewline.newline n) = newline-points n
 
-blanks-scalars : {t : List ℕ} → WscharNewlines t → Scalars t
-blanks-scalars WscharNewlines.stop = none
-blanks-scalars (WscharNewlines.more b r) = join (blank-scalars b) (blanks-scalars r)
+blanks-points : {t : List ℕ} → WscharNewlines t → Scalars t
+blanks-points WscharNewlines.stop = none
+blanks-points (WscharNewlines.more b r) = join (blank-points b) (blanks-points r)
 
-escaped-nl-scalars : {t : List ℕ} → MlbEscapedNl t → Scalars t
-escaped-nl-scalars (mlb-escaped-nl w n r) =
-    next (low (omega arith)) (join (ws-scalars w) (join (newline-scalars n) (blanks-scalars r)))
+escaped-nl-points : {t : List ℕ} → MlbEscapedNl t → Scalars t
+escaped-nl-points (mlb-escaped-nl w n r) =
+    next (low (omega arith)) (join (ws-points w) (join (newline-points n) (blanks-points r)))
 
-quotes-scalars : {t : List ℕ} → MlbQuotes t → Scalars t
-quotes-scalars MlbQuotes.one = one (omega arith)
-quotes-scalars MlbQuotes.two = next (low (omega arith)) (one (omega arith))
+quotes-points : {t : List ℕ} → MlbQuotes t → Scalars t
+quotes-points MlbQuotes.one = one (omega arith)
+quotes-points MlbQuotes.two = next (low (omega arith)) (one (omega arith))
 
-opt-quotes-scalars : {t : List ℕ} → OptMlbQuotes t → Scalars t
-opt-quotes-scalars OptMlbQuotes.absent = none
-opt-quotes-scalars (OptMlbQuotes.present q) = quotes-scalars q
+opt-quotes-points : {t : List ℕ} → OptMlbQuotes t → Scalars t
+opt-quotes-points OptMlbQuotes.absent = none
+opt-quotes-points (OptMlbQuotes.present q) = quotes-points q
 
 module _ {ed : Edition} where
-  mlb-char-scalars : {t : List ℕ} {v : ℕ} → MlbChar ed t v → Scalars t
-  mlb-char-scalars (MlbChar.mlb-unescaped c) = next (basic-scalar (mlb-basic .0 c)) none
-  mlb-char-scalars (MlbChar.escaped-char e) = escaped-scalars e
+  mlb-char-points : {t : List ℕ} {v : ℕ} → MlbChar ed t v → Scalars t
+  mlb-char-points (MlbChar.mlb-unescaped c) = next (basic-scalar (mlb-basic .0 c)) none
+  mlb-char-points (MlbChar.escaped-char e) = escaped-points e
 
-  content-scalars : {t v : List ℕ} → MlbContent ed t v → Scalars t
-  content-scalars (mlb-char c) = mlb-char-scalars c
-  content-scalars (MlbContent.newline n) = newline-scalars n
-  content-scalars (escaped-nl e) = escaped-nl-scalars e
+  content-points : {t v : List ℕ} → MlbContent ed t v → Scalars t
+  content-points (mlb-char c) = mlb-char-points c
+  content-points (MlbContent.newline n) = newline-points n
+  content-points (escaped-nl e) = escaped-nl-points e
 
-  contents-scalars : {t v : List ℕ} → MlbContents ed t v → Scalars t
-  contents-scalars MlbContents.stop = none
-  contents-scalars (MlbContents.more c r) = join (content-scalars c) (contents-scalars r)
+  contents-points : {t v : List ℕ} → MlbContents ed t v → Scalars t
+  contents-points MlbContents.stop = none
+  contents-points (MlbContents.more c r) = join (content-points c) (contents-points r)
 
-  contents1-scalars : {t v : List ℕ} → MlbContents1 ed t v → Scalars t
-  contents1-scalars (MlbContents1.some-content c r) = join (content-scalars c) (contents-scalars r)
+  contents1-points : {t v : List ℕ} → MlbContents1 ed t v → Scalars t
+  contents1-points (MlbContents1.some-content c r) = join (content-points c) (contents-points r)
 
-  groups-scalars : {t v : List ℕ} → MlbGroups ed t v → Scalars t
-  groups-scalars MlbGroups.stop = none
-  groups-scalars (MlbGroups.more q c g) = join (quotes-scalars q) (join (contents1-scalars c) (groups-scalars g))
+  groups-points : {t v : List ℕ} → MlbGroups ed t v → Scalars t
+  groups-points MlbGroups.stop = none
+  groups-points (MlbGroups.more q c g) = join (quotes-points q) (join (contents1-points c) (groups-points g))
 
-  ml-basic-scalars : {t v : List ℕ} → MlBasicString ed t v → Scalars t
-  ml-basic-scalars (ml-basic-string n (ml-basic-body a g q)) =
-      join three (join (opt-newline-scalars n) (join (join (contents-scalars a) (join (groups-scalars g) (opt-quotes-scalars q))) three))
+  ml-basic-points : {t v : List ℕ} → MlBasicString ed t v → Scalars t
+  ml-basic-points (ml-basic-string n (ml-basic-body a g q)) =
+      join three (join (opt-newline-points n) (join (join (contents-points a) (join (groups-points g) (opt-quotes-points q))) three))
     where
       three : Scalars (0x22 ∷ 0x22 ∷ 0x22 ∷ [])
       three = next (low (omega arith)) (next (low (omega arith)) (one (omega arith)))
 
 -- ---- literal strings
 
-literals-scalars : {t : List ℕ} → LiteralChars t → Scalars t
-literals-scalars LiteralChars.stop = none
-literals-scalars (LiteralChars.more c r) = next (literal-scalar c) (literals-scalars r)
+literals-points : {t : List ℕ} → LiteralChars t → Scalars t
+literals-points LiteralChars.stop = none
+literals-points (LiteralChars.more c r) = next (literal-scalar c) (literals-points r)
 
-literal-scalars : {t v : List ℕ} → LiteralString t v → Scalars t
-literal-scalars (literal-string r) = next (low (omega arith)) (join (literals-scalars r) (one (omega arith)))
+literal-points : {t v : List ℕ} → LiteralString t v → Scalars t
+literal-points (literal-string r) = next (low (omega arith)) (join (literals-points r) (one (omega arith)))
 
-mll-content-scalars : {t : List ℕ} → MllContent t → Scalars t
-mll-content-scalars (mll-char c) = next (literal-scalar (mll-literal .0 c)) none
-mll-content-scalars (MllContent.newline n) = newline-scalars n
+mll-content-points : {t : List ℕ} → MllContent t → Scalars t
+mll-content-points (mll-char c) = next (literal-scalar (mll-literal .0 c)) none
+mll-content-points (MllContent.newline n) = newline-points n
 
-mll-contents-scalars : {t : List ℕ} → MllContents t → Scalars t
-mll-contents-scalars MllContents.stop = none
-mll-contents-scalars (MllContents.more c r) = join (mll-content-scalars c) (mll-contents-scalars r)
+mll-contents-points : {t : List ℕ} → MllContents t → Scalars t
+mll-contents-points MllContents.stop = none
+mll-contents-points (MllContents.more c r) = join (mll-content-points c) (mll-contents-points r)
 
-mll-contents1-scalars : {t : List ℕ} → MllContents1 t → Scalars t
-mll-contents1-scalars (MllContents1.some-content c r) = join (mll-content-scalars c) (mll-contents-scalars r)
+mll-contents1-points : {t : List ℕ} → MllContents1 t → Scalars t
+mll-contents1-points (MllContents1.some-content c r) = join (mll-content-points c) (mll-contents-points r)
 
-mll-quotes-scalars : {t : List ℕ} → MllQuotes t → Scalars t
-mll-quotes-scalars MllQuotes.one = one (omega arith)
-mll-quotes-scalars MllQuotes.two = next (low (omega arith)) (one (omega arith))
+mll-quotes-points : {t : List ℕ} → MllQuotes t → Scalars t
+mll-quotes-points MllQuotes.one = one (omega arith)
+mll-quotes-points MllQuotes.two = next (low (omega arith)) (one (omega arith))
 
-opt-mll-quotes-scalars : {t : List ℕ} → OptMllQuotes t → Scalars t
-opt-mll-quotes-scalars OptMllQuotes.absent = none
-opt-mll-quotes-scalars (OptMllQuotes.present q) = mll-quotes-scalars q
+opt-mll-quotes-points : {t : List ℕ} → OptMllQuotes t → Scalars t
+opt-mll-quotes-points OptMllQuotes.absent = none
+opt-mll-quotes-points (OptMllQuotes.present q) = mll-quotes-points q
 
-mll-groups-scalars : {t : List ℕ} → MllGroups t → Scalars t
-mll-groups-scalars MllGroups.stop = none
-mll-groups-scalars (MllGroups.more q c g) = join (mll-quotes-scalars q) (join (mll-contents1-scalars c) (mll-groups-scalars g))
+mll-groups-points : {t : List ℕ} → MllGroups t → Scalars t
+mll-groups-points MllGroups.stop = none
+mll-groups-points (MllGroups.more q c g) = join (mll-quotes-points q) (join (mll-contents1-points c) (mll-groups-points g))
 
-ml-literal-scalars : {t v : List ℕ} → MlLiteralString t v → Scalars t
-ml-literal-scalars (ml-literal-string n (ml-literal-body a g q)) =
-    join three (join (opt-newline-scalars n) (join (join (mll-contents-scalars a) (join (mll-groups-scalars g) (opt-mll-quotes-scalars q))) three))
+ml-literal-points : {t v : List ℕ} → MlLiteralString t v → Scalars t
+ml-literal-points (ml-literal-string n (ml-literal-body a g q)) =
+    join three (join (opt-newline-points n) (join (join (mll-contents-points a) (join (mll-groups-points g) (opt-mll-quotes-points q))) three))
   where
     three : Scalars (0x27 ∷ 0x27 ∷ 0x27 ∷ [])
     three = next (low (omega arith)) (next (low (omega arith)) (one (omega arith)))
@@ -202,14 +202,14 @@ ml-literal-scalars (ml-literal-string n (ml-literal-body a g q)) =
 -- ---- the kinds
 
 module _ {ed : Edition} where
-  pub basic-text : {t v : List ℕ} → BasicString ed t v → All Scalar t
-  basic-text d = basic-scalars d .each
+  pub basic-scalar-text : {t v : List ℕ} → BasicString ed t v → All Scalar t
+  basic-scalar-text d = basic-points d .each
 
-  pub ml-basic-text : {t v : List ℕ} → MlBasicString ed t v → All Scalar t
-  ml-basic-text d = ml-basic-scalars d .each
+  pub ml-basic-scalar-text : {t v : List ℕ} → MlBasicString ed t v → All Scalar t
+  ml-basic-scalar-text d = ml-basic-points d .each
 
 pub derived-scalar : DerivedScalar
-derived-scalar ed ml-basic cs v (d, h) = ml-basic-text d
-derived-scalar ed basic cs v (d, h) = basic-text d
-derived-scalar ed ml-literal cs v d = ml-literal-scalars d .each
-derived-scalar ed literal cs v d = literal-scalars d .each
+derived-scalar ed ml-basic cs v (d, h) = ml-basic-scalar-text d
+derived-scalar ed basic cs v (d, h) = basic-scalar-text d
+derived-scalar ed ml-literal cs v d = ml-literal-points d .each
+derived-scalar ed literal cs v d = literal-points d .each

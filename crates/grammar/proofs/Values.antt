@@ -13,7 +13,7 @@ use Rattle.grammar.specs.Scalars.{Names, EscapedNames, CharNames, CharsN
 use Rattle.grammar.specs.Strings.{StringKind, literal, basic, ml-literal, ml-basic, Derived}
 use Rattle.grammar.proofs.ClassLaws.{no-true}
 use Rattle.grammar.proofs.NameLaws.{basic-names, ml-basic-names}
-use Rattle.grammar.proofs.ScalarTexts.{basic-text, ml-basic-text}
+use Rattle.grammar.proofs.ScalarTexts.{basic-scalar-text, ml-basic-scalar-text}
 use Rattle.grammar.proofs.Escapes.{two-scalar}
 use Rattle.grammar.proofs.Passing.{Seen}
 use Rattle.grammar.proofs.MlRuns.{end, mark0, mark1, content}
@@ -89,10 +89,10 @@ module _ (ed : Edition) where
       run-scalars ((body-run ed) false d m (λ e. no-true e)) (inner n b ml-basic-string-delim h)
 
   pub basic-value : {cs v : List ℕ} (d : BasicString ed cs v) → BasicNames d → All Scalar v
-  basic-value d n = basic-scalars d n (basic-text d)
+  basic-value d n = basic-scalars d n (basic-scalar-text d)
 
   pub ml-basic-value : {cs v : List ℕ} (d : MlBasicString ed cs v) → MlBasicNames d → All Scalar v
-  ml-basic-value d n = ml-basic-scalars d n (ml-basic-text d)
+  ml-basic-value d n = ml-basic-scalars d n (ml-basic-scalar-text d)
 
   pub value-scalars : (s : StringKind) (cs v : List ℕ) → Derived ed s cs v → All Scalar cs → All Scalar v
   value-scalars literal cs v d h = literal-scalars d h

@@ -1,4 +1,5 @@
 -- FOLLOWS. Whole lexing into eight token structs of its own, by value: what `lex_tokens` answers and leaves in as many.
+-- Assumes nothing.
 use mathlib.Core.{List.List}
 use Prim.Native.Nat.{ℕ}
 use lib.{ListN.replicate}

@@ -5,16 +5,17 @@ use mathlib.Core.{Bool.Bool, Bool.cond, Bool.not, Bool._||_}
 use lib.{Dec.eqb}
 use Rattle.classes.specs.{Classes.literalChar, Classes.mllChar, Classes.basicUnescaped, Classes.mlbUnescaped, Classes.unquotedChar}
 use Rattle.text.specs.declared.{refusal.Refusal.the-variants.NoKind, refusal.Refusal.the-variants.NoEdition}
+use Rattle.token.specs.{KindNumbers.kindNumber, declared.TokenKind.the-variants.LiteralString as LiteralToken, declared.TokenKind.the-variants.BasicString as BasicToken, declared.TokenKind.the-variants.MlLiteralString as MlLiteralToken, declared.TokenKind.the-variants.MlBasicString as MlBasicToken, declared.TokenKind.the-variants.Atom}
 use Rattle.strings.specs.declared.{Edition.Edition, Edition.the-variants.Toml10, Edition.the-variants.Toml11, Encoding.Encoding, Encoding.the-variants.LiteralString, Encoding.the-variants.BasicString, Encoding.the-variants.MlLiteralString, Encoding.the-variants.MlBasicString, Encoding.the-variants.UnquotedKey, DecodeError.DecodeError, DecodeError.the-variants.LiteralMissingQuote, DecodeError.the-variants.MlLiteralMissingQuote, DecodeError.the-variants.BasicMissingQuote, DecodeError.the-variants.MlBasicMissingQuote, DecodeError.the-variants.EmptyKey, Choice.Choice, Choice.the-variants.Known, Choice.the-variants.Unknown}
 
--- the numbers of the four string kinds, and 3 for a key; any other is refused, and told
+-- the numbers of the four string kinds, and an atom's for a key; any other is refused, and told
 unfoldable pub choiceIn : Edition → ℕ → Choice
 choiceIn v kind =
-    cond (eqb kind 39) (Known LiteralString)
-    (cond (eqb kind 34) (Known (BasicString v))
-    (cond (eqb kind 1) (Known MlLiteralString)
-    (cond (eqb kind 2) (Known (MlBasicString v))
-    (cond (eqb kind 3) (Known UnquotedKey)
+    cond (eqb kind (kindNumber LiteralToken)) (Known LiteralString)
+    (cond (eqb kind (kindNumber BasicToken)) (Known (BasicString v))
+    (cond (eqb kind (kindNumber MlLiteralToken)) (Known MlLiteralString)
+    (cond (eqb kind (kindNumber MlBasicToken)) (Known (MlBasicString v))
+    (cond (eqb kind (kindNumber Atom)) (Known UnquotedKey)
     (Unknown (NoKind kind))))))
 
 -- a number that is no edition is refused, and told, unless the kind is
@@ -30,8 +31,8 @@ editionNumber Toml11 = 11
 -- what the numbers of an edition and a kind ask for; a call that names no edition reads TOML 1.0, whose number is 10
 unfoldable pub choiceBy : ℕ → ℕ → Choice
 choiceBy edition kind =
-    cond (eqb edition 10) (choiceIn Toml10 kind)
-    (cond (eqb edition 11) (choiceIn Toml11 kind)
+    cond (eqb edition (editionNumber Toml10)) (choiceIn Toml10 kind)
+    (cond (eqb edition (editionNumber Toml11)) (choiceIn Toml11 kind)
     (unnamed edition (choiceIn Toml10 kind)))
 
 -- the error of a quote mark that is missing, at either end; a key has no mark, and its error is that it is empty

@@ -28,8 +28,9 @@ abbrev pub decodedLength : Decoded → ℕ
 decodedLength (Written bytes errors) = 0
 decodedLength (Refused r) = refusalLength r
 
--- these are, by the text, the numbers of an edition and a kind, and the lent sizes: 2 and 1 as the check has them, then 7 and 9 as
--- kind and edition have them, then 4 with the bytes and 5 with the errors, else 0 with the bytes and, apart, the errors
+-- what they come to for a text, the numbers of an edition and a kind, and the lent sizes: 2 and 1 as the check has them, then
+-- 7 and 9 as kind and edition have them, then 4 with the bytes and 5 with the errors, else 0 with the bytes and, apart, the
+-- errors
 abbrev pub chosenRefusal : Choice → List ℕ → ℕ → ℕ → ℕ
 chosenRefusal (Known k) t o e = cond (ltb o (length (bytesOf k t))) 4 (cond (ltb e (length (errorsOf k t))) 5 0)
 chosenRefusal (Unknown r) t o e = refusalNumber r

@@ -2,7 +2,7 @@
 use Prim.Native.Nat.{ℕ}
 use Rattle.token.specs.declared.{TokenKind.TokenKind, KindRead.KindRead, KindRead.the-variants.Kind, KindRead.the-variants.Refused as Unread, Answer.the-variants.Given, Answer.the-variants.Refused, Encoding.Encoding}
 use Rattle.token.specs.declared.TokenKind.the-variants.{Dot, Equals, Comma, LeftSquareBracket, RightSquareBracket, LeftCurlyBracket, RightCurlyBracket, Whitespace, Comment, Newline, LiteralString, BasicString, MlLiteralString, MlBasicString, Atom, Eof}
-use Rattle.token.specs.{KindNumbers.kindOfNumber}
+use Rattle.token.specs.{KindNumbers.kindNumber, KindNumbers.kindOfNumber}
 
 -- the kind's own number for the four kinds of string, else 0
 abbrev pub kindEncoding : TokenKind → ℕ
@@ -16,10 +16,10 @@ kindEncoding RightCurlyBracket = 0
 kindEncoding Whitespace = 0
 kindEncoding Comment = 0
 kindEncoding Newline = 0
-kindEncoding LiteralString = 39
-kindEncoding BasicString = 34
-kindEncoding MlLiteralString = 1
-kindEncoding MlBasicString = 2
+kindEncoding LiteralString = kindNumber LiteralString
+kindEncoding BasicString = kindNumber BasicString
+kindEncoding MlLiteralString = kindNumber MlLiteralString
+kindEncoding MlBasicString = kindNumber MlBasicString
 kindEncoding Atom = 0
 kindEncoding Eof = 0
 

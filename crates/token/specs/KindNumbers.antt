@@ -6,7 +6,7 @@ use Rattle.text.specs.declared.{refusal.Refusal.the-variants.NoKind}
 use Rattle.token.specs.declared.{TokenKind.TokenKind, KindRead.KindRead, KindRead.the-variants.Kind, KindRead.the-variants.Refused}
 use Rattle.token.specs.declared.TokenKind.the-variants.{Dot, Equals, Comma, LeftSquareBracket, RightSquareBracket, LeftCurlyBracket, RightCurlyBracket, Whitespace, Comment, Newline, LiteralString, BasicString, MlLiteralString, MlBasicString, Atom, Eof}
 
--- the number of a kind: that of its first byte, in ASCII, but for those that have no byte of their own
+-- the number of a kind: a byte with which it begins; 1 to 4 for the ml kinds, the atom and the end
 abbrev pub kindNumber : TokenKind → ℕ
 kindNumber Dot = 46
 kindNumber Equals = 61
