@@ -4,7 +4,7 @@
 //   driver calls             single calls on a few bytes between the same marks
 // A table's row is a document, in Markdown: a generated manifest, or a file as it is.
 #include "manifests.hpp"
-#include "toml.h"
+#include "galoxumi.h"
 
 #include <algorithm>
 #include <chrono>
@@ -28,7 +28,7 @@ struct Work {
     std::string doc;
     std::vector<uint8_t> out;
     std::vector<size_t> records, errors; // four numbers a token, three an error
-    std::vector<toml_token> encoded;     // its strings, or in their place its Atoms, which are decoded as keys
+    std::vector<galoxumi_token> encoded;     // its strings, or in their place its Atoms, which are decoded as keys
     size_t doc_bytes, encoded_bytes = 0, parsed_bytes; // what there is to read: at all, for a decode, for toml++
 
     explicit Work(const Document &document)
@@ -37,8 +37,8 @@ struct Work {
     {
         size_t tokens = lex();
         for (size_t i = 0; i < tokens; i++) {
-            toml_token token = {records[4 * i], records[4 * i + 1], records[4 * i + 2], records[4 * i + 3]};
-            if (document.decodes_keys ? token.kind == TOML_ATOM : toml_encoding(token.kind).encoding != 0) {
+            galoxumi_token token = {records[4 * i], records[4 * i + 1], records[4 * i + 2], records[4 * i + 3]};
+            if (document.decodes_keys ? token.kind == GALOXUMI_ATOM : galoxumi_encoding(token.kind).encoding != 0) {
                 encoded.push_back(token);
                 encoded_bytes += token.end - token.start;
             }
@@ -50,9 +50,9 @@ struct Work {
 
     size_t copy() { return std::memcpy(out.data(), doc.data(), doc.size()) == out.data(); }
     size_t rust_check() { return rust_from_utf8(bytes(), doc.size()); }
-    size_t check() { return toml_check_utf8(bytes(), doc.size()).refusal; }
-    size_t lex() { return toml_lex(bytes(), doc.size(), rows<4>(records), records.size() / 4).value; }
-    size_t position() { return toml_position(bytes(), doc.size(), doc.size()).column; }
+    size_t check() { return galoxumi_check_utf8(bytes(), doc.size()).refusal; }
+    size_t lex() { return galoxumi_lex(bytes(), doc.size(), rows<4>(records), records.size() / 4).value; }
+    size_t position() { return galoxumi_position(bytes(), doc.size(), doc.size()).column; }
     size_t parse() { return toml::parse(std::string_view(doc)).size(); }
 
     // toml++ refuses a document that defines a table twice, as the kind "keys" does.
@@ -70,9 +70,9 @@ struct Work {
     size_t walk()
     {
         size_t tokens = 0;
-        toml_cursor at = toml_start(bytes(), doc.size()).cursor;
+        galoxumi_cursor at = galoxumi_start(bytes(), doc.size()).cursor;
         while (at.ended == 0) {
-            at = toml_step(bytes(), doc.size(), at.place, at.ended, at.line).cursor;
+            at = galoxumi_step(bytes(), doc.size(), at.place, at.ended, at.line).cursor;
             tokens++;
         }
         return tokens;
@@ -82,7 +82,7 @@ struct Work {
     {
         size_t all = 0;
         for (const auto &t : encoded) {
-            all += toml_decode(bytes() + t.start, t.end - t.start, t.kind, out.data(), out.size(), rows<3>(errors), errors.size() / 3)
+            all += galoxumi_decode(bytes() + t.start, t.end - t.start, t.kind, out.data(), out.size(), rows<3>(errors), errors.size() / 3)
                        .answer.value;
         }
         return all;
@@ -286,21 +286,21 @@ struct Text {
 };
 
 const std::vector<Text> short_texts = {
-    {"\"-O2\"", TOML_BASIC_STRING},
-    {"'-O2'", TOML_LITERAL_STRING},
-    {"name", TOML_ATOM},
-    {"\"é\"", TOML_BASIC_STRING},
-    {"\"\\n\"", TOML_BASIC_STRING},
-    {"\"\"\"a\"\"\"", TOML_ML_BASIC_STRING},
-    {"'''a'''", TOML_ML_LITERAL_STRING},
+    {"\"-O2\"", GALOXUMI_BASIC_STRING},
+    {"'-O2'", GALOXUMI_LITERAL_STRING},
+    {"name", GALOXUMI_ATOM},
+    {"\"é\"", GALOXUMI_BASIC_STRING},
+    {"\"\\n\"", GALOXUMI_BASIC_STRING},
+    {"\"\"\"a\"\"\"", GALOXUMI_ML_BASIC_STRING},
+    {"'''a'''", GALOXUMI_ML_LITERAL_STRING},
 };
 
 void count_decode(const Text &text)
 {
     const auto *bytes = reinterpret_cast<const uint8_t *>(text.bytes.data());
     const size_t len = text.bytes.size(), kind = text.kind;
-    count("toml_decode, kind " + std::to_string(kind) + "|`" + text.bytes + "`",
-          [=] { return toml_decode(bytes, len, kind, few_bytes, 16, few_errors, 16).answer.value; });
+    count("galoxumi_decode, kind " + std::to_string(kind) + "|`" + text.bytes + "`",
+          [=] { return galoxumi_decode(bytes, len, kind, few_bytes, 16, few_errors, 16).answer.value; });
 }
 
 // Single calls, as call, text. The first count is of two marks with no call between, to be taken off each of the
@@ -312,11 +312,11 @@ void count_calls()
     const size_t len = sizeof text - 1;
     const std::string on = "|`a = \"b\"` LF";
     count("nothing|", [] { return 0; });
-    count("toml_check_utf8" + on, [=] { return toml_check_utf8(doc, len).refusal; });
-    count("toml_lex" + on, [=] { return toml_lex(doc, len, few_records, 16).value; });
-    count("toml_start" + on, [=] { return toml_start(doc, len).cursor.place; });
-    count("toml_step, first token" + on, [=] { return toml_step(doc, len, 0, 0, 1).given; });
-    count("toml_position, at the end" + on, [=] { return toml_position(doc, len, len).column; });
+    count("galoxumi_check_utf8" + on, [=] { return galoxumi_check_utf8(doc, len).refusal; });
+    count("galoxumi_lex" + on, [=] { return galoxumi_lex(doc, len, few_records, 16).value; });
+    count("galoxumi_start" + on, [=] { return galoxumi_start(doc, len).cursor.place; });
+    count("galoxumi_step, first token" + on, [=] { return galoxumi_step(doc, len, 0, 0, 1).given; });
+    count("galoxumi_position, at the end" + on, [=] { return galoxumi_position(doc, len, len).column; });
     for (const auto &short_text : short_texts) {
         count_decode(short_text);
     }
@@ -327,7 +327,7 @@ Document file(const std::string &path)
 {
     std::ifstream input(path, std::ios::binary);
     std::string text((std::istreambuf_iterator<char>(input)), std::istreambuf_iterator<char>());
-    if (text.empty() || text.size() > TOML_LIMIT) {
+    if (text.empty() || text.size() > GALOXUMI_LIMIT) {
         std::fprintf(stderr, "%s: missing, empty or too long\n", path.c_str());
         std::exit(1);
     }

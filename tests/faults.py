@@ -1,7 +1,7 @@
 #!/usr/bin/env python3
-"""What crates/text_faults must write, made from the Unicode standard and Rust's documentation alone:
+"""What crates/test_faults must write, made from the Unicode standard and Rust's documentation alone:
 
-    tests/faults.py > crates/text_faults/stdout
+    tests/faults.py > crates/test_faults/stdout
 
 Well-formed sequences are table 3-7 of the Unicode standard, section 3.9. Of a text that is not UTF-8, Rust's documentation
 says (core::str::Utf8Error): `valid_up_to` is the length of the longest valid prefix; `error_len` is none where the end of

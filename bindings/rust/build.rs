@@ -1,4 +1,4 @@
-//! Links libtoml.a, which `rt staticlib toml` writes, from the folder that GALOXUMI_LIB names.
+//! Links libgaloxumi.a, which `rt staticlib galoxumi` writes, from the folder that GALOXUMI_LIB names.
 
 fn main() {
     println!("cargo:rerun-if-env-changed=GALOXUMI_LIB");
@@ -6,7 +6,7 @@ fn main() {
         let here = std::env::var("CARGO_MANIFEST_DIR").expect("cargo sets CARGO_MANIFEST_DIR");
         format!("{here}/../../target/staticlib")
     });
-    println!("cargo:rerun-if-changed={folder}/libtoml.a");
+    println!("cargo:rerun-if-changed={folder}/libgaloxumi.a");
     println!("cargo:rustc-link-search=native={folder}");
-    println!("cargo:rustc-link-lib=static=toml");
+    println!("cargo:rustc-link-lib=static=galoxumi");
 }

@@ -3,7 +3,7 @@
 #ifndef EXPECT_H
 #define EXPECT_H
 
-#include "toml.h"
+#include "galoxumi.h"
 
 #include <stdio.h>
 #include <string.h>
@@ -45,7 +45,7 @@ static void run(void (*test)(void), const char *name)
 #define R(a, b, c) {a, b, c}
 #define T(a, b, c, line) {a, b, c, line}
 
-static int answers(toml_answer a, size_t refusal, size_t value)
+static int answers(galoxumi_answer a, size_t refusal, size_t value)
 {
     return a.refusal == refusal && a.value == value;
 }

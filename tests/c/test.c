@@ -15,13 +15,13 @@ static int lexes(const uint8_t *doc, size_t len, const size_t (*tokens)[4], size
     memset(old, 0xA5, sizeof old);
     for (size_t room = count; room <= count + 1; room++) {
         memcpy(records, old, sizeof old);
-        if (!answers(toml_lex(doc, len, records, room), 0, count) || memcmp(records, tokens, count * sizeof *records) != 0
+        if (!answers(galoxumi_lex(doc, len, records, room), 0, count) || memcmp(records, tokens, count * sizeof *records) != 0
             || memcmp(records[count], old[count], sizeof *old) != 0) {
             return 0;
         }
     }
     memcpy(records, old, sizeof old);
-    return answers(toml_lex(doc, len, records, count - 1), 3, count) && answers(toml_lex(doc, len, records, 0), 3, count)
+    return answers(galoxumi_lex(doc, len, records, count - 1), 3, count) && answers(galoxumi_lex(doc, len, records, 0), 3, count)
            && memcmp(records, old, sizeof old) == 0;
 }
 
@@ -44,11 +44,11 @@ static void lexing(void)
     LEXES("a = \"b\"\n", T(3, 0, 1, 1), T(32, 1, 2, 1), T(61, 2, 3, 1), T(32, 3, 4, 1), T(34, 4, 7, 1), T(10, 7, 8, 1), T(4, 8, 8, 2));
     FROM("docs/RULES.md, the refusals: 1 before 3, with the longest valid prefix");
     size_t one[1][4] = {T(7, 8, 9, 1)};
-    EXPECT(answers(toml_lex(BYTES("a\xFF"), one, 0), 1, 1));
+    EXPECT(answers(galoxumi_lex(BYTES("a\xFF"), one, 0), 1, 1));
     EXPECT(is_token(one[0], 7, 8, 9, 1));
-    EXPECT(answers(toml_check_utf8(BYTES("")), 0, 0));
-    EXPECT(answers(toml_check_utf8(BYTES("\xC3\xA9=1")), 0, 0));
-    EXPECT(answers(toml_check_utf8(BYTES("a\xED\xA0\x80")), 1, 1));
+    EXPECT(answers(galoxumi_check_utf8(BYTES("")), 0, 0));
+    EXPECT(answers(galoxumi_check_utf8(BYTES("\xC3\xA9=1")), 0, 0));
+    EXPECT(answers(galoxumi_check_utf8(BYTES("a\xED\xA0\x80")), 1, 1));
 }
 
 /* A multi-line string of n bytes between its marks, every k-th of them an LF, and Eof behind it: two tokens, and the
@@ -62,8 +62,8 @@ static int counts_lines(size_t n, size_t k)
         doc[3 + i] = i % k == k - 1 ? '\n' : 'x';
         lines += i % k == k - 1;
     }
-    return answers(toml_lex(doc, n + 6, records, 8), 0, 2) && is_token(records[0], TOML_ML_LITERAL_STRING, 0, n + 6, 1)
-           && is_token(records[1], TOML_EOF, n + 6, n + 6, lines);
+    return answers(galoxumi_lex(doc, n + 6, records, 8), 0, 2) && is_token(records[0], GALOXUMI_ML_LITERAL_STRING, 0, n + 6, 1)
+           && is_token(records[1], GALOXUMI_EOF, n + 6, n + 6, lines);
 }
 
 static void lines_of_long_strings(void)
@@ -76,41 +76,41 @@ static void lines_of_long_strings(void)
     }
 }
 
-static int steps(toml_stepped s, toml_token token, toml_cursor next)
+static int steps(galoxumi_stepped s, galoxumi_token token, galoxumi_cursor next)
 {
     return answers(s.answer, 0, 0) && s.given == 1 && memcmp(&s.token, &token, sizeof token) == 0
            && memcmp(&s.cursor, &next, sizeof next) == 0;
 }
 
-static int steps_nowhere(toml_stepped s, size_t refusal, size_t value)
+static int steps_nowhere(galoxumi_stepped s, size_t refusal, size_t value)
 {
-    static const toml_stepped nothing;
-    toml_stepped expected = nothing;
-    expected.answer = (toml_answer){refusal, value, 0};
+    static const galoxumi_stepped nothing;
+    galoxumi_stepped expected = nothing;
+    expected.answer = (galoxumi_answer){refusal, value, 0};
     return memcmp(&s, &expected, sizeof s) == 0;
 }
 
 static void stepping(void)
 {
     FROM("tests/scope.txt, start and step");
-    toml_started start = toml_start(BYTES("\xEF\xBB\xBF"));
+    galoxumi_started start = galoxumi_start(BYTES("\xEF\xBB\xBF"));
     EXPECT(answers(start.answer, 0, 0) && start.cursor.place == 3 && start.cursor.ended == 0 && start.cursor.line == 1);
-    start = toml_start(BYTES(""));
+    start = galoxumi_start(BYTES(""));
     EXPECT(answers(start.answer, 0, 0) && start.cursor.place == 0 && start.cursor.ended == 0);
-    EXPECT(steps(toml_step(BYTES("\xEF\xBB\xBF"), 0, 0, 1), (toml_token)T(3, 0, 3, 1), (toml_cursor){3, 0, 1}));
-    EXPECT(steps(toml_step(BYTES(""), 0, 0, 1), (toml_token)T(4, 0, 0, 1), (toml_cursor){0, 1, 1}));
-    EXPECT(steps_nowhere(toml_step(BYTES(""), 0, 1, 1), 0, 0));
+    EXPECT(steps(galoxumi_step(BYTES("\xEF\xBB\xBF"), 0, 0, 1), (galoxumi_token)T(3, 0, 3, 1), (galoxumi_cursor){3, 0, 1}));
+    EXPECT(steps(galoxumi_step(BYTES(""), 0, 0, 1), (galoxumi_token)T(4, 0, 0, 1), (galoxumi_cursor){0, 1, 1}));
+    EXPECT(steps_nowhere(galoxumi_step(BYTES(""), 0, 1, 1), 0, 0));
     FROM("crates/lexer/specs/Steps.antt: before the end the flag is carried along");
-    EXPECT(steps(toml_step(BYTES("a"), 0, 1, 1), (toml_token)T(3, 0, 1, 1), (toml_cursor){1, 1, 1}));
-    FROM("crates/toml/specs/Numbers.antt: anything but 0 says that the cursor is ended");
-    EXPECT(steps_nowhere(toml_step(BYTES("a"), 1, SIZE_MAX, 1), 0, 0));
+    EXPECT(steps(galoxumi_step(BYTES("a"), 0, 1, 1), (galoxumi_token)T(3, 0, 1, 1), (galoxumi_cursor){1, 1, 1}));
+    FROM("crates/galoxumi/specs/Numbers.antt: anything but 0 says that the cursor is ended");
+    EXPECT(steps_nowhere(galoxumi_step(BYTES("a"), 1, SIZE_MAX, 1), 0, 0));
     FROM("docs/RULES.md, the refusals: 6 with the document's length");
-    EXPECT(steps_nowhere(toml_step(BYTES("a"), 2, 0, 1), 6, 1));
-    EXPECT(steps_nowhere(toml_step(BYTES("a"), SIZE_MAX, 1, 1), 6, 1));
+    EXPECT(steps_nowhere(galoxumi_step(BYTES("a"), 2, 0, 1), 6, 1));
+    EXPECT(steps_nowhere(galoxumi_step(BYTES("a"), SIZE_MAX, 1, 1), 6, 1));
     FROM("the request for lines: a wrong line is counted on from; 6 for a line past the place plus 1");
-    EXPECT(steps(toml_step(BYTES("a\n\nb"), 2, 0, 3), (toml_token)T(10, 2, 3, 3), (toml_cursor){3, 0, 4}));
-    EXPECT(steps(toml_step(BYTES("a\n\nb"), 3, 0, 0), (toml_token)T(3, 3, 4, 0), (toml_cursor){4, 0, 0}));
-    EXPECT(steps_nowhere(toml_step(BYTES("a\n\nb"), 2, 0, 4), 6, 4));
+    EXPECT(steps(galoxumi_step(BYTES("a\n\nb"), 2, 0, 3), (galoxumi_token)T(10, 2, 3, 3), (galoxumi_cursor){3, 0, 4}));
+    EXPECT(steps(galoxumi_step(BYTES("a\n\nb"), 3, 0, 0), (galoxumi_token)T(3, 3, 4, 0), (galoxumi_cursor){4, 0, 0}));
+    EXPECT(steps_nowhere(galoxumi_step(BYTES("a\n\nb"), 2, 0, 4), 6, 4));
 }
 
 /* ---- decoding */
@@ -126,7 +126,7 @@ static int decodes(size_t kind, const uint8_t *text, size_t len, const uint8_t *
     for (size_t spare = 0; spare <= 20; spare += 20) {
         memcpy(out, old, sizeof out);
         memcpy(records, kept, sizeof records);
-        toml_decoded d = toml_decode(text, len, kind, out, n + spare, records, spare == 0 ? m : 8);
+        galoxumi_decoded d = galoxumi_decode(text, len, kind, out, n + spare, records, spare == 0 ? m : 8);
         if (!answers(d.answer, 0, n) || d.errors != m || memcmp(out, bytes, n) != 0 || memcmp(records, errors, m * sizeof *records) != 0
             || memcmp(out + n, old + n, sizeof old - n) != 0 || memcmp(records + m, kept + m, sizeof kept - m * sizeof *kept) != 0) {
             return 0;
@@ -136,11 +136,11 @@ static int decodes(size_t kind, const uint8_t *text, size_t len, const uint8_t *
     memcpy(records, kept, sizeof records);
     int ok = 1;
     for (size_t room = 0; n > 0 && room < n; room += n > 1 ? n - 1 : 1) {
-        toml_decoded d = toml_decode(text, len, kind, out, room, records, 0);
+        galoxumi_decoded d = galoxumi_decode(text, len, kind, out, room, records, 0);
         ok &= answers(d.answer, 4, n) && d.errors == 0;
     }
     for (size_t room = 0; m > 0 && room < m; room += m > 1 ? m - 1 : 1) {
-        toml_decoded d = toml_decode(text, len, kind, out, n, records, room);
+        galoxumi_decoded d = galoxumi_decode(text, len, kind, out, n, records, room);
         ok &= answers(d.answer, 5, m) && d.errors == 0;
     }
     return ok && memcmp(out, old, sizeof out) == 0 && memcmp(records, kept, sizeof records) == 0;
@@ -179,13 +179,13 @@ static void decoding_refused(void)
     uint8_t out[2] = {0xA5, 0xA5};
     size_t errors[1][3] = {R(7, 8, 9)};
     FROM("docs/RULES.md, the refusals: 1 before 7, 7 before 4, 4 before 5");
-    toml_decoded d = toml_decode(BYTES("\"\xFF\""), 5, out, 0, errors, 0);
+    galoxumi_decoded d = galoxumi_decode(BYTES("\"\xFF\""), 5, out, 0, errors, 0);
     EXPECT(answers(d.answer, 1, 1) && d.errors == 0);
-    d = toml_decode(BYTES("\"abc\""), 5, out, 0, errors, 0);
+    d = galoxumi_decode(BYTES("\"abc\""), 5, out, 0, errors, 0);
     EXPECT(answers(d.answer, 7, 5) && d.errors == 0);
-    d = toml_decode(BYTES("\"abc"), 34, out, 2, errors, 0);
+    d = galoxumi_decode(BYTES("\"abc"), 34, out, 2, errors, 0);
     EXPECT(answers(d.answer, 4, 3) && d.errors == 0);
-    d = toml_decode(BYTES("\"ab"), 34, out, 2, errors, 0);
+    d = galoxumi_decode(BYTES("\"ab"), 34, out, 2, errors, 0);
     EXPECT(answers(d.answer, 5, 1) && d.errors == 0);
     FROM("docs/RULES.md, the refusals: a refused call writes nothing");
     EXPECT(out[0] == 0xA5 && out[1] == 0xA5 && is_record(errors[0], 7, 8, 9));
@@ -193,12 +193,12 @@ static void decoding_refused(void)
 
 /* ---- spans, places, kinds */
 
-static int is_part(toml_part p, size_t start, size_t length)
+static int is_part(galoxumi_part p, size_t start, size_t length)
 {
     return p.start == start && p.length == length;
 }
 
-static int is_position(toml_positioned p, size_t refusal, size_t value, size_t line, size_t column)
+static int is_position(galoxumi_positioned p, size_t refusal, size_t value, size_t line, size_t column)
 {
     return answers(p.answer, refusal, value) && p.line == line && p.column == column;
 }
@@ -206,31 +206,31 @@ static int is_position(toml_positioned p, size_t refusal, size_t value, size_t l
 static void places(void)
 {
     FROM("docs/RULES.md, the refusals: 6 for a span");
-    EXPECT(answers(toml_check_span(BYTES("\xC3\xA9=1"), 0, 4), 0, 0));
-    EXPECT(answers(toml_check_span(BYTES("\xC3\xA9=1"), 4, 4), 0, 0));
-    EXPECT(answers(toml_check_span(BYTES("\xC3\xA9=1"), 1, 2), 6, 4));
-    EXPECT(answers(toml_check_span(BYTES("\xC3\xA9=1"), 0, 1), 6, 4));
-    EXPECT(answers(toml_check_span(BYTES("\xC3\xA9=1"), 3, 2), 6, 4));
-    EXPECT(answers(toml_check_span(BYTES("\xC3\xA9=1"), 0, 5), 6, 4));
-    FROM("crates/toml/specs/Numbers.antt: start and length, 0 and 0 where refused");
-    EXPECT(is_part(toml_text(BYTES("\xC3\xA9=1"), 2, 4), 2, 2));
-    EXPECT(is_part(toml_text(BYTES("\xC3\xA9=1"), 4, 4), 4, 0));
-    EXPECT(is_part(toml_text(BYTES("\xC3\xA9=1"), 1, 4), 0, 0));
-    EXPECT(is_part(toml_text(BYTES("\xC3\xA9=1"), 3, 2), 0, 0));
+    EXPECT(answers(galoxumi_check_span(BYTES("\xC3\xA9=1"), 0, 4), 0, 0));
+    EXPECT(answers(galoxumi_check_span(BYTES("\xC3\xA9=1"), 4, 4), 0, 0));
+    EXPECT(answers(galoxumi_check_span(BYTES("\xC3\xA9=1"), 1, 2), 6, 4));
+    EXPECT(answers(galoxumi_check_span(BYTES("\xC3\xA9=1"), 0, 1), 6, 4));
+    EXPECT(answers(galoxumi_check_span(BYTES("\xC3\xA9=1"), 3, 2), 6, 4));
+    EXPECT(answers(galoxumi_check_span(BYTES("\xC3\xA9=1"), 0, 5), 6, 4));
+    FROM("crates/galoxumi/specs/Numbers.antt: start and length, 0 and 0 where refused");
+    EXPECT(is_part(galoxumi_text(BYTES("\xC3\xA9=1"), 2, 4), 2, 2));
+    EXPECT(is_part(galoxumi_text(BYTES("\xC3\xA9=1"), 4, 4), 4, 0));
+    EXPECT(is_part(galoxumi_text(BYTES("\xC3\xA9=1"), 1, 4), 0, 0));
+    EXPECT(is_part(galoxumi_text(BYTES("\xC3\xA9=1"), 3, 2), 0, 0));
     FROM("tests/scope.txt, pos");
-    EXPECT(is_position(toml_position(BYTES("\xC3\xA9=1"), 2), 0, 0, 1, 2));
-    FROM("crates/place/specs/Positions.antt");
+    EXPECT(is_position(galoxumi_position(BYTES("\xC3\xA9=1"), 2), 0, 0, 1, 2));
+    FROM("crates/lexer_place/specs/Positions.antt");
     FROM("the request for columns of characters: offsets 0 to 3 of a document with a byte order mark are all column 1");
     for (size_t i = 0; i <= 3; i++)
-        EXPECT(is_position(toml_position(BYTES("\xEF\xBB\xBF" "a"), i), 0, 0, 1, 1));
-    EXPECT(is_position(toml_position(BYTES("\xEF\xBB\xBF" "a"), 4), 0, 0, 1, 2));
+        EXPECT(is_position(galoxumi_position(BYTES("\xEF\xBB\xBF" "a"), i), 0, 0, 1, 1));
+    EXPECT(is_position(galoxumi_position(BYTES("\xEF\xBB\xBF" "a"), 4), 0, 0, 1, 2));
     FROM("docs/RULES.md, line and column");
-    EXPECT(is_position(toml_position(BYTES("a\nb"), 1), 0, 0, 1, 2));
-    EXPECT(is_position(toml_position(BYTES("a\nb"), 3), 0, 0, 2, 2));
-    EXPECT(is_position(toml_position(BYTES("a\nb"), 4), 6, 3, 0, 0));
+    EXPECT(is_position(galoxumi_position(BYTES("a\nb"), 1), 0, 0, 1, 2));
+    EXPECT(is_position(galoxumi_position(BYTES("a\nb"), 3), 0, 0, 2, 2));
+    EXPECT(is_position(galoxumi_position(BYTES("a\nb"), 4), 6, 3, 0, 0));
 }
 
-static int is_described(toml_described d, const char *words)
+static int is_described(galoxumi_described d, const char *words)
 {
     uint8_t padded[25] = {0};
     memcpy(padded, words, strlen(words));
@@ -243,34 +243,34 @@ static void kinds(void)
         size_t kind, encoding;
         const char *words;
     } table[] = {
-        {TOML_DOT, 0, "`.`"},
-        {TOML_EQUALS, 0, "`=`"},
-        {TOML_COMMA, 0, "`,`"},
-        {TOML_LEFT_SQUARE_BRACKET, 0, "`[`"},
-        {TOML_RIGHT_SQUARE_BRACKET, 0, "`]`"},
-        {TOML_LEFT_CURLY_BRACKET, 0, "`{`"},
-        {TOML_RIGHT_CURLY_BRACKET, 0, "`}`"},
-        {TOML_WHITESPACE, 0, "whitespace"},
-        {TOML_COMMENT, 0, "comment"},
-        {TOML_NEWLINE, 0, "newline"},
-        {TOML_LITERAL_STRING, 39, "literal string"},
-        {TOML_BASIC_STRING, 34, "basic string"},
-        {TOML_ML_LITERAL_STRING, 1, "multi-line literal string"},
-        {TOML_ML_BASIC_STRING, 2, "multi-line basic string"},
-        {TOML_ATOM, 0, "token"},
-        {TOML_EOF, 0, "end-of-input"},
+        {GALOXUMI_DOT, 0, "`.`"},
+        {GALOXUMI_EQUALS, 0, "`=`"},
+        {GALOXUMI_COMMA, 0, "`,`"},
+        {GALOXUMI_LEFT_SQUARE_BRACKET, 0, "`[`"},
+        {GALOXUMI_RIGHT_SQUARE_BRACKET, 0, "`]`"},
+        {GALOXUMI_LEFT_CURLY_BRACKET, 0, "`{`"},
+        {GALOXUMI_RIGHT_CURLY_BRACKET, 0, "`}`"},
+        {GALOXUMI_WHITESPACE, 0, "whitespace"},
+        {GALOXUMI_COMMENT, 0, "comment"},
+        {GALOXUMI_NEWLINE, 0, "newline"},
+        {GALOXUMI_LITERAL_STRING, 39, "literal string"},
+        {GALOXUMI_BASIC_STRING, 34, "basic string"},
+        {GALOXUMI_ML_LITERAL_STRING, 1, "multi-line literal string"},
+        {GALOXUMI_ML_BASIC_STRING, 2, "multi-line basic string"},
+        {GALOXUMI_ATOM, 0, "token"},
+        {GALOXUMI_EOF, 0, "end-of-input"},
     };
-    FROM("crates/token/specs/Descriptions.antt and Encodings.antt, from the Rust");
+    FROM("crates/lexer_token/specs/Descriptions.antt and Encodings.antt, from the Rust");
     for (size_t i = 0; i < sizeof table / sizeof *table; i++) {
-        EXPECT(is_described(toml_description(table[i].kind), table[i].words));
-        toml_encoded e = toml_encoding(table[i].kind);
+        EXPECT(is_described(galoxumi_description(table[i].kind), table[i].words));
+        galoxumi_encoded e = galoxumi_encoding(table[i].kind);
         EXPECT(answers(e.answer, 0, 0) && e.encoding == table[i].encoding);
     }
     FROM("docs/RULES.md, the refusals: 7 with the number, and zeros");
     static const uint8_t zeros[25];
-    toml_described d = toml_description(5);
+    galoxumi_described d = galoxumi_description(5);
     EXPECT(answers(d.answer, 7, 5) && d.length == 0 && memcmp(d.bytes, zeros, sizeof zeros) == 0);
-    toml_encoded e = toml_encoding(SIZE_MAX);
+    galoxumi_encoded e = galoxumi_encoding(SIZE_MAX);
     EXPECT(answers(e.answer, 7, SIZE_MAX) && e.encoding == 0);
 }
 
@@ -292,34 +292,34 @@ static void at_the_limit(struct memory m, size_t len)
 {
     memset(m.doc, '.', len);
     FROM("docs/RULES.md, the refusals: 16,777,216 bytes are not too many");
-    EXPECT(answers(toml_check_utf8(m.doc, len), 0, 0));
-    EXPECT(answers(toml_start(m.doc, len).answer, 0, 0));
-    EXPECT(steps(toml_step(m.doc, len, len - 1, 0, 1), (toml_token)T(46, len - 1, len, 1), (toml_cursor){len, 0, 1}));
-    EXPECT(answers(toml_check_span(m.doc, len, 0, len), 0, 0));
-    EXPECT(is_part(toml_text(m.doc, len, 1, len), 1, len - 1));
-    EXPECT(is_position(toml_position(m.doc, len, len), 0, 0, 1, len + 1));
+    EXPECT(answers(galoxumi_check_utf8(m.doc, len), 0, 0));
+    EXPECT(answers(galoxumi_start(m.doc, len).answer, 0, 0));
+    EXPECT(steps(galoxumi_step(m.doc, len, len - 1, 0, 1), (galoxumi_token)T(46, len - 1, len, 1), (galoxumi_cursor){len, 0, 1}));
+    EXPECT(answers(galoxumi_check_span(m.doc, len, 0, len), 0, 0));
+    EXPECT(is_part(galoxumi_text(m.doc, len, 1, len), 1, len - 1));
+    EXPECT(is_position(galoxumi_position(m.doc, len, len), 0, 0, 1, len + 1));
     FROM("crates/lexer/specs/Table.antt: a token for each dot, and Eof");
-    EXPECT(answers(toml_lex(m.doc, len, m.tokens, len + 1), 0, len + 1));
+    EXPECT(answers(galoxumi_lex(m.doc, len, m.tokens, len + 1), 0, len + 1));
     EXPECT(is_token(m.tokens[0], 46, 0, 1, 1) && is_token(m.tokens[len], 4, len, len, 1));
-    EXPECT(answers(toml_lex(m.doc, len, m.tokens, len), 3, len + 1));
-    EXPECT(answers(toml_lex(m.doc, len, m.tokens, 0), 3, len + 1));
-    FROM("crates/strings/specs/Bodies.antt: error 15 at each byte of a key of dots");
-    toml_decoded d = toml_decode(m.doc, len, 3, m.out, len, m.records, len);
+    EXPECT(answers(galoxumi_lex(m.doc, len, m.tokens, len), 3, len + 1));
+    EXPECT(answers(galoxumi_lex(m.doc, len, m.tokens, 0), 3, len + 1));
+    FROM("crates/decoder_rules/specs/Bodies.antt: error 15 at each byte of a key of dots");
+    galoxumi_decoded d = galoxumi_decode(m.doc, len, 3, m.out, len, m.records, len);
     EXPECT(answers(d.answer, 0, len) && d.errors == len && is_record(m.records[len - 1], 15, len - 1, len - 1));
-    EXPECT(answers(toml_decode(m.doc, len, 3, m.out, len, m.records, len - 1).answer, 5, len));
-    FROM("crates/strings/specs/Marks.antt: one string without its two marks");
+    EXPECT(answers(galoxumi_decode(m.doc, len, 3, m.out, len, m.records, len - 1).answer, 5, len));
+    FROM("crates/decoder_rules/specs/Marks.antt: one string without its two marks");
     m.doc[0] = m.doc[len - 1] = '"';
-    EXPECT(answers(toml_lex(m.doc, len, m.tokens, 2), 0, 2) && is_token(m.tokens[0], 34, 0, len, 1));
-    d = toml_decode(m.doc, len, 34, m.out, len + len / 2, m.records, len + 2);
+    EXPECT(answers(galoxumi_lex(m.doc, len, m.tokens, 2), 0, 2) && is_token(m.tokens[0], 34, 0, len, 1));
+    d = galoxumi_decode(m.doc, len, 34, m.out, len + len / 2, m.records, len + 2);
     EXPECT(answers(d.answer, 0, len - 2) && d.errors == 0 && m.out[0] == '.' && m.out[len - 3] == '.');
-    EXPECT(answers(toml_decode(m.doc, len, 34, m.out, len - 2, m.records, 0).answer, 0, len - 2));
-    EXPECT(answers(toml_decode(m.doc, len, 34, m.out, len - 3, m.records, 0).answer, 4, len - 2));
-    EXPECT(answers(toml_decode_in(m.doc, len, 11, 34, m.out, len - 2, m.records, 0).answer, 0, len - 2));
+    EXPECT(answers(galoxumi_decode(m.doc, len, 34, m.out, len - 2, m.records, 0).answer, 0, len - 2));
+    EXPECT(answers(galoxumi_decode(m.doc, len, 34, m.out, len - 3, m.records, 0).answer, 4, len - 2));
+    EXPECT(answers(galoxumi_decode_in(m.doc, len, 11, 34, m.out, len - 2, m.records, 0).answer, 0, len - 2));
     FROM("docs/RULES.md, the refusals: 1 at the last byte");
     m.doc[len - 1] = 0xC3;
-    EXPECT(answers(toml_check_utf8(m.doc, len), 1, len - 1));
-    EXPECT(answers(toml_lex(m.doc, len, m.tokens, 0), 1, len - 1));
-    EXPECT(answers(toml_decode(m.doc, len, 5, m.out, 0, m.records, 0).answer, 1, len - 1));
+    EXPECT(answers(galoxumi_check_utf8(m.doc, len), 1, len - 1));
+    EXPECT(answers(galoxumi_lex(m.doc, len, m.tokens, 0), 1, len - 1));
+    EXPECT(answers(galoxumi_decode(m.doc, len, 5, m.out, 0, m.records, 0).answer, 1, len - 1));
 }
 
 /* Refused by every call, before all else that is wrong with what it is given. */
@@ -330,26 +330,26 @@ static void past_the_limit(struct memory m, size_t len)
     m.out[0] = 0xA5;
     m.records[0][0] = 7;
     m.tokens[0][0] = 7;
-    EXPECT(answers(toml_check_utf8(m.doc, len), 2, LIMIT));
-    EXPECT(answers(toml_lex(m.doc, len, m.tokens, 0), 2, LIMIT));
-    EXPECT(answers(toml_lex(m.doc, len, m.tokens, len + 1), 2, LIMIT));
-    toml_started start = toml_start(m.doc, len);
+    EXPECT(answers(galoxumi_check_utf8(m.doc, len), 2, LIMIT));
+    EXPECT(answers(galoxumi_lex(m.doc, len, m.tokens, 0), 2, LIMIT));
+    EXPECT(answers(galoxumi_lex(m.doc, len, m.tokens, len + 1), 2, LIMIT));
+    galoxumi_started start = galoxumi_start(m.doc, len);
     EXPECT(answers(start.answer, 2, LIMIT) && start.cursor.place == 0 && start.cursor.ended == 0 && start.cursor.line == 0);
-    EXPECT(steps_nowhere(toml_step(m.doc, len, SIZE_MAX, 1, SIZE_MAX), 2, LIMIT));
-    EXPECT(answers(toml_check_span(m.doc, len, 5, 4), 2, LIMIT));
-    EXPECT(is_part(toml_text(m.doc, len, 1, 2), 0, 0));
-    EXPECT(is_position(toml_position(m.doc, len, SIZE_MAX), 2, LIMIT, 0, 0));
-    toml_decoded d = toml_decode(m.doc, len, 5, m.out, 0, m.records, 0);
+    EXPECT(steps_nowhere(galoxumi_step(m.doc, len, SIZE_MAX, 1, SIZE_MAX), 2, LIMIT));
+    EXPECT(answers(galoxumi_check_span(m.doc, len, 5, 4), 2, LIMIT));
+    EXPECT(is_part(galoxumi_text(m.doc, len, 1, 2), 0, 0));
+    EXPECT(is_position(galoxumi_position(m.doc, len, SIZE_MAX), 2, LIMIT, 0, 0));
+    galoxumi_decoded d = galoxumi_decode(m.doc, len, 5, m.out, 0, m.records, 0);
     EXPECT(answers(d.answer, 2, LIMIT) && d.errors == 0);
-    d = toml_decode(m.doc, len, 34, m.out, LIMIT, m.records, LIMIT);
+    d = galoxumi_decode(m.doc, len, 34, m.out, LIMIT, m.records, LIMIT);
     EXPECT(answers(d.answer, 2, LIMIT) && d.errors == 0);
-    d = toml_decode_in(m.doc, len, 12, 34, m.out, LIMIT, m.records, LIMIT);
+    d = galoxumi_decode_in(m.doc, len, 12, 34, m.out, LIMIT, m.records, LIMIT);
     EXPECT(answers(d.answer, 2, LIMIT) && d.errors == 0);
     EXPECT(m.out[0] == 0xA5 && m.records[0][0] == 7 && m.tokens[0][0] == 7);
 }
 
 /* With refusal 1 the length of the faulty sequence, from every call that gives it. */
-static int broken(toml_answer a, size_t value, size_t length)
+static int broken(galoxumi_answer a, size_t value, size_t length)
 {
     return a.refusal == 1 && a.value == value && a.length == length;
 }
@@ -359,17 +359,17 @@ static void faults(void)
     uint8_t out[16];
     size_t records[4][3];
     FROM("core::str::Utf8Error: error_len is none, here 0, at an unexpected end, and else 1 to 3");
-    EXPECT(broken(toml_check_utf8(BYTES("a\xE2\x82")), 1, 0));
-    EXPECT(broken(toml_check_utf8(BYTES("a\xE2\x82" "b")), 1, 2));
+    EXPECT(broken(galoxumi_check_utf8(BYTES("a\xE2\x82")), 1, 0));
+    EXPECT(broken(galoxumi_check_utf8(BYTES("a\xE2\x82" "b")), 1, 2));
     size_t tokens[1][4];
-    EXPECT(broken(toml_lex(BYTES("\xF0\x90\x80" "b"), tokens, 1), 0, 3));
-    EXPECT(broken(toml_decode(BYTES("\xED\xA0\x80"), 34, out, 16, records, 4).answer, 0, 1));
-    EXPECT(broken(toml_decode_in(BYTES("\xFF"), 12, 5, out, 16, records, 4).answer, 0, 1));
+    EXPECT(broken(galoxumi_lex(BYTES("\xF0\x90\x80" "b"), tokens, 1), 0, 3));
+    EXPECT(broken(galoxumi_decode(BYTES("\xED\xA0\x80"), 34, out, 16, records, 4).answer, 0, 1));
+    EXPECT(broken(galoxumi_decode_in(BYTES("\xFF"), 12, 5, out, 16, records, 4).answer, 0, 1));
     FROM("docs/RULES.md, the refusals: only 1 has a second number");
-    EXPECT(toml_check_utf8(BYTES("a")).length == 0 && toml_lex(BYTES("a"), tokens, 0).length == 0);
+    EXPECT(galoxumi_check_utf8(BYTES("a")).length == 0 && galoxumi_lex(BYTES("a"), tokens, 0).length == 0);
 }
 
-/* The editions: 10 is toml_decode's own, 11 adds two escapes, and another number is refused behind a kind's. */
+/* The editions: 10 is galoxumi_decode's own, 11 adds two escapes, and another number is refused behind a kind's. */
 static void editions(void)
 {
     uint8_t out[16];
@@ -377,18 +377,18 @@ static void editions(void)
     const uint8_t text[] = "\"\\e\\x41\"";
     size_t len = sizeof text - 1;
     FROM("the ABNF of TOML 1.1.0: escape-seq-char has e (U+001B) and x with two hex digits besides");
-    toml_decoded d = toml_decode_in(text, len, 11, 34, out, 16, records, 4);
+    galoxumi_decoded d = galoxumi_decode_in(text, len, 11, 34, out, 16, records, 4);
     EXPECT(answers(d.answer, 0, 2) && d.errors == 0 && out[0] == 0x1B && out[1] == 0x41);
     FROM("docs/RULES.md, the errors: 8 behind the backslash");
-    d = toml_decode_in(text, len, 10, 34, out, 16, records, 4);
+    d = galoxumi_decode_in(text, len, 10, 34, out, 16, records, 4);
     EXPECT(answers(d.answer, 0, 6) && d.errors == 2 && records[0][0] == 8 && records[0][1] == 2 && records[1][1] == 4);
-    d = toml_decode(text, len, 34, out, 16, records, 4);
+    d = galoxumi_decode(text, len, 34, out, 16, records, 4);
     EXPECT(answers(d.answer, 0, 6) && d.errors == 2 && records[0][0] == 8 && records[0][1] == 2 && records[1][1] == 4);
     FROM("docs/RULES.md, the refusals: 9 with the number named, behind 7 and before 4");
     out[0] = 0xA5;
-    EXPECT(answers(toml_decode_in(text, len, 12, 34, out, 0, records, 4).answer, 9, 12));
-    EXPECT(answers(toml_decode_in(text, len, 12, 39, out, 16, records, 4).answer, 9, 12));
-    EXPECT(answers(toml_decode_in(text, len, 12, 5, out, 16, records, 4).answer, 7, 5));
+    EXPECT(answers(galoxumi_decode_in(text, len, 12, 34, out, 0, records, 4).answer, 9, 12));
+    EXPECT(answers(galoxumi_decode_in(text, len, 12, 39, out, 16, records, 4).answer, 9, 12));
+    EXPECT(answers(galoxumi_decode_in(text, len, 12, 5, out, 16, records, 4).answer, 7, 5));
     EXPECT(out[0] == 0xA5);
 }
 
@@ -396,7 +396,7 @@ static void long_documents(void)
 {
     size_t len = LIMIT;
     FROM("docs/RULES.md, the refusals: the header has the same number");
-    EXPECT(TOML_LIMIT == len);
+    EXPECT(GALOXUMI_LIMIT == len);
     struct memory m = {malloc(len + 1), malloc(len + len / 2), malloc((len + 2) * sizeof(size_t[3])),
                        malloc((len + 2) * sizeof(size_t[4]))};
     if (!m.doc || !m.out || !m.records || !m.tokens) {

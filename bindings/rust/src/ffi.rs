@@ -1,4 +1,4 @@
-//! The exported functions, as include/toml.h declares them, and a safe function over each.
+//! The exported functions, as include/galoxumi.h declares them, and a safe function over each.
 //!
 //! Each exported function takes a slice as a pointer and a length, reads and writes within it and
 //! nowhere else, keeps no pointer, and returns for all arguments: that is proved. So each wrapper
@@ -77,14 +77,14 @@ mod archive {
     use super::*;
 
     extern "C" {
-        pub fn toml_check_utf8(doc: *const u8, len: usize) -> Answer;
-        pub fn toml_start(doc: *const u8, len: usize) -> Started;
-        pub fn toml_step(doc: *const u8, len: usize, place: usize, ended: usize, line: usize) -> Stepped;
-        pub fn toml_lex(doc: *const u8, len: usize, records: *mut [usize; 4], records_len: usize) -> Answer;
-        pub fn toml_check_span(doc: *const u8, len: usize, start: usize, end: usize) -> Answer;
-        pub fn toml_text(doc: *const u8, len: usize, start: usize, end: usize) -> Part;
-        pub fn toml_position(doc: *const u8, len: usize, offset: usize) -> Positioned;
-        pub fn toml_decode_in(
+        pub fn galoxumi_check_utf8(doc: *const u8, len: usize) -> Answer;
+        pub fn galoxumi_start(doc: *const u8, len: usize) -> Started;
+        pub fn galoxumi_step(doc: *const u8, len: usize, place: usize, ended: usize, line: usize) -> Stepped;
+        pub fn galoxumi_lex(doc: *const u8, len: usize, records: *mut [usize; 4], records_len: usize) -> Answer;
+        pub fn galoxumi_check_span(doc: *const u8, len: usize, start: usize, end: usize) -> Answer;
+        pub fn galoxumi_text(doc: *const u8, len: usize, start: usize, end: usize) -> Part;
+        pub fn galoxumi_position(doc: *const u8, len: usize, offset: usize) -> Positioned;
+        pub fn galoxumi_decode_in(
             text: *const u8,
             len: usize,
             edition: usize,
@@ -94,37 +94,37 @@ mod archive {
             errors: *mut [usize; 3],
             errors_len: usize,
         ) -> Decoded;
-        pub fn toml_description(kind: usize) -> Described;
-        pub fn toml_encoding(kind: usize) -> Encoded;
+        pub fn galoxumi_description(kind: usize) -> Described;
+        pub fn galoxumi_encoding(kind: usize) -> Encoded;
     }
 }
 
 pub(crate) fn check_utf8(doc: &[u8]) -> Answer {
-    unsafe { archive::toml_check_utf8(doc.as_ptr(), doc.len()) }
+    unsafe { archive::galoxumi_check_utf8(doc.as_ptr(), doc.len()) }
 }
 
 pub(crate) fn start(doc: &[u8]) -> Started {
-    unsafe { archive::toml_start(doc.as_ptr(), doc.len()) }
+    unsafe { archive::galoxumi_start(doc.as_ptr(), doc.len()) }
 }
 
 pub(crate) fn step(doc: &[u8], place: usize, ended: bool, line: usize) -> Stepped {
-    unsafe { archive::toml_step(doc.as_ptr(), doc.len(), place, ended.into(), line) }
+    unsafe { archive::galoxumi_step(doc.as_ptr(), doc.len(), place, ended.into(), line) }
 }
 
 pub(crate) fn lex(doc: &[u8], records: &mut [[usize; 4]]) -> Answer {
-    unsafe { archive::toml_lex(doc.as_ptr(), doc.len(), records.as_mut_ptr(), records.len()) }
+    unsafe { archive::galoxumi_lex(doc.as_ptr(), doc.len(), records.as_mut_ptr(), records.len()) }
 }
 
 pub(crate) fn check_span(doc: &[u8], start: usize, end: usize) -> Answer {
-    unsafe { archive::toml_check_span(doc.as_ptr(), doc.len(), start, end) }
+    unsafe { archive::galoxumi_check_span(doc.as_ptr(), doc.len(), start, end) }
 }
 
 pub(crate) fn text(doc: &[u8], start: usize, end: usize) -> Part {
-    unsafe { archive::toml_text(doc.as_ptr(), doc.len(), start, end) }
+    unsafe { archive::galoxumi_text(doc.as_ptr(), doc.len(), start, end) }
 }
 
 pub(crate) fn position(doc: &[u8], offset: usize) -> Positioned {
-    unsafe { archive::toml_position(doc.as_ptr(), doc.len(), offset) }
+    unsafe { archive::galoxumi_position(doc.as_ptr(), doc.len(), offset) }
 }
 
 pub(crate) fn decode_in(
@@ -135,7 +135,7 @@ pub(crate) fn decode_in(
     errors: &mut [[usize; 3]],
 ) -> Decoded {
     unsafe {
-        archive::toml_decode_in(
+        archive::galoxumi_decode_in(
             text.as_ptr(),
             text.len(),
             edition,
@@ -149,9 +149,9 @@ pub(crate) fn decode_in(
 }
 
 pub(crate) fn description(kind: usize) -> Described {
-    unsafe { archive::toml_description(kind) }
+    unsafe { archive::galoxumi_description(kind) }
 }
 
 pub(crate) fn encoding(kind: usize) -> Encoded {
-    unsafe { archive::toml_encoding(kind) }
+    unsafe { archive::galoxumi_encoding(kind) }
 }

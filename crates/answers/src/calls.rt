@@ -1,12 +1,12 @@
 // One function for each call: makes it, and hands what it answers to `forms`. The call's own promise
 // says what that is, and `forms` promises what it comes to.
 ghost use Prim.Native.Nat.{_≤_};
-use asking::Call;
+use answers_asking::Call;
+use answers_spelling::Answer;
 use lexer::Cursor;
-use place::Position;
-use spelling::Answer;
-use token::Span;
-use token::TokenKind;
+use lexer_place::Position;
+use lexer_token::Span;
+use lexer_token::TokenKind;
 
 pub(crate) fn make(
     call: Call,
@@ -43,16 +43,16 @@ fn make_plain(call: Call, numbers: [usize; 3], doc: &[u8]) -> Answer {
 }
 
 fn lex(doc: &[u8], tokens: &mut [[usize; 4]]) -> Answer {
-    forms::tokens(lexer::lex(doc, tokens))
+    answers_forms::tokens(lexer::lex(doc, tokens))
 }
 
 fn lexline(doc: &[u8], tokens: &mut [[usize; 4]]) -> Answer {
-    forms::token_lines(lexer::lex(doc, tokens))
+    answers_forms::token_lines(lexer::lex(doc, tokens))
 }
 
 fn lexcap(numbers: [usize; 3], doc: &[u8], tokens: &mut [[usize; 4]]) -> Answer {
     let lent = least(numbers[0], tokens.len());
-    forms::token_count(lexer::lex(doc, &mut tokens[..lent]))
+    answers_forms::token_count(lexer::lex(doc, &mut tokens[..lent]))
 }
 
 // What is asked for, as far as it is there.
@@ -63,13 +63,13 @@ fn least(asked: usize, there: usize) -> usize
 }
 
 fn dec(numbers: [usize; 3], doc: &[u8], bytes: &mut [u8], errors: &mut [[usize; 3]]) -> Answer {
-    forms::decoded(decoder::decode(doc, numbers[0], bytes, errors))
+    answers_forms::decoded(decoder::decode(doc, numbers[0], bytes, errors))
 }
 
 // The numbers are the edition's and the kind's.
 fn decin(numbers: [usize; 3], doc: &[u8], bytes: &mut [u8], errors: &mut [[usize; 3]]) -> Answer {
     let decoded = decoder::decode_in(doc, numbers[0], numbers[1], bytes, errors);
-    forms::decoded(decoded)
+    answers_forms::decoded(decoded)
 }
 
 // The numbers are the kind, the bytes of output and the records lent.
@@ -77,30 +77,30 @@ fn deccap(numbers: [usize; 3], doc: &[u8], bytes: &mut [u8], errors: &mut [[usiz
     let output = least(numbers[1], bytes.len());
     let lent = least(numbers[2], errors.len());
     let decoded = decoder::decode(doc, numbers[0], &mut bytes[..output], &mut errors[..lent]);
-    forms::decoded_count(decoded)
+    answers_forms::decoded_count(decoded)
 }
 
 fn utf8(doc: &[u8]) -> Answer {
-    forms::checked(text::check_utf8(doc))
+    answers_forms::checked(text::check_utf8(doc))
 }
 
 fn fault(doc: &[u8]) -> Answer {
-    forms::faulted(text::check_utf8(doc))
+    answers_forms::faulted(text::check_utf8(doc))
 }
 
 fn start(doc: &[u8]) -> Answer {
-    forms::started(Cursor::start(doc))
+    answers_forms::started(Cursor::start(doc))
 }
 
 fn step(numbers: [usize; 3], doc: &[u8]) -> Answer {
     let place = numbers[0];
     let cursor = cursor_of(place, numbers[1], line_at(doc, place));
-    forms::stepped(cursor.step(doc))
+    answers_forms::stepped(cursor.step(doc))
 }
 
 fn stepline(numbers: [usize; 3], doc: &[u8]) -> Answer {
     let cursor = cursor_of(numbers[0], numbers[1], numbers[2]);
-    forms::stepped_line(cursor.step(doc))
+    answers_forms::stepped_line(cursor.step(doc))
 }
 
 fn cursor_of(place: usize, ended: usize, line: usize) -> Cursor {
@@ -113,14 +113,14 @@ fn cursor_of(place: usize, ended: usize, line: usize) -> Cursor {
 
 // The line of a place; 1 where it has none.
 fn line_at(doc: &[u8], place: usize) -> usize {
-    match place::position_of(doc, place) {
+    match lexer_place::position_of(doc, place) {
         Position::At { line, column: _ } => line,
         Position::Refused(_) => 1,
     }
 }
 
 fn span(numbers: [usize; 3], doc: &[u8]) -> Answer {
-    forms::span_checked(place::check_span(doc, span_of(numbers)))
+    answers_forms::span_checked(lexer_place::check_span(doc, span_of(numbers)))
 }
 
 fn span_of(numbers: [usize; 3]) -> Span {
@@ -128,12 +128,12 @@ fn span_of(numbers: [usize; 3]) -> Span {
 }
 
 fn text_of_span(numbers: [usize; 3], doc: &[u8], bytes: &mut [u8]) -> Answer {
-    let part = place::text_of(doc, span_of(numbers));
-    forms::hex(copy(part, bytes))
+    let part = lexer_place::text_of(doc, span_of(numbers));
+    answers_forms::hex(copy(part, bytes))
 }
 
 fn pos(numbers: [usize; 3], doc: &[u8]) -> Answer {
-    forms::positioned(place::position_of(doc, numbers[0]))
+    answers_forms::positioned(lexer_place::position_of(doc, numbers[0]))
 }
 
 // The description, all 25 bytes of it, and the encoding.
@@ -143,7 +143,7 @@ fn desc(numbers: [usize; 3], bytes: &mut [u8]) -> Answer {
     let text = description.bytes;
     let count = copy(&text, bytes);
     let answer = description.answer;
-    forms::described(
+    answers_forms::described(
         answer,
         description.len,
         count,

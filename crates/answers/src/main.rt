@@ -6,12 +6,12 @@ mod calls;
 
 ghost use Prim.Native.Nat.{_≤_};
 ghost use lib.ListN.{length};
-use asking::Fault;
-use asking::OUTPUT;
-use asking::RECORDS;
-use asking::Reading;
-use asking::Request;
-use spelling::Answer;
+use answers_asking::Fault;
+use answers_asking::OUTPUT;
+use answers_asking::RECORDS;
+use answers_asking::Reading;
+use answers_asking::Request;
+use answers_spelling::Answer;
 
 fn main() {
     let mut input = [0u8; 65536];
@@ -41,7 +41,7 @@ fn answer_all(
     };
     let mut turns = u64::MAX;
     while turns > 0 && reading.more {
-        let request = asking::next_request(reading, input, line);
+        let request = answers_asking::next_request(reading, input, line);
         reading = request.reading;
         answer(request, line, bytes, errors, tokens);
         turns -= 1;
@@ -58,7 +58,7 @@ fn answer(
     requires { ⌜ request .len ≤ length (now line) ⌝ }
 {
     let made = answer_to(request, line, bytes, errors, tokens);
-    spelling::print_answer(made, bytes, errors, tokens);
+    answers_spelling::print_answer(made, bytes, errors, tokens);
 }
 
 fn answer_to(
@@ -78,5 +78,5 @@ fn answer_to(
     if let Fault::Nothing = fault {
         return calls::make(call, numbers, &line[..len], bytes, errors, tokens);
     }
-    forms::fault(fault)
+    answers_forms::fault(fault)
 }

@@ -4,7 +4,7 @@
 -- Assumes nothing.
 use mathlib.Core.Path.{_≡_, sym, _∙_}
 use denote.Ref.{now}
-use Rattle.classes.proofs.OneAnswer.{OneOutcome, _and_, both}
+use Rattle.text_classes.proofs.OneAnswer.{OneOutcome, _and_, both}
 use Rattle.decoder.proofs as promised
 
 pub decode : OneOutcome promised.decode.Reads.Learnt (λ κs r s. r and now (s .1 .1 .0) and now (s .1 .1 .1 .0))

@@ -8,37 +8,37 @@ use mathlib.Core.List.{List, [], _∷_, _++_}
 use native.Mathlib.Omega.{arith}
 use lib.ListN.{length, take, drop, getD, set, replicate, length-append, length-take, length-drop, length-set}
 use lib.Seq.{sets, length-take-le, take-all, take-append-seam}
-use Rattle.classes.specs.Runs.{run}
-use Rattle.classes.proofs.RunLaws.{run-le}
+use Rattle.text_classes.specs.Runs.{run}
+use Rattle.text_classes.proofs.RunLaws.{run-le}
 use Rattle.text.specs.declared.utf8.Encoded.{Encoded}
 use Rattle.text.specs.Refusals.{limit}
 use Rattle.text.specs.Utf8.{Scalar, encodeScalar}
 use Rattle.text.specs.CheckMeans.{padded, encodedOf}
 use Rattle.text.proofs.EncodeLaws.{scalar-true, encode-length}
-use Rattle.strings.specs.declared.Encoding.{Encoding}
-use Rattle.strings.specs.declared.Encoding.the-variants.{UnquotedKey}
-use Rattle.strings.specs.Encodings.{plain}
-use Rattle.strings.specs.declared.Piece.{Piece}
-use Rattle.strings.specs.declared.Verdict.the-variants.{Clean}
-use Rattle.strings.specs.Pieces.{gives, Pieces, copyPiece, charPiece}
-use Rattle.strings.specs.Bodies.{pieceOf}
-use Rattle.strings.specs.Marks.{endsOf, bodyOf}
-use Rattle.strings.specs.Decoding.{bytesOf}
-use Rattle.strings.specs.declared.Ends.{Ends}
-use Rattle.strings.proofs.PieceLaws.{notes-none}
-use Rattle.strings.proofs.LoopLaws.{bytes, errors, Writing, write-turn}
-use Rattle.strings.proofs.FrontLaws.{front-bytes, front-errors, part-rest}
-use Rattle.strings.proofs.MarkLaws.{ends-fit}
-use Rattle.strings.proofs.DecodeLaws.{bytes-is}
-use Rattle.strings.proofs.StoreLaws.{Stored, store-none, front-long, overwritten, copy-none, copy-more, copy-done}
-use Rattle.strings.proofs.PlainLaws.{Named}
-use Rattle.strings.proofs.KeyLaws.{PlainKey, KeyCopied, copied, untouched}
-use Rattle.strings.proofs.Fine.{Fine, rest, rest-is, rest-some, Turn}
-use Rattle.pieces.specs.Places.{pieceAt}
-use Rattle.pieces.proofs.PlaceLaws.{piece-is}
-use Rattle.pieces.specs.declared.string.Escape.{Escape}
-use Rattle.pieces.specs.GoodEscapes.{escapeAt}
-use Rattle.pieces.proofs.EscapeAtLaws.{good-escape-piece}
+use Rattle.decoder_rules.specs.declared.Encoding.{Encoding}
+use Rattle.decoder_rules.specs.declared.Encoding.the-variants.{UnquotedKey}
+use Rattle.decoder_rules.specs.Encodings.{plain}
+use Rattle.decoder_rules.specs.declared.Piece.{Piece}
+use Rattle.decoder_rules.specs.declared.Verdict.the-variants.{Clean}
+use Rattle.decoder_rules.specs.Pieces.{gives, Pieces, copyPiece, charPiece}
+use Rattle.decoder_rules.specs.Bodies.{pieceOf}
+use Rattle.decoder_rules.specs.Marks.{endsOf, bodyOf}
+use Rattle.decoder_rules.specs.Decoding.{bytesOf}
+use Rattle.decoder_rules.specs.declared.Ends.{Ends}
+use Rattle.decoder_rules.proofs.PieceLaws.{notes-none}
+use Rattle.decoder_rules.proofs.LoopLaws.{bytes, errors, Writing, write-turn}
+use Rattle.decoder_rules.proofs.FrontLaws.{front-bytes, front-errors, part-rest}
+use Rattle.decoder_rules.proofs.MarkLaws.{ends-fit}
+use Rattle.decoder_rules.proofs.DecodeLaws.{bytes-is}
+use Rattle.decoder_rules.proofs.StoreLaws.{Stored, store-none, front-long, overwritten, copy-none, copy-more, copy-done}
+use Rattle.decoder_rules.proofs.PlainLaws.{Named}
+use Rattle.decoder_rules.proofs.KeyLaws.{PlainKey, KeyCopied, copied, untouched}
+use Rattle.decoder_rules.proofs.Fine.{Fine, rest, rest-is, rest-some, Turn}
+use Rattle.decoder_pieces.specs.Places.{pieceAt}
+use Rattle.decoder_pieces.proofs.PlaceLaws.{piece-is}
+use Rattle.decoder_pieces.specs.declared.string.Escape.{Escape}
+use Rattle.decoder_pieces.specs.GoodEscapes.{escapeAt}
+use Rattle.decoder_pieces.proofs.EscapeAtLaws.{good-escape-piece}
 
 module _ (c : ℕ) (h : Scalar c) (e : Encoded) (f : e ≡ encodedOf c) where
   encoded-is : e ≡ padded (encodeScalar c)

@@ -4,9 +4,9 @@ use Prim.Native.Nat.{ℕ, _<_}
 use mathlib.Core.Path.{_≡_}
 use mathlib.Core.Bool.{Bool}
 use mathlib.Core.List.{List}
-use Rattle.strings.specs.declared.Encoding.{Encoding}
-use Rattle.strings.specs.Pieces.{copyPiece}
-use Rattle.strings.specs.Bodies.{pieceOf}
+use Rattle.decoder_rules.specs.declared.Encoding.{Encoding}
+use Rattle.decoder_rules.specs.Pieces.{copyPiece}
+use Rattle.decoder_rules.specs.Bodies.{pieceOf}
 
 -- a run of n bytes, fewer than eight, is the rule's piece in front of s
 pub record FewAt (e : Encoding) (d : Bool) (s : List ℕ) (n : ℕ) : Type 0 where

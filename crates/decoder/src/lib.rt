@@ -1,5 +1,5 @@
 // `decode`: the text of a string token or a key, into lent memory. Rule: Decoding.antt of crate
-// `strings`.
+// `decoder_rules`.
 ghost use mathlib.Core.Path.{_≡_};
 ghost use mathlib.Core.Bool.{true};
 ghost use Prim.Native.Nat.{_+_, _/_, _≤_};
@@ -7,14 +7,14 @@ ghost use lib.ListN.{length};
 ghost use Rattle.text.specs.Refusals.{limit};
 ghost use Rattle.text.specs.Told.{checkFault};
 ghost use Rattle.text.specs.declared.utf8.Utf8Check.the-variants.{Valid};
-ghost use Rattle.strings.specs.Encodings.{choiceBy};
-ghost use Rattle.strings.specs.declared.Choice.the-variants.{Known};
-ghost use Rattle.strings.specs.Decoding.{bytesOf, errorsOf, bytesBy, errorsBy, decodedBy, decodeIn, after};
-ghost use Rattle.strings.specs.Told.{decodedNumber, decodedValue, decodedErrors, decodedLength, decodeRefusal, decodeReturned, decodeNoted};
-ghost use Rattle.strings.proofs.PlainLaws.{Named};
-ghost use Rattle.strings.specs.Marks.{endsOf};
-ghost use Rattle.strings.proofs.KeyLaws.{KeyCopied};
-ghost use Rattle.strings.proofs.StoreLaws.{Stored};
+ghost use Rattle.decoder_rules.specs.Encodings.{choiceBy};
+ghost use Rattle.decoder_rules.specs.declared.Choice.the-variants.{Known};
+ghost use Rattle.decoder_rules.specs.Decoding.{bytesOf, errorsOf, bytesBy, errorsBy, decodedBy, decodeIn, after};
+ghost use Rattle.decoder_rules.specs.Told.{decodedNumber, decodedValue, decodedErrors, decodedLength, decodeRefusal, decodeReturned, decodeNoted};
+ghost use Rattle.decoder_rules.proofs.PlainLaws.{Named};
+ghost use Rattle.decoder_rules.specs.Marks.{endsOf};
+ghost use Rattle.decoder_rules.proofs.KeyLaws.{KeyCopied};
+ghost use Rattle.decoder_rules.proofs.StoreLaws.{Stored};
 
 mod write;
 
@@ -24,21 +24,21 @@ use crate::write::count;
 use crate::write::miss;
 use crate::write::missed;
 use crate::write::write;
-use marks::choice_by;
-use marks::ends_of;
-use marks::mark_error;
-use pieces::plain_run;
-use plain::copy_plain;
-use strings::Choice;
-pub use strings::Decoded;
-use strings::Edition;
-use strings::Encoding;
-use strings::Ends;
+use decoder_marks::choice_by;
+use decoder_marks::ends_of;
+use decoder_marks::mark_error;
+use decoder_pieces::plain_run;
+use decoder_plain::copy_plain;
+use decoder_rules::Choice;
+pub use decoder_rules::Decoded;
+use decoder_rules::Edition;
+use decoder_rules::Encoding;
+use decoder_rules::Ends;
+use lexer_token::TokenKind;
 use text::LIMIT;
 use text::Refusal;
 use text::Utf8Check;
 use text::check_utf8;
-use token::TokenKind;
 
 // Decodes a text of the kind that the number says: 39 literal, 34 basic, 1 ml-literal, 2 ml-basic,
 // 3 a key. The bytes go to the front of the output; the errors, as number, start and end, to the

@@ -1,5 +1,5 @@
 // The two loops over a body's pieces: one counts, one writes. What they ask of a decoder is that its
-// pieces are `Fine` (crate `strings`), so they serve all five. A function that stores answers the
+// pieces are `Fine` (crate `decoder_rules`), so they serve all five. A function that stores answers the
 // place behind what it stored.
 ghost use mathlib.Core.Path.{_≡_};
 ghost use mathlib.Core.Bool.{false};
@@ -7,22 +7,22 @@ ghost use Prim.Native.Nat.{ℕ, _+_, _<_, _≤_};
 ghost use lib.ListN.{length, take};
 ghost use Rattle.text.specs.Refusals.{limit};
 ghost use Rattle.text.specs.Utf8.{Scalar, encodeScalar};
-ghost use Rattle.strings.specs.declared.DecodeError.{DecodeError};
-ghost use Rattle.strings.specs.Pieces.{gives, errorAt, notes};
-ghost use Rattle.strings.specs.Bodies.{pieceOf};
-ghost use Rattle.strings.specs.Decoding.{missing};
-ghost use Rattle.strings.proofs.Fine.{FineAt};
-ghost use Rattle.strings.proofs.StoreLaws.{Stored};
-ghost use Rattle.strings.proofs.LoopLaws.{bytes, errors};
+ghost use Rattle.decoder_rules.specs.declared.DecodeError.{DecodeError};
+ghost use Rattle.decoder_rules.specs.Pieces.{gives, errorAt, notes};
+ghost use Rattle.decoder_rules.specs.Bodies.{pieceOf};
+ghost use Rattle.decoder_rules.specs.Decoding.{missing};
+ghost use Rattle.decoder_rules.proofs.Fine.{FineAt};
+ghost use Rattle.decoder_rules.proofs.StoreLaws.{Stored};
+ghost use Rattle.decoder_rules.proofs.LoopLaws.{bytes, errors};
 ghost use Rattle.decoder.specs.Few.{FewAt};
-use pieces::escape_at;
-use pieces::piece_at;
-use pieces::plain_few;
-use strings::DecodeError;
-use strings::Encoding;
-use strings::Given;
-use strings::Piece;
-use strings::Verdict;
+use decoder_pieces::escape_at;
+use decoder_pieces::piece_at;
+use decoder_pieces::plain_few;
+use decoder_rules::DecodeError;
+use decoder_rules::Encoding;
+use decoder_rules::Given;
+use decoder_rules::Piece;
+use decoder_rules::Verdict;
 use text::encode;
 
 // How many bytes, and how many errors.

@@ -6,11 +6,11 @@ use mathlib.Core.Bool.{false}
 use mathlib.Core.List.{List}
 use native.Mathlib.Omega.{arith}
 use lib.ListN.{length, getD, take, drop}
-use Rattle.token.specs.declared.TokenKind.{TokenKind}
-use Rattle.token.specs.declared.TokenKind.the-variants.{Newline}
-use Rattle.token.specs.declared.Token.{Token}
-use Rattle.token.specs.KindNumbers.{kindNumber}
-use Rattle.scans.specs.Extents.{newlineTail}
+use Rattle.lexer_token.specs.declared.TokenKind.{TokenKind}
+use Rattle.lexer_token.specs.declared.TokenKind.the-variants.{Newline}
+use Rattle.lexer_token.specs.declared.Token.{Token}
+use Rattle.lexer_token.specs.KindNumbers.{kindNumber}
+use Rattle.lexer_scans.specs.Extents.{newlineTail}
 use Rattle.lexer.specs.Lines.{lineFeeds}
 use Rattle.lexer.specs.Table.{extent, tokenLen}
 use Rattle.lexer.specs.Tokens.{tokenBy, tokenAt, lineAfter}

@@ -8,13 +8,13 @@ use borrow.Author.Tests.{eqb-true}
 use lib.Dec.{eqb}
 use lib.ListN.{length, getD, drop}
 use lib.Seq.{drop-cons}
-use Rattle.classes.specs.Classes.{wschar}
-use Rattle.classes.proofs.Conds.{cond-case}
-use Rattle.token.specs.declared.TokenKind.{TokenKind}
-use Rattle.token.specs.declared.TokenKind.the-variants.{Dot, Equals, Comma, LeftSquareBracket, RightSquareBracket, LeftCurlyBracket, RightCurlyBracket, Whitespace, Comment, Newline, LiteralString, BasicString, MlLiteralString, MlBasicString, Atom}
-use Rattle.token.specs.Records.{tokenOf}
-use Rattle.scans.specs.Extents.{eol}
-use Rattle.scans.specs.Extents.{triple}
+use Rattle.text_classes.specs.Classes.{wschar}
+use Rattle.text_classes.proofs.Conds.{cond-case}
+use Rattle.lexer_token.specs.declared.TokenKind.{TokenKind}
+use Rattle.lexer_token.specs.declared.TokenKind.the-variants.{Dot, Equals, Comma, LeftSquareBracket, RightSquareBracket, LeftCurlyBracket, RightCurlyBracket, Whitespace, Comment, Newline, LiteralString, BasicString, MlLiteralString, MlBasicString, Atom}
+use Rattle.lexer_token.specs.Records.{tokenOf}
+use Rattle.lexer_scans.specs.Extents.{eol}
+use Rattle.lexer_scans.specs.Extents.{triple}
 use Rattle.lexer.specs.Table.{kindBy, kindOf, tokenLen}
 use Rattle.lexer.specs.Tokens.{tokenBy, tokenAt}
 

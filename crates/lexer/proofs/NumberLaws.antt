@@ -5,7 +5,7 @@ use mathlib.Core.Path.{_≡_, refl, ap, _∙_}
 use mathlib.Core.List.{List}
 use lib.ListN.{length}
 use lib.Dec.{ltb, eqb}
-use Rattle.classes.proofs.Conds.{cond-case, of-choice}
+use Rattle.text_classes.proofs.Conds.{cond-case, of-choice}
 use Rattle.text.specs.Refusals.{limit}
 use Rattle.text.specs.Utf8Read.{validPrefix}
 use Rattle.text.specs.CheckMeans.{checkOf}

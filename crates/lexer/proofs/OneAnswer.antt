@@ -4,7 +4,7 @@
 -- Assumes nothing.
 use mathlib.Core.Path.{sym, _∙_}
 use denote.Ref.{now}
-use Rattle.classes.proofs.OneAnswer.{OneAnswer, OneOutcome, _and_, both}
+use Rattle.text_classes.proofs.OneAnswer.{OneAnswer, OneOutcome, _and_, both}
 use Rattle.lexer.proofs as promised
 
 pub start : OneAnswer promised.Cursor.start.Reads.Learnt

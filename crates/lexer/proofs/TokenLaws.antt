@@ -9,19 +9,19 @@ use borrow.Author.Tests.{eqb-true}
 use lib.Dec.{eqb}
 use lib.ListN.{length, getD, take, drop, drop-of-length-le, length-drop}
 use lib.Seq.{drop-drop}
-use Rattle.classes.specs.Classes.{wschar}
-use Rattle.classes.specs.Runs.{stands}
-use Rattle.classes.proofs.Conds.{cond-case, both-right}
-use Rattle.classes.proofs.RunLaws.{run-le, there}
-use Rattle.classes.proofs.FirstLaws.{first-within}
-use Rattle.token.specs.declared.TokenKind.{TokenKind}
-use Rattle.token.specs.declared.Token.{Token}
-use Rattle.scans.specs.Extents.{hides, closes, inComment, inAtom}
-use Rattle.scans.specs.Extents.{lineTail, triple, upToTwo, mlTail, newlineTail}
+use Rattle.text_classes.specs.Classes.{wschar}
+use Rattle.text_classes.specs.Runs.{stands}
+use Rattle.text_classes.proofs.Conds.{cond-case, both-right}
+use Rattle.text_classes.proofs.RunLaws.{run-le, there}
+use Rattle.text_classes.proofs.FirstLaws.{first-within}
+use Rattle.lexer_token.specs.declared.TokenKind.{TokenKind}
+use Rattle.lexer_token.specs.declared.Token.{Token}
+use Rattle.lexer_scans.specs.Extents.{hides, closes, inComment, inAtom}
+use Rattle.lexer_scans.specs.Extents.{lineTail, triple, upToTwo, mlTail, newlineTail}
 use Rattle.lexer.specs.Lines.{lineFeeds, lineBehind}
 use Rattle.lexer.specs.Table.{kindOf, extent, tokenLen}
 use Rattle.lexer.specs.Tokens.{tokenAt, eofAt, lineAfter, walk, tokensFrom, hasBom, startOf, tokensOf}
-use Rattle.scans.proofs.MarkLaws.{triple-fits}
+use Rattle.lexer_scans.proofs.MarkLaws.{triple-fits}
 use Rattle.lexer.proofs.KindLaws.{by-kind}
 use Rattle.lexer.proofs.LineLaws.{feeds-none, behind-front, feeds-taken, mark-bytes}
 

@@ -9,8 +9,8 @@ use native.Mathlib.Decide.{decLt}
 use borrow.Author.Tests.{lt-ltb, le-ltb}
 use lib.ListN.{length, getD, take, drop, set, length-set, length-drop, length-append}
 use lib.Seq.{sets, sets-eq, drop-cons, drop-drop, append-snoc, set-append-seam}
-use Rattle.token.specs.declared.Token.{Token}
-use Rattle.token.specs.Records.{recordOf}
+use Rattle.lexer_token.specs.declared.Token.{Token}
+use Rattle.lexer_token.specs.Records.{recordOf}
 use Rattle.lexer.specs.Lines.{lineFeeds, lineBehind}
 use Rattle.lexer.specs.Table.{tokenLen}
 use Rattle.lexer.specs.Tokens.{tokenAt, eofAt, lineAfter, walk, tokensFrom, startOf, tokensOf}

@@ -12,13 +12,13 @@ use Rattle.text.specs.CheckMeans.{checkOf}
 use Rattle.text.specs.declared.refusal.Refusal.{Refusal}
 use Rattle.text.specs.declared.refusal.Refusal.the-variants.{FewTokens}
 use Rattle.text.specs.declared.utf8.Utf8Check.the-variants.{Valid, Refused as Broken}
-use Rattle.token.specs.declared.Token.{Token}
-use Rattle.token.specs.declared.TokenKind.{TokenKind}
-use Rattle.token.specs.declared.KindRead.{KindRead}
-use Rattle.token.specs.declared.KindRead.the-variants.{Kind}
-use Rattle.token.specs.KindNumbers.{kindNumber, kindOfNumber}
-use Rattle.token.specs.Records.{recordOf}
-use Rattle.token.proofs.KindLaws.{kind-back}
+use Rattle.lexer_token.specs.declared.Token.{Token}
+use Rattle.lexer_token.specs.declared.TokenKind.{TokenKind}
+use Rattle.lexer_token.specs.declared.KindRead.{KindRead}
+use Rattle.lexer_token.specs.declared.KindRead.the-variants.{Kind}
+use Rattle.lexer_token.specs.KindNumbers.{kindNumber, kindOfNumber}
+use Rattle.lexer_token.specs.Records.{recordOf}
+use Rattle.lexer_token.proofs.KindLaws.{kind-back}
 use Rattle.lexer.specs.Tokens.{tokenAt, eofAt, lineAfter, startOf}
 use Rattle.lexer.specs.Whole.{recordsOf, tokenCount, lexAnswer, lexMemory}
 use Rattle.lexer.specs.Loops.{tokensUntil, linePast, lineUntil, store, recordsOver}

@@ -8,10 +8,10 @@ use mathlib.Core.List.{List, [], _∷_, _++_, map}
 use lib.ListN.{length, take, drop}
 use lib.Seq.{sets}
 use lib.Dec.{ltb}
-use Rattle.token.specs.declared.Token.{Token}
-use Rattle.token.specs.declared.TokenKind.{TokenKind}
-use Rattle.token.specs.KindNumbers.{kindNumber}
-use Rattle.token.specs.Records.{recordOf}
+use Rattle.lexer_token.specs.declared.Token.{Token}
+use Rattle.lexer_token.specs.declared.TokenKind.{TokenKind}
+use Rattle.lexer_token.specs.KindNumbers.{kindNumber}
+use Rattle.lexer_token.specs.Records.{recordOf}
 use Rattle.lexer.specs.Lines.{lineFeeds}
 use Rattle.lexer.specs.Tokens.{tokenAt, lineAfter, tokensFrom}
 use Rattle.lexer.specs.Whole.{recordsOf, tokenCount}

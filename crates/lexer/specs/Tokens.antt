@@ -2,9 +2,9 @@
 use Prim.Native.Nat.{ℕ, zero, suc, pred, _+_}
 use mathlib.Core.{Bool.Bool, Bool.cond, Bool._&&_, List.List, List.[], List._∷_}
 use lib.{ListN.take, ListN.drop}
-use Rattle.classes.specs.{Runs.stands}
-use Rattle.token.specs.declared.{TokenKind.TokenKind, TokenKind.the-variants.Eof, Token.Token}
-use Rattle.token.specs.{Records.tokenOf}
+use Rattle.text_classes.specs.{Runs.stands}
+use Rattle.lexer_token.specs.declared.{TokenKind.TokenKind, TokenKind.the-variants.Eof, Token.Token}
+use Rattle.lexer_token.specs.{Records.tokenOf}
 use Rattle.lexer.specs.{Lines.lineFeeds, Lines.lineBehind, Table.kindOf, Table.extent, Table.tokenLen}
 
 -- a token of a kind, on the bytes s that stand from `at` on, the first of them on a line
@@ -42,6 +42,6 @@ hasBom s = stands 0xEF s && (stands 0xBB (drop 1 s) && stands 0xBF (drop 2 s))
 unfoldable pub startOf : List ℕ → ℕ
 startOf s = cond (hasBom s) 3 0
 
--- the tokens of a document, from line 1 on: each bears the line of its first byte, as `token-line` proves in crate `lexing`
+-- the tokens of a document, from line 1 on: each bears the line of its first byte, as `token-line` proves in crate `theorems_tokens`
 unfoldable pub tokensOf : List ℕ → List Token
 tokensOf s = tokensFrom (startOf s) 1 (drop (startOf s) s)

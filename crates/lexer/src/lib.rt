@@ -6,7 +6,7 @@ ghost use mathlib.Core.Path.{_≡_};
 ghost use Prim.Native.Nat.{_+_, _≤_, _<_};
 ghost use lib.ListN.{length, drop, getD};
 ghost use Rattle.text.specs.Told.{checkFault};
-ghost use Rattle.token.specs.Records.{tokenOf};
+ghost use Rattle.lexer_token.specs.Records.{tokenOf};
 ghost use Rattle.lexer.specs.Lines.{lineOf};
 ghost use Rattle.lexer.specs.Tokens.{hasBom, startOf, tokenBy, tokenAt, lineAfter};
 ghost use Rattle.lexer.specs.Steps.{cursorOf, startAnswer};
@@ -14,13 +14,13 @@ ghost use Rattle.lexer.specs.Told.{startNumber, startValue, startRefusal
 ghost use Rattle.lexer.specs.Steps.{stepOf};
 ghost use Rattle.lexer.specs.Whole.{tokenCount, lexAnswer, lexMemory};
 ghost use Rattle.lexer.specs.Loops.{Stands, GoesOn, Numbered, entryOf, entryFrom, entryAt, tokensUntil, lineUntil, store, recordsOver};
+use lexer_token::Record;
+use lexer_token::Span;
+use lexer_token::Token;
+use lexer_token::TokenKind;
 use text::LIMIT;
 use text::Refusal;
 use text::Utf8Check;
-use token::Record;
-use token::Span;
-use token::Token;
-use token::TokenKind;
 
 // Where the next token begins, on which line, and whether Eof was given.
 pub struct Cursor {
@@ -198,7 +198,7 @@ fn entry_at(doc: &[u8], at: usize, line: usize) -> Entry
         b' ' | b'\t' => entry_from(
             TokenKind::WHITESPACE,
             at,
-            scans::wschar_run(doc, at + 1),
+            lexer_scans::wschar_run(doc, at + 1),
             line,
             line,
         ),
@@ -206,7 +206,7 @@ fn entry_at(doc: &[u8], at: usize, line: usize) -> Entry
         _ => entry_from(
             TokenKind::ATOM,
             at,
-            scans::atom_rest(doc, at + 1),
+            lexer_scans::atom_rest(doc, at + 1),
             line,
             line,
         ),
@@ -317,7 +317,8 @@ pub fn line_of(doc: &[u8], offset: usize) -> usize
 fn has_bom(doc: &[u8]) -> bool
     ensures { λ r. ⌜ r ≡ hasBom (now (doc .entry)) ⌝ }
 {
-    scans::is_at(doc, 0, 0xEF) && (scans::is_at(doc, 1, 0xBB) && scans::is_at(doc, 2, 0xBF))
+    lexer_scans::is_at(doc, 0, 0xEF)
+        && (lexer_scans::is_at(doc, 1, 0xBB) && lexer_scans::is_at(doc, 2, 0xBF))
 }
 
 fn token_of(kind: TokenKind, start: usize, end: usize, line: usize) -> Token
@@ -347,14 +348,14 @@ fn process_token(doc: &[u8], at: usize, line: usize) -> Entry
         b'\r' => lex_crlf(doc, at, line),
         b'\n' => entry_of(lex_ascii_char(doc, at, line, TokenKind::Newline), line + 1),
         b'\'' => {
-            if scans::is_ml_literal(doc, at) {
+            if lexer_scans::is_ml_literal(doc, at) {
                 over_lines(doc, lex_ml_literal_string(doc, at, line))
             } else {
                 same_line(lex_literal_string(doc, at, line))
             }
         }
         b'"' => {
-            if scans::is_ml_basic(doc, at) {
+            if lexer_scans::is_ml_basic(doc, at) {
                 over_lines(doc, lex_ml_basic_string(doc, at, line))
             } else {
                 same_line(lex_basic_string(doc, at, line))
@@ -410,7 +411,7 @@ fn lex_whitespace(doc: &[u8], at: usize, line: usize) -> Token
     token_of(
         TokenKind::Whitespace,
         at,
-        scans::wschar_run(doc, at + 1),
+        lexer_scans::wschar_run(doc, at + 1),
         line,
     )
 }
@@ -423,7 +424,7 @@ fn lex_comment(doc: &[u8], at: usize, line: usize) -> Token
     token_of(
         TokenKind::Comment,
         at,
-        scans::comment_run(doc, at + 1),
+        lexer_scans::comment_run(doc, at + 1),
         line,
     )
 }
@@ -433,7 +434,7 @@ fn lex_crlf(doc: &[u8], at: usize, line: usize) -> Entry
     requires { ⌜ (at < length (now doc)) × (line ≤ at + 1) × (getD (now doc) at 0 ≡ 13) ⌝ }
     ensures { λ r. ⌜ r ≡ entryAt at line (drop at (now (doc .entry))) ⌝ }
 {
-    if scans::is_at(doc, at + 1, b'\n') {
+    if lexer_scans::is_at(doc, at + 1, b'\n') {
         return entry_of(token_of(TokenKind::Newline, at, at + 2, line), line + 1);
     }
     entry_of(token_of(TokenKind::Newline, at, at + 1, line), line)
@@ -447,7 +448,7 @@ fn lex_literal_string(doc: &[u8], at: usize, line: usize) -> Token
     token_of(
         TokenKind::LiteralString,
         at,
-        scans::literal_tail(doc, at + Span::MARK),
+        lexer_scans::literal_tail(doc, at + Span::MARK),
         line,
     )
 }
@@ -460,7 +461,7 @@ fn lex_ml_literal_string(doc: &[u8], at: usize, line: usize) -> Token
     token_of(
         TokenKind::MlLiteralString,
         at,
-        scans::ml_literal_tail(doc, at + Span::ML_MARK),
+        lexer_scans::ml_literal_tail(doc, at + Span::ML_MARK),
         line,
     )
 }
@@ -473,7 +474,7 @@ fn lex_basic_string(doc: &[u8], at: usize, line: usize) -> Token
     token_of(
         TokenKind::BasicString,
         at,
-        scans::basic_tail(doc, at + Span::MARK),
+        lexer_scans::basic_tail(doc, at + Span::MARK),
         line,
     )
 }
@@ -486,7 +487,7 @@ fn lex_ml_basic_string(doc: &[u8], at: usize, line: usize) -> Token
     token_of(
         TokenKind::MlBasicString,
         at,
-        scans::ml_basic_tail(doc, at + Span::ML_MARK),
+        lexer_scans::ml_basic_tail(doc, at + Span::ML_MARK),
         line,
     )
 }
@@ -496,5 +497,10 @@ fn lex_atom(doc: &[u8], at: usize, line: usize) -> Token
     requires { ⌜ at < length (now doc) ⌝ }
     ensures { λ r. ⌜ r ≡ tokenBy TokenKind.Atom at line (drop at (now (doc .entry))) ⌝ }
 {
-    token_of(TokenKind::Atom, at, scans::atom_run(doc, at + 1), line)
+    token_of(
+        TokenKind::Atom,
+        at,
+        lexer_scans::atom_run(doc, at + 1),
+        line,
+    )
 }

@@ -5,7 +5,7 @@ ghost use lib.ListN.{length, take, drop};
 ghost use Rattle.lexer.specs.Lines.{lineFeeds};
 ghost use Rattle.lexer.specs.Tokens.{lineAfter};
 ghost use Rattle.lexer.specs.Loops.{Stands};
-use token::Token;
+use lexer_token::Token;
 
 // The line behind a token: its own, and the LFs in it.
 pub(crate) fn line_after(doc: &[u8], token: Token) -> usize

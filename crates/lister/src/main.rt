@@ -1,4 +1,4 @@
 // The lister: the tokens of standard input, a line for each.
 fn main() {
-    listing::list_input();
+    lister_listing::list_input();
 }

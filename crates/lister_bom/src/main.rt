@@ -1,4 +1,4 @@
 // The lister on a byte order mark alone.
 fn main() {
-    listing::list_input();
+    lister_listing::list_input();
 }

@@ -2,5 +2,5 @@
 // bracket. The last number is 1 there, as Rust documents Utf8Error's error_len: the length of the
 // invalid sequence, behind which reading would go on.
 fn main() {
-    listing::list_input();
+    lister_listing::list_input();
 }

@@ -1,4 +1,4 @@
 // The lister on an empty document.
 fn main() {
-    listing::list_input();
+    lister_listing::list_input();
 }

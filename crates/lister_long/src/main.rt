@@ -1,4 +1,4 @@
 // The lister on one byte more than it takes.
 fn main() {
-    listing::list_input();
+    lister_listing::list_input();
 }

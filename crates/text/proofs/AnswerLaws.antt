@@ -18,7 +18,7 @@ use Rattle.text.specs.CheckMeans.{Longest, CheckMeans}
 use Rattle.text.specs.declared.refusal.Refusal.the-variants.{NotUtf8, TooLong, FewTokens, ShortOutput, FewErrors, OutOfPlace, NoKind, NoEdition}
 use Rattle.text.specs.declared.utf8.Utf8Check.{Utf8Check}
 use Rattle.text.specs.declared.utf8.Utf8Check.the-variants.{Valid, Refused}
-use Rattle.classes.proofs.Conds.{by-lt, cond-case, of-choice}
+use Rattle.text_classes.proofs.Conds.{by-lt, cond-case, of-choice}
 use Rattle.text.proofs.ReadLaws.{utf8-iff, valid-is, valid-le, valid-longest}
 use Rattle.text.proofs.FaultLaws.{fault-is, fault-one}
 

@@ -10,7 +10,7 @@ use lib.Dec.{leb}
 use borrow.Author.Tests.{leb-true, le-leb}
 use Rattle.text.specs.declared.utf8.Lead.{Lead}
 use Rattle.text.specs.Lead.{Among, Begun, goesOn, begunBy}
-use Rattle.classes.proofs.Conds.{cond-case, not-both, both-left, both-right}
+use Rattle.text_classes.proofs.Conds.{cond-case, not-both, both-left, both-right}
 
 -- ---- one byte more
 

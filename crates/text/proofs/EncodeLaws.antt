@@ -12,7 +12,7 @@ use lib.Dec.{ltb, leb}
 use borrow.Author.Tests.{ltb-true, leb-true, lt-ltb, le-ltb, le-leb}
 use Rattle.text.specs.Utf8.{Scalar, All, encodeScalar}
 use Rattle.text.specs.Utf8Read.{isScalar, guess}
-use Rattle.classes.proofs.Conds.{by-lt, not-both}
+use Rattle.text_classes.proofs.Conds.{by-lt, not-both}
 
 -- the ranges of a scalar value: a range for each length, the third cut in two by the surrogates
 pub data Size (c : ℕ) : Type 0 where

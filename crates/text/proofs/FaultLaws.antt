@@ -18,7 +18,7 @@ use Rattle.text.specs.Utf8.{encodeScalar}
 use Rattle.text.specs.Utf8Read.{guess}
 use Rattle.text.specs.CheckMeans.{Begins, LongestBegun, faulty, Fault}
 use Rattle.text.specs.Lead.{leadOf, Among, Begun, BegunAt, begunLen, faultLen}
-use Rattle.classes.proofs.Conds.{by-eq}
+use Rattle.text_classes.proofs.Conds.{by-eq}
 use Rattle.text.proofs.EncodeLaws.{encode-length, size}
 use Rattle.text.proofs.ReadLaws.{Char, char-sound}
 use Rattle.text.proofs.LeadLaws.{Seen, SeenIn, lead-fits, encode-seen, seen-char}

@@ -15,8 +15,8 @@ use Rattle.text.specs.declared.utf8.Lead.{Lead}
 use Rattle.text.specs.Utf8.{Scalar, encodeScalar}
 use Rattle.text.specs.Utf8Read.{guess, charLen}
 use Rattle.text.specs.Lead.{row, leadOf, Among, BegunAt}
-use Rattle.classes.proofs.Conds.{by-lt}
-use Rattle.classes.proofs.ByteTable.{allFrom, at-each, and-left, and-right}
+use Rattle.text_classes.proofs.Conds.{by-lt}
+use Rattle.text_classes.proofs.ByteTable.{allFrom, at-each, and-left, and-right}
 use Rattle.text.proofs.EncodeLaws.{Size, one, two, low, high, four, size, encode-1, encode-2, encode-3, encode-4}
 use Rattle.text.proofs.ReadLaws.{char-length, char-sound}
 

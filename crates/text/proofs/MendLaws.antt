@@ -18,7 +18,7 @@ use Rattle.text.specs.CheckMeans.{Longest}
 use Rattle.text.specs.LengthTells.{Mendable, LengthTells, LengthElse}
 use Rattle.text.specs.declared.refusal.Refusal.the-variants.{NotUtf8, TooLong, FewTokens, ShortOutput, FewErrors, OutOfPlace, NoKind, NoEdition}
 use Rattle.text.specs.declared.utf8.Utf8Check.the-variants.{Refused}
-use Rattle.classes.proofs.Conds.{by-eq}
+use Rattle.text_classes.proofs.Conds.{by-eq}
 use Rattle.text.proofs.EncodeLaws.{encode-length}
 use Rattle.text.proofs.ReadLaws.{utf8-iff, valid-append, valid-longest}
 use Rattle.text.proofs.CutLaws.{scalar-utf8, utf8-append}

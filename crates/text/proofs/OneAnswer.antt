@@ -3,7 +3,7 @@
 -- Where a promise says an answer's number and value too, its first clause, an equation, already admits one answer.
 -- Assumes nothing.
 use mathlib.Core.Path.{sym, _∙_}
-use Rattle.classes.proofs.OneAnswer.{OneAnswer}
+use Rattle.text_classes.proofs.OneAnswer.{OneAnswer}
 use Rattle.text.proofs as promised
 
 pub number : OneAnswer promised.refusal.Refusal.number.Reads.Learnt

@@ -9,7 +9,7 @@ use lib.Dec.{ltb, eqb}
 use borrow.Author.Tests.{lt-ltb, le-ltb, eq-eqb, ne-eqb}
 use Rattle.text.specs.declared.utf8.Lead.{Lead}
 use Rattle.text.specs.Lead.{row, leadOf, onesOf}
-use Rattle.classes.proofs.Conds.{by-lt, by-eq}
+use Rattle.text_classes.proofs.Conds.{by-lt, by-eq}
 use Rattle.text.proofs.LeadLaws.{leads-agree}
 
 -- what a byte says that has n of them, two to four: n is its length, but for what the table leaves out

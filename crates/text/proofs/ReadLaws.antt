@@ -12,9 +12,9 @@ use lib.Dec.{eqb}
 use borrow.Author.Tests.{eqb-true, eq-eqb, ltb-true}
 use Rattle.text.specs.Utf8.{Scalar, encodeScalar, encodes, All, Utf8}
 use Rattle.text.specs.Utf8Read.{isScalar, ascii, guess, starts, charLen, character, scalarsFrom, scalars, validPrefix, Passed}
-use Rattle.classes.specs.Runs.{run}
-use Rattle.classes.proofs.Conds.{not-both}
-use Rattle.classes.proofs.RunLaws.{run-le, run-step}
+use Rattle.text_classes.specs.Runs.{run}
+use Rattle.text_classes.proofs.Conds.{not-both}
+use Rattle.text_classes.proofs.RunLaws.{run-le, run-step}
 use Rattle.text.proofs.EncodeLaws.{encode-1, encode-length, guess-encode, scalar-true, true-scalar}
 
 -- ---- one character

@@ -10,8 +10,8 @@ use lib.Bits.{bitAnd, bitOr, and-block, or-shifted-r}
 use lib.Dec.{eqb, ltb}
 use lib.ListN.{length, getD}
 use lib.Pow.{pow-pos}
-use Rattle.classes.proofs.ByteTable.{classes-agree}
-use Rattle.classes.proofs.RunLaws.{Block, block-start, block-step, block-end}
+use Rattle.text_classes.proofs.ByteTable.{classes-agree}
+use Rattle.text_classes.proofs.RunLaws.{Block, block-start, block-step, block-end}
 use Rattle.text.specs.Utf8Read.{ascii}
 
 -- ---- two parts, the lower of k bits

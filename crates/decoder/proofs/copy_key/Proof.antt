@@ -5,7 +5,7 @@ use mathlib.Core.Path.{refl}
 use native.Mathlib.Omega.{arith}
 use borrow.Author.Needs.{needs}
 use borrow.Author.Tests.{not-false}
-use Rattle.strings.proofs.KeyLaws.{untouched}
+use Rattle.decoder_rules.proofs.KeyLaws.{untouched}
 use Rattle.decoder.proofs.WriteLaws.{key-copied}
 use Rattle.decoder.proofs.copy_key.Statement.{statement}
 use Rattle.decoder.proofs.copy_key.Tie as tie

@@ -4,8 +4,8 @@ use borrow.Author.Needs.{needs}
 use mathlib.Core.Path.{refl}
 use mathlib.Core.Logic.{inl}
 use lib.ListN.{length}
-use Rattle.strings.proofs.NumberLaws.{decoded}
-use Rattle.strings.proofs.PlainLaws.{copied-some, copied-none, plain-decodes, middle-long, plain-answer, plain-output, plain-records}
+use Rattle.decoder_rules.proofs.NumberLaws.{decoded}
+use Rattle.decoder_rules.proofs.PlainLaws.{copied-some, copied-none, plain-decodes, middle-long, plain-answer, plain-output, plain-records}
 use Rattle.decoder.proofs.decode.Statement.{statement}
 use Rattle.decoder.proofs.decode.Tie as tie
 

@@ -7,10 +7,10 @@ use native.Mathlib.Omega.{arith}
 use borrow.Author.Needs.{needs}
 use borrow.Author.Tests.{not-false}
 use lib.ListN.{length}
-use Rattle.strings.specs.Decoding.{bytesOf, errorsOf}
-use Rattle.strings.proofs.StoreLaws.{front-long, overwritten}
-use Rattle.strings.proofs.DecodeLaws.{fitted-short, fitted-few, fitted-written}
-use Rattle.strings.proofs.Bounds.{bytes-most, errors-few}
+use Rattle.decoder_rules.specs.Decoding.{bytesOf, errorsOf}
+use Rattle.decoder_rules.proofs.StoreLaws.{front-long, overwritten}
+use Rattle.decoder_rules.proofs.DecodeLaws.{fitted-short, fitted-few, fitted-written}
+use Rattle.decoder_rules.proofs.Bounds.{bytes-most, errors-few}
 use Rattle.decoder.proofs.decode_as.Statement.{statement}
 use Rattle.decoder.proofs.decode_as.Tie as tie
 

@@ -6,9 +6,9 @@ use mathlib.Core.Logic.{⊎-elim}
 use borrow.Author.Needs.{needs}
 use lib.ListN.{length}
 use Rattle.text.proofs.AnswerLaws.{checked}
-use Rattle.strings.proofs.DecodeLaws.{decode-invalid, decode-valid}
-use Rattle.strings.proofs.PlainLaws.{plain-answer, plain-output, plain-records}
-use Rattle.strings.proofs.KeyLaws.{key-some, key-none, key-decodes}
+use Rattle.decoder_rules.proofs.DecodeLaws.{decode-invalid, decode-valid}
+use Rattle.decoder_rules.proofs.PlainLaws.{plain-answer, plain-output, plain-records}
+use Rattle.decoder_rules.proofs.KeyLaws.{key-some, key-none, key-decodes}
 use Rattle.decoder.proofs.decode_checked.Statement.{statement}
 use Rattle.decoder.proofs.decode_checked.Tie as tie
 

@@ -2,8 +2,8 @@
 -- Assumes nothing.
 use borrow.Author.Needs.{needs}
 use lib.ListN.{length}
-use Rattle.strings.proofs.NumberLaws.{decoded}
-use Rattle.strings.proofs.PlainLaws.{copied-some, copied-none, plain-decodes, middle-long, plain-answer, plain-output, plain-records}
+use Rattle.decoder_rules.proofs.NumberLaws.{decoded}
+use Rattle.decoder_rules.proofs.PlainLaws.{copied-some, copied-none, plain-decodes, middle-long, plain-answer, plain-output, plain-records}
 use borrow.Author.Tests.{not-false}
 use Rattle.decoder.proofs.decode_in.Statement.{statement}
 use Rattle.decoder.proofs.decode_in.Tie as tie

@@ -7,15 +7,15 @@ use native.Mathlib.Omega.{arith}
 use borrow.Author.Needs.{needs}
 use lib.ListN.{length, take, length-append, length-take, length-drop}
 use lib.Seq.{length-take-le}
-use Rattle.classes.specs.Runs.{run}
-use Rattle.strings.specs.Encodings.{plain}
-use Rattle.strings.specs.Bodies.{pieceOf}
-use Rattle.strings.specs.Marks.{bodyOf}
-use Rattle.strings.specs.Decoding.{bytesOf, errorsOf, missing}
-use Rattle.strings.proofs.StoreLaws.{store-append}
-use Rattle.strings.proofs.MarkLaws.{ends-fit}
-use Rattle.strings.proofs.DecodeLaws.{errors-is, errors-sum}
-use Rattle.strings.proofs.LoopLaws.{bytes, errors}
+use Rattle.text_classes.specs.Runs.{run}
+use Rattle.decoder_rules.specs.Encodings.{plain}
+use Rattle.decoder_rules.specs.Bodies.{pieceOf}
+use Rattle.decoder_rules.specs.Marks.{bodyOf}
+use Rattle.decoder_rules.specs.Decoding.{bytesOf, errorsOf, missing}
+use Rattle.decoder_rules.proofs.StoreLaws.{store-append}
+use Rattle.decoder_rules.proofs.MarkLaws.{ends-fit}
+use Rattle.decoder_rules.proofs.DecodeLaws.{errors-is, errors-sum}
+use Rattle.decoder_rules.proofs.LoopLaws.{bytes, errors}
 use Rattle.decoder.proofs.WriteLaws.{plain-fits, behind, bytes-behind, errors-behind}
 use Rattle.decoder.proofs.fill.Statement.{statement}
 use Rattle.decoder.proofs.fill.Tie as tie

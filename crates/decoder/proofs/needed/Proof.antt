@@ -6,11 +6,11 @@ use native.Mathlib.Omega.{arith}
 use borrow.Author.Needs.{needs}
 use lib.ListN.{length, length-take, length-drop}
 use Rattle.text.specs.Refusals.{limit}
-use Rattle.strings.specs.declared.DecodeError.the-variants.{EmptyKey}
-use Rattle.strings.specs.Encodings.{markError}
-use Rattle.strings.proofs.MarkLaws.{ends-fit}
-use Rattle.strings.proofs.DecodeLaws.{bytes-is, errors-sum}
-use Rattle.strings.proofs.Bounds.{missing-few}
+use Rattle.decoder_rules.specs.declared.DecodeError.the-variants.{EmptyKey}
+use Rattle.decoder_rules.specs.Encodings.{markError}
+use Rattle.decoder_rules.proofs.MarkLaws.{ends-fit}
+use Rattle.decoder_rules.proofs.DecodeLaws.{bytes-is, errors-sum}
+use Rattle.decoder_rules.proofs.Bounds.{missing-few}
 use Rattle.decoder.proofs.needed.Statement.{statement}
 use Rattle.decoder.proofs.needed.Tie as tie
 

@@ -7,7 +7,7 @@ use mathlib.Core.Logic.{⊎-elim}
 use mathlib.Core.List.{map}
 use lib.ListN.{length}
 use lib.Seq.{length-sets}
-use Rattle.token.specs.Records.{recordOf}
+use Rattle.lexer_token.specs.Records.{recordOf}
 use Rattle.lexer.specs.Whole.{tokenCount}
 use Rattle.lexer.specs.Tokens.{startOf}
 use Rattle.lexer.specs.Loops.{tokensUntil}

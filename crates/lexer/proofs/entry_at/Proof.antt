@@ -10,16 +10,16 @@ use types.Run.{OneOf}
 use lib.ListN.{drop}
 use lib.Seq.{drop-drop}
 use borrow.Author.Tests.{ne-eqb}
-use Rattle.classes.specs.Classes.{wschar}
-use Rattle.classes.proofs.ByteTable.{keys-are}
-use Rattle.token.specs.declared.TokenKind.{TokenKind}
-use Rattle.token.specs.declared.TokenKind.the-variants.{Dot, Equals, Comma, LeftSquareBracket, RightSquareBracket, LeftCurlyBracket, RightCurlyBracket, Whitespace, Newline, Atom}
-use Rattle.token.specs.KindNumbers.{kindNumber}
-use Rattle.scans.specs.Extents.{newlineTail}
+use Rattle.text_classes.specs.Classes.{wschar}
+use Rattle.text_classes.proofs.ByteTable.{keys-are}
+use Rattle.lexer_token.specs.declared.TokenKind.{TokenKind}
+use Rattle.lexer_token.specs.declared.TokenKind.the-variants.{Dot, Equals, Comma, LeftSquareBracket, RightSquareBracket, LeftCurlyBracket, RightCurlyBracket, Whitespace, Newline, Atom}
+use Rattle.lexer_token.specs.KindNumbers.{kindNumber}
+use Rattle.lexer_scans.specs.Extents.{newlineTail}
 use Rattle.lexer.specs.Table.{kindBy, extent}
 use Rattle.lexer.specs.Tokens.{tokenBy}
 use Rattle.lexer.specs.Loops.{entryFrom}
-use Rattle.scans.proofs.MarkLaws.{newlineTail-at}
+use Rattle.lexer_scans.proofs.MarkLaws.{newlineTail-at}
 use Rattle.lexer.proofs.KindLaws.{KindThere, ws-there}
 use Rattle.lexer.proofs.LineLaws.{holdsLf}
 use Rattle.lexer.proofs.EntryLaws.{entry-numbers, entry-lf}

@@ -5,7 +5,7 @@ use Prim.Native.Nat.{ℕ, _+_}
 use mathlib.Core.Path.{_≡_}
 use mathlib.Core.List.{List, [], _∷_}
 use lib.ListN.{drop, getD}
-use Rattle.token.specs.Records.{recordOf}
+use Rattle.lexer_token.specs.Records.{recordOf}
 use Rattle.lexer.specs.Tokens.{tokenAt, lineAfter}
 use Rattle.lexer.specs.declared.Entry.{Entry}
 use Rattle.lexer.proofs.UntilLaws.{until-few}

@@ -3,7 +3,7 @@
 use Prim.Native.Nat.{ℕ, _+_}
 use mathlib.Core.Path.{_≡_, refl, ap, _∙_}
 use mathlib.Core.List.{List}
-use Rattle.token.specs.Records.{recordOf}
+use Rattle.lexer_token.specs.Records.{recordOf}
 use Rattle.lexer.specs.Whole.{tokenCount}
 use Rattle.lexer.proofs.TokenLaws.{start-fits}
 use Rattle.lexer.proofs.WholeLaws.{AllPassed, counted, filled, filled-length}

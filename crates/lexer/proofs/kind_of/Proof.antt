@@ -3,10 +3,10 @@
 -- Assumes nothing.
 use Prim.Native.Nat.{ℕ}
 use mathlib.Core.Path.{_≡_, refl, ap, _∙_}
-use Rattle.token.specs.declared.TokenKind.{TokenKind}
-use Rattle.token.specs.declared.TokenKind.the-variants.{Dot, Equals, Comma, LeftSquareBracket, RightSquareBracket, LeftCurlyBracket, RightCurlyBracket, Whitespace, Comment, Newline, LiteralString, BasicString, MlLiteralString, MlBasicString, Atom, Eof}
-use Rattle.token.specs.declared.KindRead.the-variants.{Kind}
-use Rattle.token.specs.KindNumbers.{kindOfNumber}
+use Rattle.lexer_token.specs.declared.TokenKind.{TokenKind}
+use Rattle.lexer_token.specs.declared.TokenKind.the-variants.{Dot, Equals, Comma, LeftSquareBracket, RightSquareBracket, LeftCurlyBracket, RightCurlyBracket, Whitespace, Comment, Newline, LiteralString, BasicString, MlLiteralString, MlBasicString, Atom, Eof}
+use Rattle.lexer_token.specs.declared.KindRead.the-variants.{Kind}
+use Rattle.lexer_token.specs.KindNumbers.{kindOfNumber}
 use Rattle.lexer.specs.Loops.{Numbered}
 use Rattle.lexer.proofs.WholeLaws.{read-back}
 use Rattle.lexer.proofs.kind_of.Statement.{statement}

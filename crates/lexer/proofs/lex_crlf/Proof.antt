@@ -5,14 +5,14 @@ use mathlib.Core.Path.{_≡_, refl, sym, _∙_}
 use lib.Dec.{eqb}
 use lib.ListN.{getD, drop}
 use borrow.Author.Tests.{eqb-true}
-use Rattle.classes.specs.Classes.{wschar}
-use Rattle.classes.specs.Runs.{stands}
-use Rattle.token.specs.declared.TokenKind.the-variants.{Newline}
-use Rattle.scans.specs.Extents.{newlineTail}
+use Rattle.text_classes.specs.Classes.{wschar}
+use Rattle.text_classes.specs.Runs.{stands}
+use Rattle.lexer_token.specs.declared.TokenKind.the-variants.{Newline}
+use Rattle.lexer_scans.specs.Extents.{newlineTail}
 use Rattle.lexer.specs.Table.{kindBy, extent}
 use Rattle.lexer.specs.Tokens.{tokenBy}
 use Rattle.lexer.proofs.KindLaws.{KindThere}
-use Rattle.scans.proofs.MarkLaws.{stands-at, newlineTail-at}
+use Rattle.lexer_scans.proofs.MarkLaws.{stands-at, newlineTail-at}
 use Rattle.lexer.proofs.EntryLaws.{entry-lf, entry-cr}
 use borrow.Author.Needs.{needs}
 use native.Mathlib.Omega.{arith}

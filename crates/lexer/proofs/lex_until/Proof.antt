@@ -4,8 +4,8 @@
 use Prim.Native.Nat.{_-_, _<_}
 use mathlib.Core.Path.{_≡_, refl, ap}
 use lib.ListN.{length, getD, drop}
-use Rattle.token.specs.declared.Token.{Token}
-use Rattle.token.specs.Records.{recordOf}
+use Rattle.lexer_token.specs.declared.Token.{Token}
+use Rattle.lexer_token.specs.Records.{recordOf}
 use Rattle.lexer.specs.Tokens.{tokenAt, lineAfter}
 use Rattle.lexer.specs.declared.Entry.{Entry}
 use Rattle.lexer.proofs.TokenLaws.{endAt, token-fits-at, token-long-at}

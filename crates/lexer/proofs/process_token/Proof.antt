@@ -5,15 +5,15 @@ use mathlib.Core.Path.{_≡_, refl, sym, ap, _∙_}
 use mathlib.Core.Bool.{false}
 use lib.ListN.{drop}
 use borrow.Author.Tests.{ne-eqb}
-use Rattle.classes.specs.Classes.{wschar}
-use Rattle.token.specs.declared.Token.{Token}
-use Rattle.token.specs.declared.TokenKind.{TokenKind}
-use Rattle.token.specs.declared.TokenKind.the-variants.{Dot, Equals, Comma, LeftSquareBracket, RightSquareBracket, LeftCurlyBracket, RightCurlyBracket, Whitespace, Comment, Newline, LiteralString, BasicString, MlLiteralString, MlBasicString, Atom}
-use Rattle.scans.specs.Extents.{newlineTail}
+use Rattle.text_classes.specs.Classes.{wschar}
+use Rattle.lexer_token.specs.declared.Token.{Token}
+use Rattle.lexer_token.specs.declared.TokenKind.{TokenKind}
+use Rattle.lexer_token.specs.declared.TokenKind.the-variants.{Dot, Equals, Comma, LeftSquareBracket, RightSquareBracket, LeftCurlyBracket, RightCurlyBracket, Whitespace, Comment, Newline, LiteralString, BasicString, MlLiteralString, MlBasicString, Atom}
+use Rattle.lexer_scans.specs.Extents.{newlineTail}
 use Rattle.lexer.specs.Table.{kindBy, extent}
 use Rattle.lexer.specs.Tokens.{tokenBy}
 use Rattle.lexer.specs.Loops.{entryOf, entryAt}
-use Rattle.scans.proofs.MarkLaws.{triple-fits-at, newlineTail-at}
+use Rattle.lexer_scans.proofs.MarkLaws.{triple-fits-at, newlineTail-at}
 use Rattle.lexer.proofs.KindLaws.{KindThere, end-is}
 use Rattle.lexer.proofs.LineLaws.{holdsLf}
 use Rattle.lexer.proofs.EntryLaws.{entry-plain, entry-stands, entry-over, entry-lf}

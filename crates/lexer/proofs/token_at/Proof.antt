@@ -2,9 +2,9 @@
 -- Assumes nothing.
 use mathlib.Core.Path.{_≡_, refl, ap, _∙_}
 use lib.ListN.{drop}
-use Rattle.token.specs.declared.Token.{Token}
-use Rattle.token.specs.KindNumbers.{kindNumber}
-use Rattle.token.specs.Records.{tokenOf, recordOf}
+use Rattle.lexer_token.specs.declared.Token.{Token}
+use Rattle.lexer_token.specs.KindNumbers.{kindNumber}
+use Rattle.lexer_token.specs.Records.{tokenOf, recordOf}
 use Rattle.lexer.specs.declared.Entry.{Entry}
 use Rattle.lexer.specs.Tokens.{tokenAt}
 use Rattle.lexer.specs.Loops.{Numbered}

@@ -5,10 +5,10 @@ use mathlib.Core.Path.{_≡_}
 use native.Mathlib.Omega.{arith}
 use borrow.Author.Needs.{needs}
 use lib.ListN.{length}
-use Rattle.strings.proofs.Fine.{FineAt, rest, Turn, turn-fine, turn-fits}
-use Rattle.strings.specs.Bodies.{pieceOf}
-use Rattle.strings.proofs.BodyLaws.{piece-fine}
-use Rattle.strings.proofs.LoopLaws.{Counting, count-start, count-turn, count-end}
+use Rattle.decoder_rules.proofs.Fine.{FineAt, rest, Turn, turn-fine, turn-fits}
+use Rattle.decoder_rules.specs.Bodies.{pieceOf}
+use Rattle.decoder_rules.proofs.BodyLaws.{piece-fine}
+use Rattle.decoder_rules.proofs.LoopLaws.{Counting, count-start, count-turn, count-end}
 use Rattle.decoder.proofs.WriteLaws.{turn-at}
 use Rattle.decoder.proofs.write.count.Statement.{statement}
 use Rattle.decoder.proofs.write.count.Tie as tie

@@ -5,8 +5,8 @@ use native.Mathlib.Omega.{arith}
 use borrow.Author.Needs.{needs}
 use lib.ListN.{length}
 use lib.Seq.{length-take-le}
-use Rattle.strings.proofs.PieceLaws.{gives-copy, gives-char, gives-nothing}
-use Rattle.strings.proofs.StoreLaws.{store-none}
+use Rattle.decoder_rules.proofs.PieceLaws.{gives-copy, gives-char, gives-nothing}
+use Rattle.decoder_rules.proofs.StoreLaws.{store-none}
 use Rattle.decoder.proofs.write.emit.Statement.{statement}
 use Rattle.decoder.proofs.write.emit.Tie as tie
 

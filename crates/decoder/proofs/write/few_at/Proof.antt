@@ -3,7 +3,7 @@
 use mathlib.Core.Path.{refl}
 use native.Mathlib.Omega.{arith}
 use borrow.Author.Needs.{needs}
-use Rattle.pieces.proofs.EscapeAtLaws.{few-piece}
+use Rattle.decoder_pieces.proofs.EscapeAtLaws.{few-piece}
 use Rattle.decoder.proofs.write.few_at.Statement.{statement}
 use Rattle.decoder.proofs.write.few_at.Tie as tie
 

@@ -2,7 +2,7 @@
 -- Assumes nothing.
 use native.Mathlib.Omega.{arith}
 use borrow.Author.Needs.{needs}
-use Rattle.strings.proofs.StoreLaws.{store-none}
+use Rattle.decoder_rules.proofs.StoreLaws.{store-none}
 use Rattle.decoder.proofs.write.miss.Statement.{statement}
 use Rattle.decoder.proofs.write.miss.Tie as tie
 

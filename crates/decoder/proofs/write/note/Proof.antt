@@ -4,8 +4,8 @@ use mathlib.Core.Path.{ap}
 use native.Mathlib.Omega.{arith}
 use borrow.Author.Needs.{needs}
 use lib.ListN.{length}
-use Rattle.strings.proofs.PieceLaws.{notes-none, notes-one}
-use Rattle.strings.proofs.StoreLaws.{store-none}
+use Rattle.decoder_rules.proofs.PieceLaws.{notes-none, notes-one}
+use Rattle.decoder_rules.proofs.StoreLaws.{store-none}
 use Rattle.decoder.proofs.write.note.Statement.{statement}
 use Rattle.decoder.proofs.write.note.Tie as tie
 

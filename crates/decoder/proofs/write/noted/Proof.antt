@@ -1,7 +1,7 @@
 -- `noted` is right because a piece has at most one error.
 -- Assumes nothing.
 use borrow.Author.Needs.{needs}
-use Rattle.strings.proofs.PieceLaws.{notes-none, notes-one}
+use Rattle.decoder_rules.proofs.PieceLaws.{notes-none, notes-one}
 use Rattle.decoder.proofs.write.noted.Statement.{statement}
 use Rattle.decoder.proofs.write.noted.Tie as tie
 

@@ -3,7 +3,7 @@
 use mathlib.Core.Path.{sym}
 use borrow.Author.Needs.{needs}
 use lib.Seq.{length-take-le}
-use Rattle.strings.proofs.PieceLaws.{gives-copy, gives-char, gives-nothing}
+use Rattle.decoder_rules.proofs.PieceLaws.{gives-copy, gives-char, gives-nothing}
 use Rattle.decoder.proofs.WriteLaws.{encoded-len}
 use Rattle.decoder.proofs.write.width.Statement.{statement}
 use Rattle.decoder.proofs.write.width.Tie as tie

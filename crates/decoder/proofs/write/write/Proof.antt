@@ -7,13 +7,13 @@ use native.Mathlib.Omega.{arith}
 use borrow.Author.Needs.{needs}
 use lib.ListN.{length}
 use lib.Seq.{length-take-le}
-use Rattle.classes.proofs.RunLaws.{run-le}
-use Rattle.strings.specs.Encodings.{plain}
-use Rattle.strings.specs.Pieces.{gives, notes, copyPiece, charPiece}
-use Rattle.strings.specs.Bodies.{pieceOf}
-use Rattle.strings.proofs.Fine.{FineAt, rest, Turn, turn-fine, turn-fits}
-use Rattle.strings.proofs.BodyLaws.{piece-fine}
-use Rattle.strings.proofs.LoopLaws.{Writing, write-start, write-room, write-turn, write-end}
+use Rattle.text_classes.proofs.RunLaws.{run-le}
+use Rattle.decoder_rules.specs.Encodings.{plain}
+use Rattle.decoder_rules.specs.Pieces.{gives, notes, copyPiece, charPiece}
+use Rattle.decoder_rules.specs.Bodies.{pieceOf}
+use Rattle.decoder_rules.proofs.Fine.{FineAt, rest, Turn, turn-fine, turn-fits}
+use Rattle.decoder_rules.proofs.BodyLaws.{piece-fine}
+use Rattle.decoder_rules.proofs.LoopLaws.{Writing, write-start, write-room, write-turn, write-end}
 use Rattle.decoder.proofs.WriteLaws.{turn-at, escape-turn, quiet-turn, given-copy, given-char}
 use Rattle.decoder.proofs.write.write.Statement.{statement}
 use Rattle.decoder.proofs.write.write.Tie as tie

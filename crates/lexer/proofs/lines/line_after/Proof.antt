@@ -4,7 +4,7 @@ use Prim.Native.Nat.{ℕ, _+_, _-_, _≤_}
 use mathlib.Core.Path.{_≡_, ap, _∙_}
 use mathlib.Core.List.{List}
 use lib.ListN.{length, take, drop}
-use Rattle.token.specs.declared.Token.{Token}
+use Rattle.lexer_token.specs.declared.Token.{Token}
 use Rattle.lexer.specs.Lines.{lineFeeds}
 use Rattle.lexer.specs.Table.{tokenLen}
 use Rattle.lexer.proofs.TokenLaws.{token-fits-at}

@@ -1,0 +1,81 @@
+-- `put_records` is safe and ends: it passes a record each turn, and the buffer keeps its length.
+-- Assumes nothing.
+use Prim.Native.Nat.{_-_, _≤_}
+use mathlib.Core.Path.{_≡_}
+use lib.ListN.{length}
+use borrow.Author.Needs.{needs}
+use Rattle.answers_spelling.proofs.put_records.Statement.{statement}
+use Rattle.answers_spelling.proofs.put_records.Tie as tie
+
+abbrev Inv-loop : tie.InvT-loop
+Inv-loop out₀ used records count n₀ i₀ out n i = (i ≤ length records) × (length out ≡ length out₀)
+
+abbrev μ-loop : tie.MeasureT-loop
+μ-loop out₀ used records count n₀ i₀ out n i = length records - i
+
+put-byte-requires : tie.Need-put-byte-requires Inv-loop μ-loop
+put-byte-requires c κs = search needs
+
+same-length : tie.Need-same-length Inv-loop μ-loop
+same-length c = search needs
+
+returns : tie.Need-returns Inv-loop μ-loop
+returns c = search needs
+
+loop-holds : tie.Need-loop-holds Inv-loop μ-loop
+loop-holds c = search needs
+
+put-joint-requires : tie.Need-put-joint-requires Inv-loop μ-loop
+put-joint-requires c κs = search needs
+
+mul-put-record : tie.Need-mul-put-record Inv-loop μ-loop
+mul-put-record c = search needs
+
+shared-slice-copy-out-put-record : tie.Need-shared-slice-copy-out-put-record Inv-loop μ-loop
+shared-slice-copy-out-put-record c = search needs
+
+put-record-requires : tie.Need-put-record-requires Inv-loop μ-loop
+put-record-requires c κs = search needs
+
+add-i : tie.Need-add-i Inv-loop μ-loop
+add-i c = search needs
+
+loop-less : tie.Need-loop-less Inv-loop μ-loop
+loop-less c = search needs
+
+loop-again : tie.Need-loop-again Inv-loop μ-loop
+loop-again c = search needs
+
+same-length-2 : tie.Need-same-length-2 Inv-loop μ-loop
+same-length-2 c = search needs
+
+returns-2 : tie.Need-returns-2 Inv-loop μ-loop
+returns-2 c = search needs
+
+same-length-3 : tie.Need-same-length-3 Inv-loop μ-loop
+same-length-3 c = search needs
+
+returns-3 : tie.Need-returns-3 Inv-loop μ-loop
+returns-3 c = search needs
+
+pub put-records-spec : {M : Type 1} → statement M
+put-records-spec =
+    tie.close
+    (tie.spec
+    Inv-loop
+    μ-loop
+    put-byte-requires
+    same-length
+    returns
+    loop-holds
+    put-joint-requires
+    mul-put-record
+    shared-slice-copy-out-put-record
+    put-record-requires
+    add-i
+    loop-less
+    loop-again
+    same-length-2
+    returns-2
+    same-length-3
+    returns-3)

@@ -1,0 +1,193 @@
+// What is known of a text before its body is read: the encoding that it is decoded by (choice.rt), its marks, and where
+// its body starts and ends. Rule: Marks.antt of crate `decoder_rules`.
+ghost use mathlib.Core.Path.{_≡_};
+ghost use mathlib.Core.Bool.{true};
+ghost use Prim.Native.Nat.{_+_, _≤_};
+ghost use lib.ListN.{length};
+ghost use Rattle.decoder_rules.specs.Encodings.{markError};
+ghost use Rattle.decoder_rules.specs.Marks.{lineOpened, lineStart, lineClosed, lineEnd, lineEnds, threes, mlStart, mlClosed, trimmed, mlEnd, mlEnds, keyEnds, endsOf};
+
+mod choice;
+
+pub use crate::choice::choice_by;
+use decoder_pieces::strip_start_newline;
+use decoder_rules::DecodeError;
+use decoder_rules::Encoding;
+use decoder_rules::Ends;
+use lexer_token::Span;
+
+// The error that a mark is missing, or that a key is empty.
+pub fn mark_error(e: Encoding) -> DecodeError
+    ensures { λ r. ⌜ r ≡ markError e ⌝ }
+{
+    match e {
+        Encoding::LiteralString => DecodeError::LiteralMissingQuote,
+        Encoding::MlLiteralString => DecodeError::MlLiteralMissingQuote,
+        Encoding::BasicString(_) => DecodeError::BasicMissingQuote,
+        Encoding::MlBasicString(_) => DecodeError::MlBasicMissingQuote,
+        Encoding::UnquotedKey => DecodeError::EmptyKey,
+    }
+}
+
+// A mark q at the front?
+fn has_one(q: u8, t: &[u8]) -> bool
+    ensures { λ r. ⌜ r ≡ lineOpened q (now (t .entry)) ⌝ }
+{
+    if t.len() == 0 {
+        return false;
+    }
+    t[0] == q
+}
+
+fn line_start(opened: bool) -> usize
+    ensures { λ r. ⌜ r ≡ lineStart opened ⌝ }
+{
+    if opened { Span::MARK } else { 0 }
+}
+
+// A mark q at the end, behind the body's start?
+fn line_closed(q: u8, start: usize, t: &[u8]) -> bool
+    ensures { λ r. ⌜ r ≡ lineClosed start q (now (t .entry)) ⌝ }
+{
+    let n = t.len();
+    if n <= start {
+        return false;
+    }
+    t[n - 1] == q
+}
+
+fn line_end(closed: bool, t: &[u8]) -> usize
+    requires { ⌜ (closed ≡ true → 1 ≤ length (now t)) ⌝ }
+    ensures { λ r. ⌜ r ≡ lineEnd closed (now (t .entry)) ⌝ }
+{
+    if closed {
+        return t.len() - Span::MARK;
+    }
+    t.len()
+}
+
+// One mark q at each end.
+fn line_ends(q: u8, t: &[u8]) -> Ends
+    ensures { λ r. ⌜ r ≡ lineEnds q (now (t .entry)) ⌝ }
+{
+    let opened = has_one(q, t);
+    let start = line_start(opened);
+    let closed = line_closed(q, start, t);
+    let end = line_end(closed, t);
+    Ends {
+        opened: opened,
+        closed: closed,
+        start: start,
+        end: end,
+    }
+}
+
+// Three marks q at the front?
+fn has_threes(q: u8, s: &[u8]) -> bool
+    ensures { λ r. ⌜ r ≡ threes q (now (s .entry)) ⌝ }
+{
+    if s.len() < Span::ML_MARK {
+        return false;
+    }
+    if s[0] != q {
+        return false;
+    }
+    if s[1] != q {
+        return false;
+    }
+    s[2] == q
+}
+
+// Where the body starts, behind the opening if it is there, and a newline.
+fn ml_start(opened: bool, t: &[u8]) -> usize
+    requires { ⌜ (opened ≡ true → 3 ≤ length (now t)) ⌝ }
+    ensures { λ r. ⌜ r ≡ mlStart opened (now (t .entry)) ⌝ }
+{
+    if opened {
+        Span::ML_MARK + strip_start_newline(&t[Span::ML_MARK..])
+    } else {
+        strip_start_newline(t)
+    }
+}
+
+// Three marks at the end, behind the body's start?
+fn ml_closed(q: u8, start: usize, t: &[u8]) -> bool
+    ensures { λ r. ⌜ r ≡ mlClosed q start (now (t .entry)) ⌝ }
+{
+    let n = t.len();
+    if n < Span::ML_MARK {
+        return false;
+    }
+    let z = n - Span::ML_MARK;
+    if z < start {
+        return false;
+    }
+    has_threes(q, &t[z..])
+}
+
+// The length without the marks at the end.
+fn trimmed_len(q: u8, s: &[u8]) -> usize
+    ensures { λ r. ⌜ r ≡ trimmed q (now (s .entry)) ⌝ }
+{
+    let mut e = s.len();
+    while 0 < e {
+        if s[e - 1] == q {
+            e -= 1;
+        } else {
+            return e;
+        }
+    }
+    0
+}
+
+fn ml_end(trims: bool, q: u8, start: usize, t: &[u8], closed: bool) -> usize
+    requires { ⌜ (start ≤ length (now t)) × (closed ≡ true → start + 3 ≤ length (now t)) ⌝ }
+    ensures { λ r. ⌜ r ≡ mlEnd trims q start (now (t .entry)) closed ⌝ }
+{
+    if closed {
+        return t.len() - Span::ML_MARK;
+    }
+    if trims {
+        return start + trimmed_len(q, &t[start..]);
+    }
+    t.len()
+}
+
+// Three marks q at each end; where the closing is missing, are those that are there dropped?
+fn ml_ends(trims: bool, q: u8, t: &[u8]) -> Ends
+    ensures { λ r. ⌜ r ≡ mlEnds trims q (now (t .entry)) ⌝ }
+{
+    let opened = has_threes(q, t);
+    let start = ml_start(opened, t);
+    let closed = ml_closed(q, start, t);
+    let end = ml_end(trims, q, start, t, closed);
+    Ends {
+        opened: opened,
+        closed: closed,
+        start: start,
+        end: end,
+    }
+}
+
+fn key_ends(t: &[u8]) -> Ends
+    ensures { λ r. ⌜ r ≡ keyEnds (now (t .entry)) ⌝ }
+{
+    Ends {
+        opened: 0 < t.len(),
+        closed: true,
+        start: 0,
+        end: t.len(),
+    }
+}
+
+pub fn ends_of(e: Encoding, t: &[u8]) -> Ends
+    ensures { λ r. ⌜ r ≡ endsOf e (now (t .entry)) ⌝ }
+{
+    match e {
+        Encoding::LiteralString => line_ends(b'\'', t),
+        Encoding::MlLiteralString => ml_ends(true, b'\'', t),
+        Encoding::BasicString(_) => line_ends(b'"', t),
+        Encoding::MlBasicString(_) => ml_ends(false, b'"', t),
+        Encoding::UnquotedKey => key_ends(t),
+    }
+}

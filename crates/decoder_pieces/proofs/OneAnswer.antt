@@ -1,0 +1,21 @@
+-- Each promise of this crate admits one answer only. A theorem bears its function's name, and is about the function's
+-- own contract: what a caller learns of its `ensures`.
+-- Assumes nothing.
+use mathlib.Core.Path.{sym, _∙_}
+use Rattle.text_classes.proofs.OneAnswer.{OneAnswer}
+use Rattle.decoder_pieces.proofs as promised
+
+pub piece-at : OneAnswer promised.piece_at.Reads.Learnt
+piece-at κs a x y s t p q = p ∙ sym q
+
+pub strip-start-newline : OneAnswer promised.string.strip_start_newline.Reads.Learnt
+strip-start-newline κs a x y s t p q = p ∙ sym q
+
+pub plain-run : OneAnswer promised.plain_run.Reads.Learnt
+plain-run κs a x y s t p q = p ∙ sym q
+
+pub plain-few : OneAnswer promised.scan.plain_few.Reads.Learnt
+plain-few κs a x y s t p q = p ∙ sym q
+
+pub escape-at : OneAnswer promised.string.escape_at.Reads.Learnt
+escape-at κs a x y s t p q = p ∙ sym q

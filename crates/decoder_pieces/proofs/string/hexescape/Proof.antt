@@ -1,0 +1,81 @@
+-- `hexescape` is right because the digits that are read are those in front, and their number is at hand.
+-- Assumes nothing.
+use mathlib.Core.Path.{sym, _∙_}
+use borrow.Author.Needs.{needs}
+use Rattle.decoder_rules.proofs.EscapeLaws.{hex-few, hex-char, hex-none}
+use Rattle.decoder_pieces.proofs.string.hexescape.Statement.{statement}
+use Rattle.decoder_pieces.proofs.string.hexescape.Tie as tie
+
+hex-digits-requires : tie.Need-hex-digits-requires
+hex-digits-requires c κs = search needs
+
+add-bad-char : tie.Need-add-bad-char
+add-bad-char c = search needs
+
+add-bad-char-2 : tie.Need-add-bad-char-2
+add-bad-char-2 c = search needs
+
+add-bad-char-3 : tie.Need-add-bad-char-3
+add-bad-char-3 c = search needs
+
+bad-char-requires : tie.Need-bad-char-requires
+bad-char-requires c κs = search needs
+
+returns : tie.Need-returns
+returns c =
+    let a = c .before .before .before .before .args in
+    let few = c .before .if1 .taken in
+    c .bad-char .ensures ∙ hex-few (a .digits) (a .at) (a .s .now) _ (c .before .before .hex-digits .ensures .few few) few
+
+is-scalar-requires : tie.Need-is-scalar-requires
+is-scalar-requires c κs = search needs
+
+add-char-piece : tie.Need-add-char-piece
+add-char-piece c = search needs
+
+char-piece-requires : tie.Need-char-piece-requires
+char-piece-requires c κs = search needs
+
+returns-2 : tie.Need-returns-2
+returns-2 c =
+    let a = c .before .before .before .before .before .before .args in
+    let read = c .before .before .before .before .hex-digits .ensures in
+    let all = c .before .before .before .if1 .left in
+    let scalar = sym (c .before .before .is-scalar .ensures) ∙ c .before .if2 .taken in
+    c .char-piece .ensures ∙ hex-char (a .digits) (a .at) (a .s .now) _ (read .enough all) (read .number all) scalar
+
+add-bad-char-4 : tie.Need-add-bad-char-4
+add-bad-char-4 c = search needs
+
+add-bad-char-5 : tie.Need-add-bad-char-5
+add-bad-char-5 c = search needs
+
+bad-char-requires-2 : tie.Need-bad-char-requires-2
+bad-char-requires-2 c κs = search needs
+
+returns-3 : tie.Need-returns-3
+returns-3 c =
+    let a = c .before .before .before .before .before .before .args in
+    let read = c .before .before .before .before .hex-digits .ensures in
+    let all = c .before .before .before .if1 .left in
+    let scalar = sym (c .before .before .is-scalar .ensures) ∙ c .before .if2 .left in
+    c .bad-char2 .ensures ∙ hex-none (a .digits) (a .at) (a .s .now) _ (read .enough all) (read .number all) scalar
+
+pub hexescape-spec : {M : Type 1} → statement M
+hexescape-spec =
+    tie.close
+    (tie.spec
+    hex-digits-requires
+    add-bad-char
+    add-bad-char-2
+    add-bad-char-3
+    bad-char-requires
+    returns
+    is-scalar-requires
+    add-char-piece
+    char-piece-requires
+    returns-2
+    add-bad-char-4
+    add-bad-char-5
+    bad-char-requires-2
+    returns-3)

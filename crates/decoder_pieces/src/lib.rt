@@ -1,0 +1,65 @@
+// The piece at a place of a body, by the five decoders of string.rt. Rules: Bodies.antt and
+// Escapes.antt of crate `decoder_rules`.
+ghost use mathlib.Core.Path.{_≡_};
+ghost use Rattle.text_classes.specs.Runs.{run};
+ghost use Rattle.decoder_rules.specs.Encodings.{plain};
+ghost use Rattle.decoder_pieces.specs.Places.{pieceAt};
+
+mod piece;
+mod scan;
+mod string;
+
+use crate::piece::copy_piece;
+pub use crate::scan::plain_few;
+pub use crate::string::Escape;
+use crate::string::basic_unescaped;
+use crate::string::decode_basic_string;
+use crate::string::decode_literal_string;
+use crate::string::decode_ml_basic_string;
+use crate::string::decode_ml_literal_string;
+use crate::string::decode_unquoted_key;
+pub use crate::string::escape_at;
+use crate::string::literal_chars;
+use crate::string::mlb_unescaped;
+use crate::string::mll_chars;
+pub use crate::string::strip_start_newline;
+use crate::string::unquoted_chars;
+use decoder_rules::Encoding;
+use decoder_rules::Piece;
+use text::LIMIT;
+
+// The piece at the front of s, which is a body from the place `at` of its text on; `dropping` says
+// whether it is within a line-ending escape. Of no bytes, and beyond the limit, a piece of nothing.
+pub fn piece_at(e: Encoding, dropping: bool, s: &[u8], at: usize) -> Piece
+    ensures { λ r. ⌜ r ≡ pieceAt e dropping at (now (s .entry)) ⌝ }
+{
+    if s.len() == 0 {
+        return copy_piece(0);
+    }
+    if LIMIT < s.len() {
+        return copy_piece(0);
+    }
+    if LIMIT < at {
+        return copy_piece(0);
+    }
+    match e {
+        Encoding::LiteralString => decode_literal_string(s, at),
+        Encoding::MlLiteralString => decode_ml_literal_string(s, at),
+        Encoding::BasicString(v) => decode_basic_string(v, s, at),
+        Encoding::MlBasicString(v) => decode_ml_basic_string(v, dropping, s, at),
+        Encoding::UnquotedKey => decode_unquoted_key(s, at),
+    }
+}
+
+// How many bytes in front stand for themselves.
+pub fn plain_run(e: Encoding, s: &[u8]) -> usize
+    ensures { λ r. ⌜ r ≡ run (plain e) (now (s .entry)) ⌝ }
+{
+    match e {
+        Encoding::LiteralString => literal_chars(s),
+        Encoding::MlLiteralString => mll_chars(s),
+        Encoding::BasicString(v) => basic_unescaped(v, s),
+        Encoding::MlBasicString(v) => mlb_unescaped(v, s),
+        Encoding::UnquotedKey => unquoted_chars(s),
+    }
+}

@@ -1,0 +1,45 @@
+-- Each promise of this crate admits one answer only, and one content of each lent memory. A theorem bears its function's
+-- name, and is about the function's own contract: what a caller learns of its `ensures`.
+-- Assumes nothing.
+use mathlib.Core.Path.{sym, _∙_}
+use denote.Ref.{now}
+use Rattle.text_classes.proofs.OneAnswer.{OneAnswer, OneOutcome, _and_, both}
+use Rattle.galoxumi.proofs as promised
+
+pub galoxumi-check-utf8 : OneAnswer promised.galoxumi_check_utf8.Reads.Learnt
+galoxumi-check-utf8 κs a x y s t p q = p ∙ sym q
+
+pub galoxumi-start : OneAnswer promised.galoxumi_start.Reads.Learnt
+galoxumi-start κs a x y s t p q = p ∙ sym q
+
+pub galoxumi-step : OneAnswer promised.galoxumi_step.Reads.Learnt
+galoxumi-step κs a x y s t p q = p ∙ sym q
+
+-- the answer, and what the records hold
+pub galoxumi-lex : OneOutcome promised.galoxumi_lex.Reads.Learnt (λ κs r s. r and now (s .1 .0))
+galoxumi-lex κs a x y s t p q = both (p .0 ∙ sym (q .0)) (p .1 ∙ sym (q .1))
+
+pub galoxumi-check-span : OneAnswer promised.galoxumi_check_span.Reads.Learnt
+galoxumi-check-span κs a x y s t p q = p ∙ sym q
+
+-- the first clause already admits one answer
+pub galoxumi-text : OneAnswer promised.galoxumi_text.Reads.Learnt
+galoxumi-text κs a x y s t p q = p .0 ∙ sym (q .0)
+
+pub galoxumi-position : OneAnswer promised.galoxumi_position.Reads.Learnt
+galoxumi-position κs a x y s t p q = p ∙ sym q
+
+-- the answer, and what the output and the error records hold
+pub galoxumi-decode : OneOutcome promised.galoxumi_decode.Reads.Learnt (λ κs r s. r and now (s .1 .1 .0) and now (s .1 .1 .1 .0))
+galoxumi-decode κs a x y s t p q = both (p .0 ∙ sym (q .0)) (both (p .1 .0 ∙ sym (q .1 .0)) (p .1 .1 ∙ sym (q .1 .1)))
+
+-- the same
+pub galoxumi-decode-in :
+    OneOutcome promised.galoxumi_decode_in.Reads.Learnt (λ κs r s. r and now (s .1 .1 .1 .0) and now (s .1 .1 .1 .1 .0))
+galoxumi-decode-in κs a x y s t p q = both (p .0 ∙ sym (q .0)) (both (p .1 .0 ∙ sym (q .1 .0)) (p .1 .1 ∙ sym (q .1 .1)))
+
+pub galoxumi-description : OneAnswer promised.galoxumi_description.Reads.Learnt
+galoxumi-description κs a x y s t p q = p ∙ sym q
+
+pub galoxumi-encoding : OneAnswer promised.galoxumi_encoding.Reads.Learnt
+galoxumi-encoding κs a x y s t p q = p ∙ sym q

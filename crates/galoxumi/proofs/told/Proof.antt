@@ -1,0 +1,36 @@
+-- `told` is right because each case is spelled as the definition has it.
+-- Assumes nothing.
+use mathlib.Core.Path.{sym, ap, _∙_}
+use Rattle.galoxumi.specs.Numbers.{toldBy}
+use borrow.Author.Needs.{needs}
+use Rattle.galoxumi.proofs.told.Statement.{statement}
+use Rattle.galoxumi.proofs.told.Tie as tie
+
+enum-told : tie.Need-enum-told
+enum-told c = search needs
+
+answer-of-requires : tie.Need-answer-of-requires
+answer-of-requires c κs = search needs
+
+enum-known-a : tie.Need-enum-known-a
+enum-known-a c = search needs
+
+refused-requires : tie.Need-refused-requires
+refused-requires c κs = search needs
+
+returns : tie.Need-returns
+returns c = c .answer-of .ensures ∙ ap toldBy (sym (c .before .enum-told .given .1))
+
+returns-2 : tie.Need-returns-2
+returns-2 c = c .refused .ensures ∙ ap toldBy (sym (c .before .before .a .given .1))
+
+pub told-spec : {M : Type 1} → statement M
+told-spec =
+    tie.close
+    (tie.spec
+    enum-told
+    answer-of-requires
+    enum-known-a
+    refused-requires
+    returns
+    returns-2)

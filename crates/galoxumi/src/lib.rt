@@ -1,0 +1,362 @@
+// What C and Rust link: every call as an exported function, its answer in numbers. Each makes the
+// call and spells its answer; include/galoxumi.h says the same in words. Rule: specs/Numbers.antt.
+ghost use mathlib.Core.Path.{_≡_};
+ghost use lib.ListN.{length};
+ghost use Rattle.text.specs.CheckMeans.{checkOf};
+ghost use Rattle.lexer_token.specs.Descriptions.{descriptionOf};
+ghost use Rattle.lexer_token.specs.Encodings.{encodingOf};
+ghost use Rattle.lexer_token.specs.Records.{spanOf};
+ghost use Rattle.lexer.specs.Steps.{startAnswer, stepOf, cursorOf};
+ghost use Rattle.lexer.specs.Told.{bitOf};
+ghost use Rattle.lexer.specs.Whole.{lexAnswer, lexMemory};
+ghost use Rattle.lexer_place.specs.Spans.{spanAnswer, spanText};
+ghost use Rattle.lexer_place.specs.Positions.{positionAnswer};
+ghost use Rattle.galoxumi.specs.Numbers.{flag, given, refusedBy, toldBy, cursorNumbers, noToken, partFrom};
+ghost use Rattle.galoxumi.specs.Numbers.{checkNumbers, startNumbers, stepNumbers, lexNumbers, spanNumbers, partOf, partText};
+ghost use Rattle.galoxumi.specs.Numbers.{positionNumbers, decodeNumbers, decodeAnswer, outputAfter, errorsAfter, describedNumbers, encodedNumbers};
+use decoder_rules::Decoded;
+use lexer::Cursor;
+use lexer::Lexed;
+use lexer::Start;
+use lexer::Step;
+use lexer_place::Position;
+use lexer_place::SpanCheck;
+use lexer_token::Answer;
+use lexer_token::Span;
+use lexer_token::TokenKind;
+use text::Refusal;
+use text::Utf8Check;
+
+// 0 where the call answered and else its refusal's number, the number returned with it, and the length
+// of the faulty sequence, which only refusal 1 has.
+#[repr(C)]
+pub struct Answered {
+    pub refusal: usize,
+    pub value: usize,
+    pub length: usize,
+}
+
+// A cursor; `ended` is 0 or 1.
+#[repr(C)]
+pub struct CursorNumbers {
+    pub place: usize,
+    pub ended: usize,
+    pub line: usize,
+}
+
+#[repr(C)]
+pub struct Started {
+    pub answer: Answered,
+    pub cursor: CursorNumbers,
+}
+
+#[repr(C)]
+pub struct TokenNumbers {
+    pub kind: usize,
+    pub start: usize,
+    pub end: usize,
+    pub line: usize,
+}
+
+// `given` is 1 with a token, and all behind it 0 without one.
+#[repr(C)]
+pub struct Stepped {
+    pub answer: Answered,
+    pub given: usize,
+    pub token: TokenNumbers,
+    pub cursor: CursorNumbers,
+}
+
+// A part of a document.
+#[repr(C)]
+pub struct Part {
+    pub start: usize,
+    pub length: usize,
+}
+
+#[repr(C)]
+pub struct Positioned {
+    pub answer: Answered,
+    pub line: usize,
+    pub column: usize,
+}
+
+// The answer's value is the count of bytes.
+#[repr(C)]
+pub struct DecodedText {
+    pub answer: Answered,
+    pub errors: usize,
+}
+
+#[repr(C)]
+pub struct Described {
+    pub answer: Answered,
+    pub length: usize,
+    pub bytes: [u8; 25],
+}
+
+#[repr(C)]
+pub struct EncodedKind {
+    pub answer: Answered,
+    pub encoding: usize,
+}
+
+#[no_mangle]
+pub extern "C" fn galoxumi_check_utf8(doc: &[u8]) -> Answered
+    ensures { λ r. ⌜ r ≡ checkNumbers (checkOf (now (doc .entry))) ⌝ }
+{
+    match text::check_utf8(doc) {
+        Utf8Check::Valid => answer_of(0),
+        Utf8Check::Refused(r) => refused(r),
+    }
+}
+
+#[no_mangle]
+pub extern "C" fn galoxumi_start(doc: &[u8]) -> Started
+    ensures { λ r. ⌜ r ≡ startNumbers (startAnswer (now (doc .entry))) ⌝ }
+{
+    match Cursor::start(doc) {
+        Start::At(cursor) => Started {
+            answer: answer_of(0),
+            cursor: cursor_numbers(cursor.place, cursor.line, cursor.ended),
+        },
+        Start::Refused(r) => Started {
+            answer: refused(r),
+            cursor: cursor_numbers(0, 0, false),
+        },
+    }
+}
+
+// The cursor may be made by hand; one is ended if `ended` is not 0.
+#[no_mangle]
+pub extern "C" fn galoxumi_step(doc: &[u8], place: usize, ended: usize, line: usize) -> Stepped
+    ensures { λ r. ⌜ r ≡ stepNumbers (stepOf (now (doc .entry)) (cursorOf place line (flag ended))) ⌝ }
+{
+    let cursor = Cursor {
+        place,
+        line,
+        ended: ended != 0,
+    };
+    match cursor.step(doc) {
+        Step::Token(token, next) => {
+            let kind = token.kind;
+            Stepped {
+                answer: answer_of(0),
+                given: 1,
+                token: TokenNumbers {
+                    kind: kind.number(),
+                    start: token.span.start,
+                    end: token.span.end,
+                    line: token.line,
+                },
+                cursor: cursor_numbers(next.place, next.line, next.ended),
+            }
+        }
+        Step::End => no_token(answer_of(0)),
+        Step::Refused(r) => no_token(refused(r)),
+    }
+}
+
+#[no_mangle]
+pub extern "C" fn galoxumi_lex(doc: &[u8], records: &mut [[usize; 4]]) -> Answered
+    ensures answer { λ r. ⌜ r ≡ lexNumbers (lexAnswer (now (doc .entry)) (length (now (records .entry)))) ⌝ }
+    ensures memory { λ _. ⌜ now (records .exit) ≡ lexMemory (now (doc .entry)) (now (records .entry)) ⌝ }
+{
+    match lexer::lex(doc, records) {
+        Lexed::Tokens(n) => answer_of(n),
+        Lexed::Refused(r) => refused(r),
+    }
+}
+
+#[no_mangle]
+pub extern "C" fn galoxumi_check_span(doc: &[u8], start: usize, end: usize) -> Answered
+    ensures { λ r. ⌜ r ≡ spanNumbers (spanAnswer (now (doc .entry)) (spanOf start end)) ⌝ }
+{
+    match lexer_place::check_span(doc, Span::new(start, end)) {
+        SpanCheck::Whole => answer_of(0),
+        SpanCheck::Refused(r) => refused(r),
+    }
+}
+
+// The text of a span is told by its start and length: no reference is handed out.
+#[no_mangle]
+pub extern "C" fn galoxumi_text(doc: &[u8], start: usize, end: usize) -> Part
+    ensures answer { λ r. ⌜ r ≡ partOf (spanAnswer (now (doc .entry)) (spanOf start end)) start end ⌝ }
+    ensures text { λ r. ⌜ partText (now (doc .entry)) r ≡ spanText (now (doc .entry)) (spanOf start end) ⌝ }
+{
+    match lexer_place::check_span(doc, Span::new(start, end)) {
+        SpanCheck::Whole => part_from(start, end),
+        SpanCheck::Refused(_) => Part {
+            start: 0,
+            length: 0,
+        },
+    }
+}
+
+#[no_mangle]
+pub extern "C" fn galoxumi_position(doc: &[u8], offset: usize) -> Positioned
+    ensures { λ r. ⌜ r ≡ positionNumbers (positionAnswer (now (doc .entry)) offset) ⌝ }
+{
+    match lexer_place::position_of(doc, offset) {
+        Position::At { line, column } => Positioned {
+            answer: answer_of(0),
+            line,
+            column,
+        },
+        Position::Refused(r) => Positioned {
+            answer: refused(r),
+            line: 0,
+            column: 0,
+        },
+    }
+}
+
+#[no_mangle]
+pub extern "C" fn galoxumi_decode(
+    text: &[u8],
+    kind: usize,
+    output: &mut [u8],
+    errors: &mut [[usize; 3]],
+) -> DecodedText
+    ensures answer { λ r. ⌜ r ≡ decodeAnswer (now (text .entry)) 10 kind (now (output .entry)) (now (errors .entry)) ⌝ }
+    ensures bytes { λ _. ⌜ now (output .exit)
+        ≡ outputAfter (now (text .entry)) 10 kind (now (output .entry)) (now (errors .entry)) ⌝ }
+    ensures records { λ _. ⌜ now (errors .exit)
+        ≡ errorsAfter (now (text .entry)) 10 kind (now (output .entry)) (now (errors .entry)) ⌝ }
+{
+    decode_numbers(decoder::decode(text, kind, output, errors))
+}
+
+// The same in the edition of TOML that a number names: 10 for TOML 1.0, 11 for TOML 1.1.
+#[no_mangle]
+pub extern "C" fn galoxumi_decode_in(
+    text: &[u8],
+    edition: usize,
+    kind: usize,
+    output: &mut [u8],
+    errors: &mut [[usize; 3]],
+) -> DecodedText
+    ensures answer { λ r. ⌜ r ≡ decodeAnswer (now (text .entry)) edition kind (now (output .entry)) (now (errors .entry)) ⌝ }
+    ensures bytes { λ _. ⌜ now (output .exit)
+        ≡ outputAfter (now (text .entry)) edition kind (now (output .entry)) (now (errors .entry)) ⌝ }
+    ensures records { λ _. ⌜ now (errors .exit)
+        ≡ errorsAfter (now (text .entry)) edition kind (now (output .entry)) (now (errors .entry)) ⌝ }
+{
+    decode_numbers(decoder::decode_in(text, edition, kind, output, errors))
+}
+
+#[no_mangle]
+pub extern "C" fn galoxumi_description(kind: usize) -> Described
+    ensures { λ r. ⌜ r ≡ describedNumbers (descriptionOf kind) ⌝ }
+{
+    let d = TokenKind::description(kind);
+    let answer = d.answer;
+    let bytes = d.bytes;
+    Described {
+        answer: told(answer),
+        length: d.len,
+        bytes,
+    }
+}
+
+#[no_mangle]
+pub extern "C" fn galoxumi_encoding(kind: usize) -> EncodedKind
+    ensures { λ r. ⌜ r ≡ encodedNumbers (encodingOf kind) ⌝ }
+{
+    let e = TokenKind::encoding(kind);
+    let answer = e.answer;
+    EncodedKind {
+        answer: told(answer),
+        encoding: e.number,
+    }
+}
+
+fn answer_of(value: usize) -> Answered
+    ensures { λ r. ⌜ r ≡ given value ⌝ }
+{
+    Answered {
+        refusal: 0,
+        value,
+        length: 0,
+    }
+}
+
+fn refused(r: Refusal) -> Answered
+    ensures { λ a. ⌜ a ≡ refusedBy r ⌝ }
+{
+    Answered {
+        refusal: r.number(),
+        value: r.value(),
+        length: r.length(),
+    }
+}
+
+fn decode_numbers(d: Decoded) -> DecodedText
+    ensures { λ r. ⌜ r ≡ decodeNumbers d ⌝ }
+{
+    match d {
+        Decoded::Written { bytes, errors } => DecodedText {
+            answer: answer_of(bytes),
+            errors,
+        },
+        Decoded::Refused(r) => DecodedText {
+            answer: refused(r),
+            errors: 0,
+        },
+    }
+}
+
+fn told(a: Answer) -> Answered
+    ensures { λ r. ⌜ r ≡ toldBy a ⌝ }
+{
+    match a {
+        Answer::Given => answer_of(0),
+        Answer::Refused(r) => refused(r),
+    }
+}
+
+fn cursor_numbers(place: usize, line: usize, ended: bool) -> CursorNumbers
+    ensures { λ r. ⌜ r ≡ cursorNumbers (cursorOf place line ended) ⌝ }
+{
+    CursorNumbers {
+        place,
+        ended: bit(ended),
+        line,
+    }
+}
+
+fn no_token(answer: Answered) -> Stepped
+    ensures { λ r. ⌜ r ≡ noToken answer ⌝ }
+{
+    Stepped {
+        answer,
+        given: 0,
+        token: TokenNumbers {
+            kind: 0,
+            start: 0,
+            end: 0,
+            line: 0,
+        },
+        cursor: cursor_numbers(0, 0, false),
+    }
+}
+
+// From a start to an end that is not before it; none where it is.
+fn part_from(start: usize, end: usize) -> Part
+    ensures { λ r. ⌜ r ≡ partFrom start end ⌝ }
+{
+    if end < start {
+        return Part { start, length: 0 };
+    }
+    Part {
+        start,
+        length: end - start,
+    }
+}
+
+// 1 for yes.
+fn bit(b: bool) -> usize
+    ensures { λ r. ⌜ r ≡ bitOf b ⌝ }
+{
+    if b { 1 } else { 0 }
+}

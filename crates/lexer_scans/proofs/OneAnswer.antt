@@ -1,0 +1,39 @@
+-- Each promise of this crate admits one answer only. A theorem bears its function's name, and is about the function's
+-- own contract: what a caller learns of its `ensures`.
+-- Assumes nothing.
+use mathlib.Core.Path.{sym, _∙_}
+use Rattle.text_classes.proofs.OneAnswer.{OneAnswer}
+use Rattle.lexer_scans.proofs as promised
+
+pub wschar-run : OneAnswer promised.wschar_run.Reads.Learnt
+wschar-run κs a x y s t p q = p ∙ sym q
+
+pub atom-run : OneAnswer promised.atom_run.Reads.Learnt
+atom-run κs a x y s t p q = p ∙ sym q
+
+pub atom-rest : OneAnswer promised.atom_rest.Reads.Learnt
+atom-rest κs a x y s t p q = p ∙ sym q
+
+pub comment-run : OneAnswer promised.comment_run.Reads.Learnt
+comment-run κs a x y s t p q = p ∙ sym q
+
+pub literal-tail : OneAnswer promised.literal_tail.Reads.Learnt
+literal-tail κs a x y s t p q = p ∙ sym q
+
+pub basic-tail : OneAnswer promised.basic_tail.Reads.Learnt
+basic-tail κs a x y s t p q = p ∙ sym q
+
+pub ml-literal-tail : OneAnswer promised.ml_literal_tail.Reads.Learnt
+ml-literal-tail κs a x y s t p q = p ∙ sym q
+
+pub ml-basic-tail : OneAnswer promised.ml_basic_tail.Reads.Learnt
+ml-basic-tail κs a x y s t p q = p ∙ sym q
+
+pub is-ml-literal : OneAnswer promised.is_ml_literal.Reads.Learnt
+is-ml-literal κs a x y s t p q = p ∙ sym q
+
+pub is-ml-basic : OneAnswer promised.is_ml_basic.Reads.Learnt
+is-ml-basic κs a x y s t p q = p ∙ sym q
+
+pub is-at : OneAnswer promised.is_at.Reads.Learnt
+is-at κs a x y s t p q = p ∙ sym q

@@ -1,0 +1,21 @@
+-- `place_of` is right by its tests.
+-- Assumes nothing.
+use borrow.Author.Tests.{ne-eqb}
+use native.Mathlib.Omega.{arith}
+use Rattle.lexer_scans.proofs.place_of.Statement.{statement}
+use Rattle.lexer_scans.proofs.place_of.Tie as tie
+
+returns : tie.Need-returns
+returns c = (omega arith, λ h. absurd (omega arith))
+
+returns-2 : tie.Need-returns-2
+returns-2 c = (omega arith, λ h. absurd (omega arith))
+
+returns-3 : tie.Need-returns-3
+returns-3 c = (omega arith, λ h. absurd (omega arith))
+
+returns-4 : tie.Need-returns-4
+returns-4 c = (omega arith, λ h. simp (ne-eqb _ _ (c .before .before .if1 .left), ne-eqb _ _ (c .before .if2 .left), ne-eqb _ _ (c .if3 .left)))
+
+pub place-of-spec : {M : Type 1} → statement M
+place-of-spec = tie.close (tie.spec returns returns-2 returns-3 returns-4)

@@ -1,0 +1,49 @@
+-- What one turn of the loop does, and what stands in the records after some turns: the promises of helpers, not rules.
+-- Assumes nothing.
+use Prim.Native.Nat.{ℕ, zero, suc}
+use mathlib.Core.Bool.{cond}
+use mathlib.Core.List.{List, _++_}
+use lib.ListN.{take, drop}
+use lib.Dec.{ltb}
+use Rattle.text.specs.declared.refusal.Refusal.the-variants.{FewTokens}
+use Rattle.lexer_token.specs.declared.Token.{Token}
+use Rattle.lexer.specs.Tokens.{tokensOf, eofAt}
+use Rattle.lexer.specs.Steps.{startAnswer, startCursor, stepOf}
+use Rattle.lexer.specs.declared.Cursor.{Cursor}
+use Rattle.lexer.specs.declared.Step.{Step}
+use Rattle.lexer.specs.declared.Step.the-variants.{Token as Given, End, Refused as Unstepped}
+use Rattle.lexer.specs.declared.Lexed.{Lexed}
+use Rattle.lexer.specs.declared.Lexed.the-variants.{Tokens, Refused}
+use Rattle.theorems_tokens.specs.Lexing.{cursorBehind}
+use Rattle.lexer_structs.specs.declared.Stepped.{Stepped}
+
+-- the answer where a document is UTF-8, by the tokens needed and the records lent
+abbrev pub roomFor : ℕ → ℕ → Lexed
+roomFor needed room = cond (ltb room needed) (Refused (FewTokens needed)) (Tokens needed)
+
+-- how many records are written
+abbrev pub writesOf : Lexed → ℕ
+writesOf (Tokens n) = n
+writesOf (Refused r) = 0
+
+-- the token of a step; an Eof at place 0 of line 0 where there is none
+abbrev pub tokenGiven : Step → Token
+tokenGiven (Given t c) = t
+tokenGiven End = eofAt 0 0
+tokenGiven (Unstepped r) = eofAt 0 0
+
+-- a step's token and the cursor behind it
+unfoldable pub nextOf : List ℕ → Cursor → Stepped
+nextOf doc c = record { token = tokenGiven (stepOf doc c); cursor = cursorBehind c (stepOf doc c) }
+
+-- the cursor k steps behind c, and k steps behind the start
+unfoldable pub stepped : ℕ → List ℕ → Cursor → Cursor
+stepped zero doc c = c
+stepped (suc k) doc c = stepped k doc (nextOf doc c .cursor)
+
+unfoldable pub cursorAfter : List ℕ → ℕ → Cursor
+cursorAfter doc k = stepped k doc (startCursor (startAnswer doc))
+
+-- the records after k turns
+unfoldable pub stored : List ℕ → List Token → ℕ → List Token
+stored doc old k = take k (tokensOf doc) ++ drop k old

@@ -1,0 +1,42 @@
+-- FOLLOWS. The numbers in which the answers of this crate are told: each follows from the answer, and promises say besides
+-- what they come to for a number that is read as a kind. Proved by `read-numbers`, `described-numbers` and `encoded-numbers`
+-- in proofs/NumberLaws.antt.
+-- Assumes nothing.
+use Prim.Native.Nat.{ℕ}
+use mathlib.Core.{Bool.Bool, Bool.true, Bool.false, Bool.cond}
+use Rattle.text.specs.{Refusals.refusalNumber, Refusals.refusalValue}
+use Rattle.lexer_token.specs.{KindNumbers.kindOfNumber}
+use Rattle.lexer_token.specs.declared.{KindRead.KindRead, KindRead.the-variants.Kind, KindRead.the-variants.Refused as Unread, Answer.Answer, Answer.the-variants.Given, Answer.the-variants.Refused}
+
+-- the number with which a reading is answered, 0 or the refusal's, and the number returned
+abbrev pub kindReadNumber : KindRead → ℕ
+kindReadNumber (Kind k) = 0
+kindReadNumber (Unread r) = refusalNumber r
+
+abbrev pub kindReadValue : KindRead → ℕ
+kindReadValue (Kind k) = 0
+kindReadValue (Unread r) = refusalValue r
+
+-- the same of an answer
+abbrev pub answerNumber : Answer → ℕ
+answerNumber Given = 0
+answerNumber (Refused r) = refusalNumber r
+
+abbrev pub answerValue : Answer → ℕ
+answerValue Given = 0
+answerValue (Refused r) = refusalValue r
+
+-- the numbers that are a kind's
+abbrev pub isRead : KindRead → Bool
+isRead (Kind k) = true
+isRead (Unread r) = false
+
+abbrev pub isKind : ℕ → Bool
+isKind n = isRead (kindOfNumber n)
+
+-- what they come to for a number n: 7 with n itself where it is no kind's, else 0
+abbrev pub kindRefusal : ℕ → ℕ
+kindRefusal n = cond (isKind n) 0 7
+
+abbrev pub kindReturned : ℕ → ℕ
+kindReturned n = cond (isKind n) 0 n

@@ -1,8 +1,0 @@
--- The promise of this crate admits one answer only: there is but one thing to return.
--- Assumes nothing.
-use mathlib.Core.Path.{sym, _∙_}
-use Rattle.classes.proofs.OneAnswer.{OneAnswer}
-use Rattle.spelling.proofs as promised
-
-pub print-answer : OneAnswer promised.print_answer.Reads.Learnt
-print-answer κs a x y s t p q = p ∙ sym q

@@ -1,9 +1,0 @@
--- Each promise of this crate admits one answer only. A theorem bears its function's name, and is about the function's
--- own contract: what a caller learns of its `ensures`.
--- Assumes nothing.
-use mathlib.Core.Path.{sym, _∙_}
-use Rattle.classes.proofs.OneAnswer.{OneAnswer}
-use Rattle.strings.proofs as promised
-
-pub number : OneAnswer promised.DecodeError.number.Reads.Learnt
-number κs a x y s t p q = p ∙ sym q

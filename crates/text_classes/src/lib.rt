@@ -1,0 +1,125 @@
+// The byte sets that the Rust tests with `contains_token`, each under its name there, and the bytes
+// inside a character. Rule: specs/Classes.antt, a definition for each.
+ghost use mathlib.Core.Path.{_≡_};
+ghost use Rattle.text_classes.specs.Classes.{wschar, tokenStart, nonAscii, literalChar, mllChar, basicUnescaped, mlbUnescaped, digit, hexdig, unquotedChar, continuation};
+
+// WSCHAR
+pub fn is_wschar(b: u8) -> bool
+    ensures { λ r. ⌜ r ≡ wschar b ⌝ }
+{
+    match b {
+        b' ' | b'\t' => true,
+        _ => false,
+    }
+}
+
+// TOKEN_START: the bytes below 64 are the bits of a number, since a loop over a document asks this
+// of every byte of an atom, and a shift is one test where a match is a jump. The first number has the bits of
+// all of them by the low six bits of the byte: most bytes of an atom are told by it alone.
+pub fn is_token_start(b: u8) -> bool
+    ensures { λ r. ⌜ r ≡ tokenStart b ⌝ }
+{
+    if (0x2800_508d_2800_2600u64 >> (wide(b) & 63)) & 1 == 0 {
+        return false;
+    }
+    if b < 64 {
+        return (0x2000_5009_0000_2600u64 >> wide(b)) & 1 == 1;
+    }
+    match b {
+        b'[' | b']' | b'{' | b'}' => true,
+        _ => false,
+    }
+}
+
+fn wide(b: u8) -> u64
+    ensures { λ r. ⌜ r ≡ b ⌝ }
+{
+    b as u64
+}
+
+// NON_ASCII
+pub fn is_non_ascii(b: u8) -> bool
+    ensures { λ r. ⌜ r ≡ nonAscii b ⌝ }
+{
+    0x80 <= b
+}
+
+// LITERAL_CHAR
+pub fn is_literal_char(b: u8) -> bool
+    ensures { λ r. ⌜ r ≡ literalChar b ⌝ }
+{
+    match b {
+        0x09 | 0x20..=0x26 | 0x28..=0x7E | 0x80..=0xFF => true,
+        _ => false,
+    }
+}
+
+// MLL_CHAR
+pub fn is_mll_char(b: u8) -> bool
+    ensures { λ r. ⌜ r ≡ mllChar b ⌝ }
+{
+    match b {
+        0x09 | 0x20..=0x26 | 0x28..=0x7E | 0x80..=0xFF => true,
+        _ => false,
+    }
+}
+
+// BASIC_UNESCAPED
+pub fn is_basic_unescaped(b: u8) -> bool
+    ensures { λ r. ⌜ r ≡ basicUnescaped b ⌝ }
+{
+    match b {
+        b' ' | b'\t' | 0x21 | 0x23..=0x5B | 0x5D..=0x7E | 0x80..=0xFF => true,
+        _ => false,
+    }
+}
+
+// MLB_UNESCAPED
+pub fn is_mlb_unescaped(b: u8) -> bool
+    ensures { λ r. ⌜ r ≡ mlbUnescaped b ⌝ }
+{
+    match b {
+        b' ' | b'\t' | 0x21 | 0x23..=0x5B | 0x5D..=0x7E | 0x80..=0xFF => true,
+        _ => false,
+    }
+}
+
+// HEXDIG
+pub fn is_hexdig(b: u8) -> bool
+    ensures { λ r. ⌜ r ≡ hexdig b ⌝ }
+{
+    match b {
+        b'0'..=b'9' | b'A'..=b'F' | b'a'..=b'f' => true,
+        _ => false,
+    }
+}
+
+// DIGIT
+pub fn is_digit(b: u8) -> bool
+    ensures { λ r. ⌜ r ≡ digit b ⌝ }
+{
+    match b {
+        b'0'..=b'9' => true,
+        _ => false,
+    }
+}
+
+// UNQUOTED_CHAR
+pub fn is_unquoted_char(b: u8) -> bool
+    ensures { λ r. ⌜ r ≡ unquotedChar b ⌝ }
+{
+    match b {
+        b'A'..=b'Z' | b'a'..=b'z' | b'0'..=b'9' | b'-' | b'_' => true,
+        _ => false,
+    }
+}
+
+// A byte inside a character, 80 to BF: no span starts or ends there.
+pub fn is_continuation(b: u8) -> bool
+    ensures { λ r. ⌜ r ≡ continuation b ⌝ }
+{
+    match b {
+        0x80..=0xBF => true,
+        _ => false,
+    }
+}

@@ -1,0 +1,127 @@
+-- A text between two single marks: its errors and its bytes are its body's.
+-- Assumes nothing.
+use Prim.Native.Nat.{ℕ, suc, _-_, _<_}
+use mathlib.Core.Path.{_≡_, refl, sym, _∙_, ap}
+use mathlib.Core.Bool.{Bool, true, false}
+use mathlib.Core.List.{List, [], _∷_, _++_, cons≢nil, append-eq-nil-iff}
+use native.Mathlib.Omega.{arith}
+use native.Mathlib.Nat.{add-zero}
+use lib.ListN.{length, take, getD, length-append}
+use lib.Seq.{take-at, getD-append-add}
+use lib.Dec.{ltb}
+use borrow.Author.Tests.{eqb-true, ltb-true}
+use Rattle.text.specs.Utf8.{Scalar, encodes, All}
+use Rattle.text.proofs.EncodeLaws.{encode-1}
+use Rattle.text.proofs.ReadLaws.{encodes-append}
+use Rattle.decoder_rules.specs.declared.Encoding.{Encoding}
+use Rattle.decoder_rules.specs.declared.Ends.{Ends}
+use Rattle.decoder_rules.specs.declared.DecodeError.{DecodeError}
+use Rattle.decoder_rules.specs.Encodings.{markError}
+use Rattle.decoder_rules.specs.Pieces.{gives, notesAt, collect}
+use Rattle.decoder_rules.specs.Bodies.{pieceOf}
+use Rattle.decoder_rules.specs.Marks.{lineClosed, lineEnds, endsOf, bodyOf}
+use Rattle.decoder_rules.specs.Decoding.{bytesOf, missing, errorsOf}
+use Rattle.text_classes.proofs.Conds.{both-left, both-right}
+use Rattle.decoder_rules.proofs.MarkLaws.{line-both}
+use Rattle.decoder_rules.proofs.DecodeLaws.{bytes-is, errors-is}
+use Rattle.theorems_grammar.proofs.ListLaws.{last-split}
+use Rattle.theorems_grammar.proofs.Encoded.{between}
+use Rattle.theorems_grammar.proofs.Reading.{ErrorFree}
+
+-- ---- marks that are there
+
+-- no error about a mark: it is there
+missing-none : (b : Bool) (e : DecodeError) (at : ℕ) → missing b e at ≡ [] → b ≡ true
+missing-none true e at h = refl
+missing-none false e at h = absurd (cons≢nil h)
+
+-- a text without error has both its marks
+pub both-marks : (e : Encoding) (t : List ℕ) → errorsOf e t ≡ [] → (endsOf e t .opened ≡ true) × (endsOf e t .closed ≡ true)
+unfolding errorsOf
+both-marks e t h =
+    let a = append-eq-nil-iff {p = missing (endsOf e t .opened) (markError e) 0} .0 h in
+    let b = append-eq-nil-iff {p = missing (endsOf e t .closed) (markError e) (length t)} .0 (a .1) in
+    (missing-none _ _ _ (a .0), missing-none _ _ _ (b .0))
+
+-- ---- the text
+
+abbrev pub marked : ℕ → List ℕ → List ℕ
+marked q m = q ∷ (m ++ (q ∷ []))
+
+pub marked-long : (q : ℕ) (m : List ℕ) → length (marked q m) ≡ suc (suc (length m))
+marked-long q m = rw (length-append m (q ∷ [])) (omega arith)
+
+-- the ends of a marked text
+abbrev marked-ends-at : List ℕ → Ends
+marked-ends-at t = record { opened = true; closed = true; start = 1; end = length t - 1 }
+
+line-at : (q : ℕ) (m : List ℕ) → marked-ends-at (marked q m) ≡ lineEnds q (marked q m)
+line-at q m =
+    let l = marked-long q m in
+    let last : getD (marked q m) (suc (length m)) 0 ≡ q =
+    ap (λ (i : ℕ). getD (m ++ (q ∷ [])) i 0) (sym (add-zero (length m))) ∙ getD-append-add m (q ∷ []) 0 0 in
+    let z : length (marked q m) - 1 ≡ suc (length m) = omega arith in
+    line-both q (marked q m) (omega arith) refl (ap (λ (i : ℕ). getD (marked q m) i 0) z ∙ last)
+
+marked-body : (q : ℕ) (m : List ℕ) → bodyOf (marked-ends-at (marked q m)) (marked q m) ≡ m
+marked-body q m = let l = marked-long q m in take-at m (q ∷ []) (length (marked q m) - 1 - 1) (omega arith)
+
+-- a text whose marks are there
+line-inv : (q : ℕ) (t : List ℕ) → lineEnds q t .opened ≡ true → lineEnds q t .closed ≡ true → (m : List ℕ) × (t ≡ marked q m)
+unfolding lineEnds
+line-inv q t o c =
+    let c₂ : lineClosed 1 q t ≡ true = rw o at c in
+    let first = eqb-true (getD t 0 0) q (both-right (ltb 0 (length t)) _ o) in
+    let long = ltb-true 1 (length t) (both-left (ltb 1 (length t)) _ c₂) in
+    go t first long (eqb-true (getD t (length t - 1) 0) q (both-right (ltb 1 (length t)) _ c₂))
+  where
+    go : (t : List ℕ) → getD t 0 0 ≡ q → 1 < length t → getD t (length t - 1) 0 ≡ q → (m : List ℕ) × (t ≡ marked q m)
+    go [] a l z = absurd (omega arith)
+    go (b ∷ []) a l z = absurd (omega arith)
+    go (b ∷ (c ∷ s)) a l z =
+        let e : c ∷ s ≡ take (length s) (c ∷ s) ++ (getD (c ∷ s) (length s) 0 ∷ []) = last-split (c ∷ s) (length s) refl in
+        let n : suc (length s) ≡ length (b ∷ (c ∷ s)) - 1 = omega arith in
+        let z₂ : getD (c ∷ s) (length s) 0 ≡ q = ap (λ i. getD (b ∷ (c ∷ s)) i 0) n ∙ z in
+        (take (length s) (c ∷ s), rw a (ap (q ∷_) (e ∙ ap (λ x. take (length s) (c ∷ s) ++ (x ∷ [])) z₂)))
+
+-- ---- its code points
+
+pub encodes-marked : (q : ℕ) → q < 0x80 → (s : List ℕ) → encodes (marked q s) ≡ marked q (encodes s)
+encodes-marked q h s = rw (encode-1 q h, encodes-append s (q ∷ []), encode-1 q h)
+
+-- ---- from the decoder of a body to the decoder of a text
+
+module _ (e : Encoding) (q : ℕ) (low : q < 0x80) (ends : (t : List ℕ) → endsOf e t ≡ lineEnds q t) where
+  marked-ends : (m : List ℕ) → marked-ends-at (marked q m) ≡ endsOf e (marked q m)
+  marked-ends m = line-at q m ∙ sym (ends (marked q m))
+
+  pub line-errors : (s : List ℕ) → errorsOf e (encodes (marked q s)) ≡ collect (pieceOf e) notesAt 0 false 1 (encodes s)
+  line-errors s =
+      ap (errorsOf e) (encodes-marked q low s)
+      ∙ (errors-is e (marked q (encodes s)) (marked-ends-at (marked q (encodes s))) (marked-ends (encodes s)) (markError e) refl
+      ∙ ap (collect (pieceOf e) notesAt 0 false 1) (marked-body q (encodes s)))
+
+  pub line-bytes : (s : List ℕ) → bytesOf e (encodes (marked q s)) ≡ collect (pieceOf e) gives 0 false 1 (encodes s)
+  line-bytes s =
+      ap (bytesOf e) (encodes-marked q low s)
+      ∙ (bytes-is e (marked q (encodes s)) (marked-ends-at (marked q (encodes s))) (marked-ends (encodes s))
+      ∙ ap (collect (pieceOf e) gives 0 false 1) (marked-body q (encodes s)))
+
+  -- a text without error has a body without error
+  pub record LineText (cs : List ℕ) : Type 0 where
+    pub body : List ℕ
+    pub text : cs ≡ marked q body
+    pub each : All Scalar body
+    pub clean : ErrorFree (pieceOf e) false 1 (encodes body)
+
+  pub line-text : (cs : List ℕ) → All Scalar cs → errorsOf e (encodes cs) ≡ [] → LineText cs
+  line-text cs sc h =
+      let b = both-marks e (encodes cs) h in
+      let m = line-inv q (encodes cs) (rw (ends (encodes cs)) at (b .0)) (rw (ends (encodes cs)) at (b .1)) in
+      let i = between (q ∷ []) (q ∷ []) cs (m .0) (low, tt) (low, tt) sc (m .1) in
+      record {
+        body = i .inner;
+        text = i .text;
+        each = i .each;
+        clean = sym (line-errors (i .inner)) ∙ (ap (λ x. errorsOf e (encodes x)) (sym (i .text)) ∙ h);
+      }

@@ -1,0 +1,250 @@
+-- How the lexer's extents pass over the code points of a string. For the multi-line kinds the look-ahead for three marks
+-- becomes a count of the marks that stand right before the place.
+-- Assumes nothing.
+use Prim.Native.Nat.{ℕ, suc, _+_, _≤_, _<_}
+use mathlib.Core.Path.{_≡_, refl, sym, _∙_, ap}
+use mathlib.Core.Logic.{_↔_}
+use mathlib.Core.Bool.{Bool, true, false, cond, _&&_}
+use mathlib.Core.List.{List, [], _∷_, _++_, append-assoc}
+use native.Mathlib.Omega.{arith}
+use lib.ListN.{length, drop, length-append}
+use lib.Dec.{eqb}
+use borrow.Author.Tests.{ne-eqb, eq-eqb}
+use Rattle.text.specs.Utf8.{encodes, All}
+use Rattle.text.proofs.EncodeLaws.{parts, encode-1}
+use Rattle.text.proofs.ReadLaws.{encodes-append}
+use Rattle.text_classes.specs.Runs.{stands}
+use Rattle.lexer_scans.specs.Extents.{hides}
+use Rattle.lexer_scans.specs.Extents.{lineTail, triple, upToTwo, mlTail}
+use Rattle.theorems_grammar.specs.Grammar.{x20, x09, Newline, x0A, x0D-0A, BasicUnescaped, LiteralChar}
+use Rattle.theorems_grammar.specs.Strings.{Apart}
+use Rattle.theorems_grammar.proofs.Encoded.{chars-bytes}
+use Rattle.theorems_grammar.proofs.ClassLaws.{non-ascii-high}
+use Rattle.theorems_grammar.proofs.Escapes.{Harmless}
+
+-- what passes the bytes of a class one by one passes a run of them
+pub pass-all : (f : List ℕ → ℕ) (Ok : ℕ → Type 0) → ((b : ℕ) → Ok b → (s : List ℕ) → f (b ∷ s) ≡ suc (f s))
+    → (t : List ℕ) → All Ok t → (s : List ℕ) → f (t ++ s) ≡ length t + f s
+pass-all f Ok pass [] h s = omega arith
+pass-all f Ok pass (b ∷ t) h s = omega (arith, pass b (h .0) (t ++ s), pass-all f Ok pass t (h .1) s)
+
+-- ---- three marks
+
+pub triple-no : (q b : ℕ) (s : List ℕ) → (b ≡ q → ⊥) → triple q (q ∷ (b ∷ s)) ≡ false
+unfolding triple
+triple-no q b s h = rw (eq-eqb q q refl, ne-eqb b q h)
+
+pub triple-two : (q : ℕ) (s : List ℕ) → Apart q s → triple q (q ∷ (q ∷ s)) ≡ false
+unfolding triple
+triple-two q s h = rw (eq-eqb q q refl, h)
+
+pub triple-yes : (q : ℕ) (s : List ℕ) → triple q (q ∷ (q ∷ (q ∷ s))) ≡ true
+unfolding triple
+triple-yes q s = rw (eq-eqb q q refl)
+
+-- ---- quote marks
+
+-- a visible ASCII byte that hides nothing
+pub record Mark (q : ℕ) : Type 0 where
+  pub low : q < 0x80
+  pub visible : 0x20 < q
+  pub hides-none : hides q false q ≡ false
+
+pub quotation : Mark 0x22
+quotation = record { low = omega arith; visible = omega arith; hides-none = refl }
+
+pub apostrophes : Mark 0x27
+apostrophes = record { low = omega arith; visible = omega arith; hides-none = refl }
+
+-- ---- bytes that neither close nor hide
+
+-- in a string of several lines with the mark q
+abbrev pub InMl : ℕ → ℕ → Type 0
+InMl q b = (b ≡ q → ⊥) × (hides q false b ≡ false)
+
+-- in one on a line
+abbrev pub InLine : ℕ → ℕ → Type 0
+InLine q b = InMl q b × (b ≡ 10 → ⊥)
+
+never-hides : (x y : Bool) → y ≡ false → (x && y) ≡ false
+never-hides true y e = e
+never-hides false y e = refl
+
+-- only a backslash hides
+pub in-ml : (q b : ℕ) → (b ≡ q → ⊥) → (b ≡ 92 → ⊥) → InMl q b
+in-ml q b h k = (h, never-hides (eqb q 34) (eqb b 92) (ne-eqb b 92 k))
+
+pub in-high : {q : ℕ} → Mark q → (b : ℕ) → 0x80 ≤ b → InMl q b
+in-high {q} m b h = in-ml q b (λ e. omega arith) (λ e. omega arith)
+
+pub line-high : {q : ℕ} → Mark q → (b : ℕ) → 0x80 ≤ b → InLine q b
+line-high m b h = (in-high m b h, λ e. omega arith)
+
+pub newline-in : {q : ℕ} → Mark q → {n : List ℕ} → Newline n → All (InMl q) n
+newline-in {q} m x0A = (in-ml q 0x0A (λ e. omega arith) (λ e. omega arith), tt)
+newline-in {q} m x0D-0A =
+    (in-ml q 0x0D (λ e. omega arith) (λ e. omega arith), (in-ml q 0x0A (λ e. omega arith) (λ e. omega arith), tt))
+
+-- the grammar's classes; an apostrophe's string hides nothing
+pub literal-in : {c : ℕ} → LiteralChar c → InLine 39 c
+literal-in LiteralChar.x09 = (((λ e. omega arith), refl), λ e. omega arith)
+literal-in {c} (LiteralChar.x20-26 h k) = (((λ e. omega arith), refl), λ e. omega arith)
+literal-in {c} (LiteralChar.x28-7E h k) = (((λ e. omega arith), refl), λ e. omega arith)
+literal-in {c} (LiteralChar.non-ascii n) = line-high apostrophes c (non-ascii-high n)
+
+in-basic : (c : ℕ) → (c ≡ 34 → ⊥) → (c ≡ 92 → ⊥) → (c ≡ 10 → ⊥) → InLine 34 c
+in-basic c h k l = (in-ml 34 c h k, l)
+
+pub basic-in : {c : ℕ} → BasicUnescaped c → InLine 34 c
+basic-in (BasicUnescaped.wschar x20) = in-basic 0x20 (λ e. omega arith) (λ e. omega arith) (λ e. omega arith)
+basic-in (BasicUnescaped.wschar x09) = in-basic 0x09 (λ e. omega arith) (λ e. omega arith) (λ e. omega arith)
+basic-in BasicUnescaped.x21 = in-basic 0x21 (λ e. omega arith) (λ e. omega arith) (λ e. omega arith)
+basic-in {c} (BasicUnescaped.x23-5B h k) = in-basic c (λ e. omega arith) (λ e. omega arith) (λ e. omega arith)
+basic-in {c} (BasicUnescaped.x5D-7E h k) = in-basic c (λ e. omega arith) (λ e. omega arith) (λ e. omega arith)
+basic-in {c} (BasicUnescaped.non-ascii n) = line-high quotation c (non-ascii-high n)
+
+-- and the digits of an escape
+pub digit-in : (c : ℕ) → Harmless c → InLine 34 c
+digit-in c h = in-basic c (λ e. omega (arith, h .0)) (h .2) (λ e. omega (arith, h .0))
+
+-- ---- on one line
+
+pub line-pass : (q b : ℕ) → InLine q b → (s : List ℕ) → lineTail q false (b ∷ s) ≡ suc (lineTail q false s)
+unfolding lineTail
+line-pass q b h s = rw (ne-eqb b q (h .0 .0), ne-eqb b 10 (h .1), h .0 .1)
+
+pub line-hidden : (b : ℕ) (s : List ℕ) → (b ≡ 10 → ⊥) → lineTail 34 false (92 ∷ (b ∷ s)) ≡ suc (suc (lineTail 34 false s))
+unfolding lineTail
+line-hidden b s h = rw (ne-eqb b 10 h)
+
+pub line-close : (q : ℕ) (s : List ℕ) → lineTail q false (q ∷ s) ≡ 1
+unfolding lineTail
+line-close q s = rw (eq-eqb q q refl)
+
+-- ---- on several lines: so many marks stand right before the place
+
+pub data Seen : Type 0 where
+  k0 k1 k2 : Seen
+
+abbrev pub num : Seen → ℕ
+num k0 = 0
+num k1 = 1
+num k2 = 2
+
+abbrev pub marks : ℕ → Seen → List ℕ → List ℕ
+marks q k0 s = s
+marks q k1 s = q ∷ s
+marks q k2 s = q ∷ (q ∷ s)
+
+two-le : (x y : Bool) → cond x (cond y 2 1) 0 ≤ 2
+two-le true true = omega arith
+two-le true false = omega arith
+two-le false y = omega arith
+
+up-le : (q : ℕ) (s : List ℕ) → upToTwo q s ≤ 2
+unfolding upToTwo
+up-le q s = two-le (stands q s) (stands q (drop 1 s))
+
+up-none : (q : ℕ) (s : List ℕ) → Apart q s → upToTwo q s ≡ 0
+unfolding upToTwo
+up-none q s h = rw h
+
+up-one : (q : ℕ) (s : List ℕ) → Apart q s → upToTwo q (q ∷ s) ≡ 1
+unfolding upToTwo
+up-one q s h = rw (eq-eqb q q refl, h)
+
+up-two : (q : ℕ) (s : List ℕ) → upToTwo q (q ∷ (q ∷ s)) ≡ 2
+unfolding upToTwo
+up-two q s = rw (eq-eqb q q refl)
+
+pub ml-hidden : (b : ℕ) (s : List ℕ) → mlTail 34 false (92 ∷ (b ∷ s)) ≡ suc (suc (mlTail 34 false s))
+unfolding mlTail triple
+ml-hidden b s = refl
+
+-- the code points t, after k marks, are passed
+abbrev pub Passed : ℕ → Seen → List ℕ → Type 0
+Passed q k t = (s : List ℕ) → mlTail q false (marks q k (encodes t ++ s)) ≡ num k + (length (encodes t) + mlTail q false s)
+
+-- after k marks the token goes on through t and the three closing marks, before rest
+abbrev pub Through : ℕ → List ℕ → Seen → List ℕ → Type 0
+Through q rest k t = mlTail q false (marks q k (encodes t ++ (q ∷ (q ∷ (q ∷ rest))))) ≡ num k + (length (encodes t) + 3)
+
+module _ {q : ℕ} (m : Mark q) where
+  ml-step : (b : ℕ) (s : List ℕ) → triple q (b ∷ s) ≡ false → hides q false b ≡ false
+      → mlTail q false (b ∷ s) ≡ suc (mlTail q false s)
+  unfolding mlTail
+  ml-step b s t h = rw (t, h)
+
+  pub ml-pass : (b : ℕ) → InMl q b → (s : List ℕ) → mlTail q false (b ∷ s) ≡ suc (mlTail q false s)
+  unfolding triple
+  ml-pass b h s = ml-step b s (rw (ne-eqb b q (h .0))) (h .1)
+
+  -- marks that are not three are passed
+  pub marks-pass : (k : Seen) (b : ℕ) (s : List ℕ) → (b ≡ q → ⊥)
+      → mlTail q false (marks q k (b ∷ s)) ≡ num k + mlTail q false (b ∷ s)
+  marks-pass k0 b s h = omega arith
+  marks-pass k1 b s h = omega (arith, ml-step q (b ∷ s) (triple-no q b s h) (m .hides-none))
+  marks-pass k2 b s h =
+      let first = ml-step q (q ∷ (b ∷ s)) (triple-two q (b ∷ s) (ne-eqb b q h)) (m .hides-none) in
+      omega (arith, ml-step q (b ∷ s) (triple-no q b s h) (m .hides-none))
+
+  ml-third : (s : List ℕ) → mlTail q false (q ∷ (q ∷ (q ∷ s))) ≡ 3 + upToTwo q s
+  unfolding mlTail triple
+  ml-third s = rw (eq-eqb q q refl)
+
+  bytes-pass : (k : Seen) (x : List ℕ) → 0 < length x → All (InMl q) x → (s : List ℕ)
+      → mlTail q false (marks q k (x ++ s)) ≡ num k + (length x + mlTail q false s)
+  bytes-pass k [] l h s = absurd (omega arith)
+  bytes-pass k (b ∷ x) l h s =
+      let rest = pass-all (mlTail q false) (InMl q) ml-pass x (h .1) s in
+      omega (arith, marks-pass k b (x ++ s) (h .0 .0), ml-pass b (h .0) (x ++ s))
+
+  -- one or more code points that neither close nor hide
+  pub all-passed : (k : Seen) (t : List ℕ) → 0 < length t → All (InMl q) t → Passed q k t
+  all-passed k [] l h s = absurd (omega arith)
+  all-passed k (c ∷ t) l h s =
+      let p = parts c in
+      let e : encodes (c ∷ t) ≡ p .first ∷ (p .tails ++ encodes t) = ap (λ (x : List ℕ). x ++ encodes t) (p .whole) in
+      bytes-pass k (encodes (c ∷ t)) (omega (arith, ap length e)) (chars-bytes (in-high m) (c ∷ t) h) s
+
+  -- ---- the mark itself, and the three at the end
+  module _ (rest : List ℕ) where
+    mark-bytes : (cs : List ℕ) → encodes (q ∷ cs) ≡ q ∷ encodes cs
+    mark-bytes cs = rw (encode-1 q (m .low))
+
+    pub through-one : (cs : List ℕ) → Through q rest k0 (q ∷ cs) ↔ Through q rest k1 cs
+    through-one cs = ((λ h. let y = rw (mark-bytes cs) at h in omega arith), λ h. rw (mark-bytes cs) (omega arith))
+
+    pub through-two : (cs : List ℕ) → Through q rest k1 (q ∷ cs) ↔ Through q rest k2 cs
+    through-two cs = ((λ h. let y = rw (mark-bytes cs) at h in omega arith), λ h. rw (mark-bytes cs) (omega arith))
+
+    -- there is no third mark within
+    pub through-three : (cs : List ℕ) → Through q rest k2 (q ∷ cs) → ⊥
+    through-three cs h =
+        let z : List ℕ = encodes cs ++ (q ∷ (q ∷ (q ∷ rest))) in
+        let y = rw (mark-bytes cs) at h in
+        omega (arith, ml-third z, up-le q z)
+
+    pub through-end : Apart q rest → (k : Seen) → Through q rest k []
+    through-end h k0 = omega (arith, ml-third rest, up-none q rest h)
+    through-end h k1 = omega (arith, ml-third (q ∷ rest), up-one q rest h)
+    through-end h k2 = omega (arith, ml-third (q ∷ (q ∷ rest)), up-two q rest)
+
+module _ (q : ℕ) (rest : List ℕ) (k : Seen) (t r : List ℕ) (p : Passed q k t) where
+  abbrev closing : List ℕ
+  closing = q ∷ (q ∷ (q ∷ rest))
+
+  parts-joined : encodes (t ++ r) ++ closing ≡ encodes t ++ (encodes r ++ closing)
+  parts-joined = ap (λ x. x ++ closing) (encodes-append t r) ∙ append-assoc (encodes t) (encodes r) closing
+
+  parts-long : length (encodes (t ++ r)) ≡ length (encodes t) + length (encodes r)
+  parts-long = ap length (encodes-append t r) ∙ length-append (encodes t) (encodes r)
+
+  pub through-after : Through q rest k0 r → Through q rest k (t ++ r)
+  through-after h = ap (λ x. mlTail q false (marks q k x)) parts-joined ∙ omega (arith, p (encodes r ++ closing), parts-long)
+
+  pub through-rest : Through q rest k (t ++ r) → Through q rest k0 r
+  through-rest l =
+      let l₂ : mlTail q false (marks q k (encodes t ++ (encodes r ++ closing))) ≡ num k + (length (encodes (t ++ r)) + 3) =
+      sym (ap (λ x. mlTail q false (marks q k x)) parts-joined) ∙ l in
+      omega (arith, p (encodes r ++ closing), parts-long)

@@ -1,0 +1,195 @@
+-- What each token of whole lexing and of a step is, and that steps from the start cut no character.
+-- Assumes nothing.
+use Prim.Native.Nat.{ℕ, _+_, _≤_, _<_}
+use mathlib.Core.Path.{_≡_, refl, sym, _∙_, ap, subst}
+use mathlib.Core.Bool.{Bool, true, false}
+use mathlib.Core.List.{List, [], List·Memᴰ, List·Memᴰ·head, List·Memᴰ·tail}
+use native.Mathlib.Decide.{decLt}
+use native.Mathlib.Omega.{arith}
+use native.Mathlib.Nat.{add-zero}
+use lib.ListN.{length, drop, drop-of-length-le}
+use lib.Seq.{drop-drop}
+use borrow.Author.Tests.{le-ltb, ltb-false, ne-eqb}
+use lib.Dec.{ltb}
+use Rattle.text_classes.proofs.Conds.{cond-case, by-lt, by-eq}
+use Rattle.text.specs.Utf8.{Utf8}
+use Rattle.text.specs.Refusals.{limit}
+use Rattle.lexer_token.specs.declared.TokenKind.{TokenKind}
+use Rattle.lexer_token.specs.declared.Token.{Token}
+use Rattle.lexer_token.specs.Records.{tokenOf}
+use Rattle.lexer.specs.Table.{kindOf, extent, tokenLen}
+use Rattle.lexer.specs.Tokens.{tokenAt, eofAt, lineAfter, tokensFrom, startOf, tokensOf}
+use Rattle.lexer.specs.Steps.{cursorOf, startAnswer, astray, stepOf}
+use Rattle.lexer.specs.Told.{stepNumber}
+use Rattle.lexer.specs.Lines.{lineOf}
+use Rattle.lexer_place.proofs.SpanLaws.{or-false}
+use Rattle.lexer.specs.declared.Cursor.{Cursor}
+use Rattle.lexer.specs.declared.Start.{Start}
+use Rattle.lexer.specs.declared.Start.the-variants.{At}
+use Rattle.lexer.specs.declared.Step.{Step}
+use Rattle.lexer.specs.declared.Step.the-variants.{Token as Given, End}
+use Rattle.lexer.proofs.TokenLaws.{token-fits-at, tokens-step, tokens-end, start-fits}
+use Rattle.theorems_tokens.proofs.Lexing.{step-eof, step-end, token-cut, start-cut, by-rule}
+use Rattle.theorems_grammar.specs.Demand3.{Reached, start, next}
+
+-- ---- a token of whole lexing is the token at its start
+
+token-of-fields : (r : Token) (k : TokenKind) (e l : ℕ) → r .kind ≡ k → r .span .end ≡ e → r .line ≡ l
+    → r ≡ tokenOf k (r .span .start) e l
+token-of-fields r k e l p q x =
+    ap (λ (j : TokenKind). tokenOf j (r .span .start) (r .span .end) (r .line)) p
+    ∙ ap (λ (n : ℕ). tokenOf k (r .span .start) n (r .line)) q ∙ ap (tokenOf k (r .span .start) e) x
+
+pub listed-is : (doc : List ℕ) (r : Token) → List·Memᴰ r (tokensOf doc)
+    → r ≡ tokenAt (r .span .start) (lineOf doc (r .span .start)) (drop (r .span .start) doc)
+listed-is doc r m = let x = by-rule doc r m in token-of-fields r _ _ _ (x .kind) (x .end) (x .line)
+
+-- ---- a token of a step is the token at the cursor's place
+
+-- the token at the cursor c, and the cursor behind it
+abbrev tokenHere : List ℕ → Cursor → Token
+tokenHere doc c = tokenAt (c .place) (c .line) (drop (c .place) doc)
+
+abbrev cursorNext : List ℕ → Cursor → Cursor
+cursorNext doc c = cursorOf (c .place + tokenLen (drop (c .place) doc)) (lineAfter (c .line) (drop (c .place) doc)) (c .ended)
+
+pub record StepGave (doc : List ℕ) (c : Cursor) (r : Token) (d : Cursor) : Type 0 where
+  pub few : length doc ≤ limit
+  pub near : c .line ≤ c .place + 1
+  pub is : r ≡ tokenHere doc c
+  pub on : d .place ≡ c .place + tokenLen (drop (c .place) doc)
+
+eof-is : (at line : ℕ) → eofAt at line ≡ tokenAt at line []
+unfolding tokenLen kindOf extent
+eof-is at line = ap (λ (i : ℕ). tokenOf (kindOf []) at i line) (sym (add-zero at))
+
+end-not-given : {r : Token} {d : Cursor} {P : Type 0} → End ≡ Given r d → P
+end-not-given h = let z : _≡_ {A = ℕ} 0 1 = cc in absurd (omega arith)
+
+module _ (doc : List ℕ) (c : Cursor) (r : Token) (d : Cursor) where
+  abbrev Says : Step → Type 0
+  Says x = x ≡ Given r d → StepGave doc c r d
+
+  end-says : length doc ≤ limit → c .line ≤ c .place + 1 → c .place ≡ length doc
+      → (t : Token) (n : Cursor) → t ≡ eofAt (c .place) (c .line) → n .place ≡ c .place → Says (Given t n)
+  unfolding tokenLen kindOf extent
+  end-says l o p t n e f h =
+      let x : t ≡ r = cc in
+      let y : n ≡ d = cc in
+      let z : drop (c .place) doc ≡ [] = drop-of-length-le doc {i = c .place} (omega arith) in
+      record {
+        few = l;
+        near = o;
+        is = sym x ∙ (e ∙ (eof-is (c .place) (c .line) ∙ ap (tokenAt (c .place) (c .line)) (sym z)));
+        on = ap (λ (i : Cursor). i .place) (sym y) ∙ (f ∙ rw z (sym (add-zero (c .place))));
+      }
+
+  pub step-gave : stepOf doc c ≡ Given r d → StepGave doc c r d
+  unfolding stepOf
+  step-gave =
+      by-lt Says limit (length doc) (λ l h. absurd (omega (arith, ap stepNumber h)))
+      λ l. cond-case Says (astray doc c) (λ k h. absurd (omega (arith, ap stepNumber h)))
+      λ k.
+      let o = ltb-false (c .place + 1) (c .line) (or-false (ltb (length doc) (c .place)) (ltb (c .place + 1) (c .line)) k .1) in
+      by-eq Says (c .place) (length doc)
+      (λ p. cond-case Says (c .ended) (λ e h. end-not-given h) (λ e h. end-says l o p _ _ refl refl h))
+      (λ p h.
+      let x : tokenHere doc c ≡ r = cc in
+      let y : cursorNext doc c ≡ d = cc in
+      record { few = l; near = o; is = sym x; on = ap (λ (i : Cursor). i .place) (sym y) })
+
+-- a step before the end, by any cursor
+pub step-there : (doc : List ℕ) → length doc ≤ limit → (c : Cursor) → c .line ≤ c .place + 1 → c .place < length doc
+    → stepOf doc c ≡ Given (tokenHere doc c) (cursorNext doc c)
+unfolding stepOf
+step-there doc l c o h =
+    let within = le-ltb (length doc) (c .place) (omega arith) in
+    let before = ne-eqb (c .place) (length doc) (λ z. omega arith) in
+    rw (le-ltb limit (length doc) l, within, le-ltb (c .place + 1) (c .line) o, before)
+
+-- ---- steps from the start
+
+start-is : (doc : List ℕ) (c : Cursor) → startAnswer doc ≡ At c → cursorOf (startOf doc) 1 false ≡ c
+unfolding startAnswer
+start-is doc c =
+    by-lt (λ (x : Start). x ≡ At c → cursorOf (startOf doc) 1 false ≡ c) limit (length doc)
+    (λ l h. let z : _≡_ {A = ℕ} 0 1 = cc in absurd (omega arith))
+    (λ l h. let y : cursorOf (startOf doc) 1 false ≡ c = cc in y)
+
+-- they cut no character
+pub reached-cut : (doc : List ℕ) → Utf8 doc → (c : Cursor) → Reached doc c → Utf8 (drop (c .place) doc)
+reached-cut doc u c (start e) = subst (λ (x : Cursor). Utf8 (drop (x .place) doc)) (start-is doc c e) (start-cut doc u)
+reached-cut doc u d (next {c} {r = r} k e) =
+    let x = step-gave doc c r d e in
+    let n = tokenLen (drop (c .place) doc) in
+    let p : drop n (drop (c .place) doc) ≡ drop (d .place) doc =
+    drop-drop n (c .place) doc ∙ ap (λ (i : ℕ). drop i doc) (sym (x .on)) in
+    subst Utf8 p (token-cut (drop (c .place) doc) (reached-cut doc u c k) .1)
+
+-- and what is left from a cursor on is left of whole lexing, until Eof was given
+abbrev AllListed : List ℕ → ℕ → ℕ → Type 0
+AllListed doc at line = (r : Token) → List·Memᴰ r (tokensFrom at line (drop at doc)) → List·Memᴰ r (tokensOf doc)
+
+data Going (doc : List ℕ) (c : Cursor) : Type 0 where
+  on : c .ended ≡ false → c .place ≤ length doc → AllListed doc (c .place) (c .line) → Going doc c
+  over : c .ended ≡ true → c .place ≡ length doc → Going doc c
+
+all-listed : (doc : List ℕ) → AllListed doc (startOf doc) 1
+unfolding tokensOf
+all-listed doc r m = m
+
+cursor-by : (c : Cursor) (n : ℕ) (b : Bool) → c .place ≡ n → c .ended ≡ b → c ≡ cursorOf n (c .line) b
+cursor-by c n b p q = ap (λ (i : ℕ). cursorOf i (c .line) (c .ended)) p ∙ ap (cursorOf n (c .line)) q
+
+module _ (doc : List ℕ) (c : Cursor) (r : Token) (d : Cursor) (e : stepOf doc c ≡ Given r d) where
+  no-step-over : c .ended ≡ true → c .place ≡ length doc → {P : Type 0} → P
+  no-step-over f p =
+      let s = step-gave doc c r d e in
+      let here = ap (stepOf doc) (sym (cursor-by c (length doc) true p f)) in
+      let h : End ≡ Given r d = sym (step-end doc (s .few) (c .line) (omega (arith, s .near))) ∙ (here ∙ e) in
+      end-not-given h
+
+  went-on : c .ended ≡ false → c .place < length doc → AllListed doc (c .place) (c .line) → Going doc d
+  went-on f l m =
+      let s = step-gave doc c r d e in
+      let h : Given (tokenHere doc c) (cursorNext doc c) ≡ Given r d = sym (step-there doc (s .few) c (s .near) l) ∙ e in
+      let x : cursorNext doc c ≡ d = cc in
+      subst (Going doc) x (on f (token-fits-at doc (c .place) (omega arith))
+      (λ t i. m t (subst (List·Memᴰ t) (sym (tokens-step doc (c .place) (c .line) l)) (List·Memᴰ·tail i))))
+
+  was-over : c .ended ≡ false → c .place ≡ length doc → Going doc d
+  was-over f p =
+      let s = step-gave doc c r d e in
+      let here = ap (stepOf doc) (sym (cursor-by c (length doc) false p f)) in
+      let h : Given (eofAt (length doc) (c .line)) (cursorOf (length doc) (c .line) true) ≡ Given r d =
+      sym (step-eof doc (s .few) (c .line) (omega (arith, s .near))) ∙ (here ∙ e) in
+      let x : cursorOf (length doc) (c .line) true ≡ d = cc in
+      subst (Going doc) x (over refl refl)
+
+going : (doc : List ℕ) (c : Cursor) → Reached doc c → Going doc c
+going doc c (start e) = subst (Going doc) (start-is doc c e) (on refl (start-fits doc) (all-listed doc))
+going doc d (next {c} {r = r} k e) = elim (going doc c k) [
+  | on f l m ↦ elim (decLt (c .place) (length doc)) [
+    | yes h ↦ went-on doc c r d e f h m
+    | no h ↦ was-over doc c r d e f (omega arith)
+  ]
+  | over f p ↦ no-step-over doc c r d e f p
+]
+
+-- the token at a place is the first of those from there on
+first-listed : (doc : List ℕ) (at line : ℕ) (r : Token) → at ≤ length doc → r ≡ tokenAt at line (drop at doc)
+    → List·Memᴰ r (tokensFrom at line (drop at doc))
+first-listed doc at line r l e = elim (decLt at (length doc)) [
+  | yes h ↦ subst (List·Memᴰ r) (sym (tokens-step doc at line h)) (List·Memᴰ·head e)
+  | no h ↦
+      let z : drop at doc ≡ [] = drop-of-length-le doc {i = at} (omega arith) in
+      let eof : r ≡ eofAt at line = e ∙ (ap (tokenAt at line) z ∙ sym (eof-is at line)) in
+      subst (List·Memᴰ r) (sym (tokens-end doc at line (omega arith))) (List·Memᴰ·head eof)
+]
+
+pub reached-listed : (doc : List ℕ) (c : Cursor) → Reached doc c → (r : Token) (d : Cursor) → stepOf doc c ≡ Given r d
+    → List·Memᴰ r (tokensOf doc)
+reached-listed doc c k r d e = elim (going doc c k) [
+  | on f l m ↦ m r (first-listed doc (c .place) (c .line) r l (step-gave doc c r d e .is))
+  | over f p ↦ no-step-over doc c r d e f p
+]

@@ -1,0 +1,184 @@
+/* TOML tokens and strings: the functions of libgaloxumi.a (`rt staticlib galoxumi`).
+ *
+ * Every function returns, for all arguments, and reads and writes only what it is lent: that is proved.
+ * The caller's part: a pointer stands for as many elements as the length behind it says, it is not null
+ * even where that length is 0, and lent memory does not overlap what is read or lent besides.
+ *
+ * An answer has `refusal`, 0 where the call answered and else the refusal's number; `value`; and `length`, which
+ * is 0 but with refusal 1:
+ *
+ *   refusal  given exactly when                                      value
+ *   0        answered                                                tokens, bytes, or 0: see the call
+ *   1        the bytes are not UTF-8                                 length of the longest valid prefix
+ *   2        more than GALOXUMI_LIMIT bytes                              GALOXUMI_LIMIT
+ *   3        fewer token records than tokens, Eof counted            tokens needed
+ *   4        the output is shorter than the decoded bytes            bytes needed
+ *   5        fewer error records than errors                         records needed
+ *   6        a place beyond the document; for a cursor also a line   the document's length
+ *            past its place plus 1; for a span also a start after
+ *            the end, or an end at a byte 80 to BF
+ *   7        a number that is no kind of the call's                  that number
+ *   9        a number that is no edition of TOML                     that number
+ *
+ * With refusal 1 `length` is that of the faulty sequence behind the valid prefix: the bytes, 1 to 3, that begin no
+ * character with what follows them; or 0 where the bytes end inside a character, which further bytes could mend.
+ * It is what Rust's core::str::Utf8Error tells as error_len, with 0 for none.
+ *
+ * A refused call has written nothing, and its other results are 0. Where several refusals fit, the
+ * order beside the call says which is given.
+ */
+#ifndef GALOXUMI_TOML_H
+#define GALOXUMI_TOML_H
+
+#include <stddef.h>
+#include <stdint.h>
+
+#ifdef __cplusplus
+extern "C" {
+#endif
+
+#define GALOXUMI_LIMIT ((size_t)16777216)
+
+/* Kinds of token. Those of strings, and GALOXUMI_ATOM for an unquoted key, are the kinds of a decode. */
+enum {
+    GALOXUMI_DOT = 46,
+    GALOXUMI_EQUALS = 61,
+    GALOXUMI_COMMA = 44,
+    GALOXUMI_LEFT_SQUARE_BRACKET = 91,
+    GALOXUMI_RIGHT_SQUARE_BRACKET = 93,
+    GALOXUMI_LEFT_CURLY_BRACKET = 123,
+    GALOXUMI_RIGHT_CURLY_BRACKET = 125,
+    GALOXUMI_WHITESPACE = 32,
+    GALOXUMI_COMMENT = 35,
+    GALOXUMI_NEWLINE = 10,
+    GALOXUMI_LITERAL_STRING = 39,
+    GALOXUMI_BASIC_STRING = 34,
+    GALOXUMI_ML_LITERAL_STRING = 1,
+    GALOXUMI_ML_BASIC_STRING = 2,
+    GALOXUMI_ATOM = 3,
+    GALOXUMI_EOF = 4
+};
+
+/* Which refusal, 0 for none, the number returned with it, and with refusal 1 the faulty sequence's length. */
+typedef struct {
+    size_t refusal;
+    size_t value;
+    size_t length;
+} galoxumi_answer;
+
+/* Where the next token begins, whether Eof was given (0 or 1), and the line of that place, from 1 on. */
+typedef struct {
+    size_t place;
+    size_t ended;
+    size_t line;
+} galoxumi_cursor;
+
+typedef struct {
+    size_t kind;
+    size_t start;
+    size_t end;  /* the place behind it */
+    size_t line; /* that of its first byte: 1 plus the LFs before it */
+} galoxumi_token;
+
+/* Whether all of doc is UTF-8. Refusals 2, 1; value 0 where it is. */
+galoxumi_answer galoxumi_check_utf8(const uint8_t *doc, size_t doc_len);
+
+/* The starting cursor: past a byte order mark, not ended, on line 1. Refusal 2, with a cursor of zeros. */
+typedef struct {
+    galoxumi_answer answer;
+    galoxumi_cursor cursor;
+} galoxumi_started;
+
+galoxumi_started galoxumi_start(const uint8_t *doc, size_t doc_len);
+
+/* One token at a cursor, which may be made by hand; ended is 0, or anything else for an ended one. The line is the
+ * token's, right or wrong, and the next cursor's is counted on from it.
+ * given is 1 for a token, with the next cursor; 0 at the end, where an ended cursor stands at the document's
+ * end, and all behind it is 0 then. A byte order mark is not skipped, and UTF-8 is not tested. Refusals 2, 6. */
+typedef struct {
+    galoxumi_answer answer;
+    size_t given;
+    galoxumi_token token;
+    galoxumi_cursor cursor;
+} galoxumi_stepped;
+
+galoxumi_stepped galoxumi_step(const uint8_t *doc, size_t doc_len, size_t place, size_t ended,
+                       size_t line);
+
+/* All tokens, Eof last, each as kind, start, end, line, into the lent records from the front; records behind
+ * them keep their contents. value is the tokens. Refusals 2, 1, 3. With more records than the document
+ * has bytes nothing is counted first. */
+galoxumi_answer galoxumi_lex(const uint8_t *doc, size_t doc_len, size_t (*records)[4], size_t records_len);
+
+/* Whether start..end lies in the document and neither end is inside a character. Refusals 2, 6. */
+galoxumi_answer galoxumi_check_span(const uint8_t *doc, size_t doc_len, size_t start, size_t end);
+
+/* The text of a span, as its start and length in doc; 0 and 0 where galoxumi_check_span refuses it. */
+typedef struct {
+    size_t start;
+    size_t length;
+} galoxumi_part;
+
+galoxumi_part galoxumi_text(const uint8_t *doc, size_t doc_len, size_t start, size_t end);
+
+/* Line (1 plus the LFs before the offset) and column (1 plus the characters that begin on that line before the
+ * offset: each byte but 80 to BF, and not a byte order mark at byte 0). UTF-8 is not tested. Refusals 2, 6. */
+typedef struct {
+    galoxumi_answer answer;
+    size_t line;
+    size_t column;
+} galoxumi_positioned;
+
+galoxumi_positioned galoxumi_position(const uint8_t *doc, size_t doc_len, size_t offset);
+
+/* The bytes of a text of a kind (39, 34, 1, 2, or 3 for a key) into output from its front, and its errors,
+ * each as number, start, end, into the lent records from the front; the rest keeps its contents. value is
+ * the bytes, errors the errors. Refusals 2, 1, 7, 4, 5. With an output of three halves of the text's length
+ * and two records more than it has bytes nothing is counted first. Errors:
+ *
+ *   1, 3, 6, 11  a quote mark is missing: literal, multi-line literal, basic, multi-line basic
+ *   2, 5         a byte is not allowed: literal, multi-line literal
+ *   4            a CR without LF in a multi-line string
+ *   7, 12        bytes are not allowed: basic, multi-line basic
+ *   8            the escaped value is missing
+ *   9            too few hex digits
+ *   10           not a Unicode scalar value
+ *   13           a line-ending backslash without its newline
+ *   14, 15       a key is empty; a byte is not allowed in a key */
+typedef struct {
+    galoxumi_answer answer;
+    size_t errors;
+} galoxumi_decoded;
+
+galoxumi_decoded galoxumi_decode(const uint8_t *text, size_t text_len, size_t kind, uint8_t *output, size_t output_len,
+                         size_t (*errors)[3], size_t errors_len);
+
+/* The same in the edition of TOML that a number names, 10 for TOML 1.0 or 11 for TOML 1.1; galoxumi_decode reads 10.
+ * Edition 11 adds \e (U+001B) and \x with two hex digits (U+0000 to U+00FF) to the basic kinds: error 8 where the
+ * escape is neither those nor 1.0's, and 9 for an \x with fewer digits. Refusals 2, 1, 7, 9, 4, 5. */
+galoxumi_decoded galoxumi_decode_in(const uint8_t *text, size_t text_len, size_t edition, size_t kind, uint8_t *output,
+                            size_t output_len, size_t (*errors)[3], size_t errors_len);
+
+/* The words for a kind: their length, and the words with zeros behind; all zero where refused. Refusal 7. */
+typedef struct {
+    galoxumi_answer answer;
+    size_t length;
+    uint8_t bytes[25];
+} galoxumi_described;
+
+galoxumi_described galoxumi_description(size_t kind);
+
+/* The kind that a decode takes for a token of this kind: the same for the four string kinds, else 0.
+ * Refusal 7. */
+typedef struct {
+    galoxumi_answer answer;
+    size_t encoding;
+} galoxumi_encoded;
+
+galoxumi_encoded galoxumi_encoding(size_t kind);
+
+#ifdef __cplusplus
+}
+#endif
+
+#endif
