@@ -2,7 +2,7 @@
 // says what that is, and `forms` promises what it comes to.
 ghost use Prim.Native.Nat.{_≤_};
 use answers_asking::Call;
-use answers_spelling::Answer;
+use answers_spelling::Reply;
 use lexer::Cursor;
 use lexer_place::Position;
 use lexer_token::Span;
@@ -15,7 +15,7 @@ pub(crate) fn make(
     bytes: &mut [u8],
     errors: &mut [[usize; 3]],
     tokens: &mut [[usize; 4]],
-) -> Answer {
+) -> Reply {
     match call {
         Call::Lex => lex(doc, tokens),
         Call::LexLine => lexline(doc, tokens),
@@ -30,7 +30,7 @@ pub(crate) fn make(
 }
 
 // The calls that are lent nothing to write to.
-fn make_plain(call: Call, numbers: [usize; 3], doc: &[u8]) -> Answer {
+fn make_plain(call: Call, numbers: [usize; 3], doc: &[u8]) -> Reply {
     match call {
         Call::Utf8 => utf8(doc),
         Call::Fault => fault(doc),
@@ -42,15 +42,15 @@ fn make_plain(call: Call, numbers: [usize; 3], doc: &[u8]) -> Answer {
     }
 }
 
-fn lex(doc: &[u8], tokens: &mut [[usize; 4]]) -> Answer {
+fn lex(doc: &[u8], tokens: &mut [[usize; 4]]) -> Reply {
     answers_forms::tokens(lexer::lex(doc, tokens))
 }
 
-fn lexline(doc: &[u8], tokens: &mut [[usize; 4]]) -> Answer {
+fn lexline(doc: &[u8], tokens: &mut [[usize; 4]]) -> Reply {
     answers_forms::token_lines(lexer::lex(doc, tokens))
 }
 
-fn lexcap(numbers: [usize; 3], doc: &[u8], tokens: &mut [[usize; 4]]) -> Answer {
+fn lexcap(numbers: [usize; 3], doc: &[u8], tokens: &mut [[usize; 4]]) -> Reply {
     let lent = least(numbers[0], tokens.len());
     answers_forms::token_count(lexer::lex(doc, &mut tokens[..lent]))
 }
@@ -62,43 +62,43 @@ fn least(asked: usize, there: usize) -> usize
     if asked < there { asked } else { there }
 }
 
-fn dec(numbers: [usize; 3], doc: &[u8], bytes: &mut [u8], errors: &mut [[usize; 3]]) -> Answer {
+fn dec(numbers: [usize; 3], doc: &[u8], bytes: &mut [u8], errors: &mut [[usize; 3]]) -> Reply {
     answers_forms::decoded(decoder::decode(doc, numbers[0], bytes, errors))
 }
 
 // The numbers are the edition's and the kind's.
-fn decin(numbers: [usize; 3], doc: &[u8], bytes: &mut [u8], errors: &mut [[usize; 3]]) -> Answer {
+fn decin(numbers: [usize; 3], doc: &[u8], bytes: &mut [u8], errors: &mut [[usize; 3]]) -> Reply {
     let decoded = decoder::decode_in(doc, numbers[0], numbers[1], bytes, errors);
     answers_forms::decoded(decoded)
 }
 
 // The numbers are the kind, the bytes of output and the records lent.
-fn deccap(numbers: [usize; 3], doc: &[u8], bytes: &mut [u8], errors: &mut [[usize; 3]]) -> Answer {
+fn deccap(numbers: [usize; 3], doc: &[u8], bytes: &mut [u8], errors: &mut [[usize; 3]]) -> Reply {
     let output = least(numbers[1], bytes.len());
     let lent = least(numbers[2], errors.len());
     let decoded = decoder::decode(doc, numbers[0], &mut bytes[..output], &mut errors[..lent]);
     answers_forms::decoded_count(decoded)
 }
 
-fn utf8(doc: &[u8]) -> Answer {
+fn utf8(doc: &[u8]) -> Reply {
     answers_forms::checked(text::check_utf8(doc))
 }
 
-fn fault(doc: &[u8]) -> Answer {
+fn fault(doc: &[u8]) -> Reply {
     answers_forms::faulted(text::check_utf8(doc))
 }
 
-fn start(doc: &[u8]) -> Answer {
+fn start(doc: &[u8]) -> Reply {
     answers_forms::started(Cursor::start(doc))
 }
 
-fn step(numbers: [usize; 3], doc: &[u8]) -> Answer {
+fn step(numbers: [usize; 3], doc: &[u8]) -> Reply {
     let place = numbers[0];
     let cursor = cursor_of(place, numbers[1], line_at(doc, place));
     answers_forms::stepped(cursor.step(doc))
 }
 
-fn stepline(numbers: [usize; 3], doc: &[u8]) -> Answer {
+fn stepline(numbers: [usize; 3], doc: &[u8]) -> Reply {
     let cursor = cursor_of(numbers[0], numbers[1], numbers[2]);
     answers_forms::stepped_line(cursor.step(doc))
 }
@@ -119,7 +119,7 @@ fn line_at(doc: &[u8], place: usize) -> usize {
     }
 }
 
-fn span(numbers: [usize; 3], doc: &[u8]) -> Answer {
+fn span(numbers: [usize; 3], doc: &[u8]) -> Reply {
     answers_forms::span_checked(lexer_place::check_span(doc, span_of(numbers)))
 }
 
@@ -127,17 +127,17 @@ fn span_of(numbers: [usize; 3]) -> Span {
     Span::new(numbers[0], numbers[1])
 }
 
-fn text_of_span(numbers: [usize; 3], doc: &[u8], bytes: &mut [u8]) -> Answer {
+fn text_of_span(numbers: [usize; 3], doc: &[u8], bytes: &mut [u8]) -> Reply {
     let part = lexer_place::text_of(doc, span_of(numbers));
     answers_forms::hex(copy(part, bytes))
 }
 
-fn pos(numbers: [usize; 3], doc: &[u8]) -> Answer {
+fn pos(numbers: [usize; 3], doc: &[u8]) -> Reply {
     answers_forms::positioned(lexer_place::position_of(doc, numbers[0]))
 }
 
 // The description, all 25 bytes of it, and the encoding.
-fn desc(numbers: [usize; 3], bytes: &mut [u8]) -> Answer {
+fn desc(numbers: [usize; 3], bytes: &mut [u8]) -> Reply {
     let kind = numbers[0];
     let description = TokenKind::description(kind);
     let text = description.bytes;

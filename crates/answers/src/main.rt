@@ -6,12 +6,12 @@ mod calls;
 
 ghost use Prim.Native.Nat.{_≤_};
 ghost use lib.ListN.{length};
-use answers_asking::Fault;
+use answers_asking::LineFault;
 use answers_asking::OUTPUT;
 use answers_asking::RECORDS;
 use answers_asking::Reading;
 use answers_asking::Request;
-use answers_spelling::Answer;
+use answers_spelling::Reply;
 
 fn main() {
     let mut input = [0u8; 65536];
@@ -67,7 +67,7 @@ fn answer_to(
     bytes: &mut [u8],
     errors: &mut [[usize; 3]],
     tokens: &mut [[usize; 4]],
-) -> Answer
+) -> Reply
     requires { ⌜ request .len ≤ length (now line) ⌝ }
 {
     let len = request.len;
@@ -75,7 +75,7 @@ fn answer_to(
     let fault = asked.fault;
     let call = asked.call;
     let numbers = asked.numbers;
-    if let Fault::Nothing = fault {
+    if let LineFault::Nothing = fault {
         return calls::make(call, numbers, &line[..len], bytes, errors, tokens);
     }
     answers_forms::fault(fault)

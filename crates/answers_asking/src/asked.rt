@@ -38,7 +38,7 @@ pub enum Call {
 }
 
 // Whether the line is a call, and if not, why.
-pub enum Fault {
+pub enum LineFault {
     Nothing,
     // the input's end
     NoLine,
@@ -54,8 +54,8 @@ pub enum Fault {
 }
 
 // What was read. The last word spells the document.
-pub struct Asked {
-    pub fault: Fault,
+pub struct Request {
+    pub fault: LineFault,
     pub call: Call,
     pub numbers: [usize; 3],
     pub document: Word,
@@ -68,7 +68,7 @@ struct Numbers {
     last: Word,
 }
 
-pub(crate) fn read(reading: Reading, memory: &[u8]) -> Asked {
+pub(crate) fn read(reading: Reading, memory: &[u8]) -> Request {
     let line = words::front(memory, reading.len);
     let name = words::word_at(line, 0);
     let call = call_of(words::name_key(words::text_of(line, name)));
@@ -76,7 +76,7 @@ pub(crate) fn read(reading: Reading, memory: &[u8]) -> Asked {
     let document = words::word_after(line, numbers.last);
     let in_line = fault_of(line, call, numbers, document);
     let values = numbers.values;
-    Asked {
+    Request {
         fault: first_of(lines::fault_of(reading), in_line),
         call,
         numbers: values,
@@ -155,31 +155,31 @@ fn has_bytes(call: Call) -> bool {
 }
 
 // Why the line is no call: the first that holds of its words, its bytes and its numbers.
-fn fault_of(line: &[u8], call: Call, numbers: Numbers, document: Word) -> Fault {
+fn fault_of(line: &[u8], call: Call, numbers: Numbers, document: Word) -> LineFault {
     let values = numbers.values;
     let in_words = word_fault(call, words::count(line), numbers.good);
     let in_bytes = byte_fault(call, words::text_of(line, document));
     first_of(in_words, first_of(in_bytes, number_fault(call, values)))
 }
 
-fn first_of(fault: Fault, other: Fault) -> Fault {
-    if let Fault::Nothing = fault {
+fn first_of(fault: LineFault, other: LineFault) -> LineFault {
+    if let LineFault::Nothing = fault {
         return other;
     }
     fault
 }
 
-fn word_fault(call: Call, count: usize, good: bool) -> Fault {
+fn word_fault(call: Call, count: usize, good: bool) -> LineFault {
     if let Call::Unknown = call {
-        return Fault::UnknownCall;
+        return LineFault::UnknownCall;
     }
     if count != words_of(call) {
-        return Fault::WordCount;
+        return LineFault::WordCount;
     }
     if good {
-        return Fault::Nothing;
+        return LineFault::Nothing;
     }
-    Fault::NotNumber
+    LineFault::NotNumber
 }
 
 // The name, the numbers and the bytes.
@@ -190,27 +190,27 @@ fn words_of(call: Call) -> usize {
     numbers_of(call) + 1
 }
 
-fn byte_fault(call: Call, text: &[u8]) -> Fault {
+fn byte_fault(call: Call, text: &[u8]) -> LineFault {
     if !has_bytes(call) {
-        return Fault::Nothing;
+        return LineFault::Nothing;
     }
     if DOCUMENT < text.len() / 2 {
-        return Fault::TooLong;
+        return LineFault::TooLong;
     }
     if words::is_hex(text) {
-        return Fault::Nothing;
+        return LineFault::Nothing;
     }
-    Fault::NotHex
+    LineFault::NotHex
 }
 
 // Is a number more than the call can take?
-fn number_fault(call: Call, numbers: [usize; 3]) -> Fault {
+fn number_fault(call: Call, numbers: [usize; 3]) -> LineFault {
     if within(numbers, limits_of(call)) {
-        return Fault::Nothing;
+        return LineFault::Nothing;
     }
     match call {
-        Call::Step | Call::StepLine => Fault::NotFlag,
-        _ => Fault::TooMuch,
+        Call::Step | Call::StepLine => LineFault::NotFlag,
+        _ => LineFault::TooMuch,
     }
 }
 

@@ -4,11 +4,11 @@ mod asked;
 mod lines;
 mod words;
 
-pub use asked::Asked;
 pub use asked::Call;
-pub use asked::Fault;
+pub use asked::LineFault;
 pub use asked::OUTPUT;
 pub use asked::RECORDS;
+pub use asked::Request;
 pub use lines::Reading;
 ghost use Prim.Native.Nat.{_≤_};
 ghost use lib.ListN.{length};
@@ -17,7 +17,7 @@ ghost use lib.ListN.{length};
 // memory, `len` bytes of it.
 pub struct Request {
     pub reading: Reading,
-    pub asked: Asked,
+    pub asked: Request,
     pub len: usize,
 }
 

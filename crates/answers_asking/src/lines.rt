@@ -2,7 +2,7 @@
 // too is answered whole.
 ghost use Prim.Native.Nat.{_+_, _≤_};
 ghost use lib.ListN.{length};
-use crate::asked::Fault;
+use crate::asked::LineFault;
 use crate::words;
 use crate::words::Word;
 use libc::STDIN_FILENO;
@@ -109,7 +109,7 @@ fn copy(part: &[u8], line: &mut [u8], to: usize)
 
 // The line, unless it was written as it came, and what stands between it and its answer.
 fn echo(reading: Reading, line: &[u8]) {
-    if let Fault::NoLine = fault_of(reading) {
+    if let LineFault::NoLine = fault_of(reading) {
         return;
     }
     io::write_all(STDOUT_FILENO, words::front(line, reading.len));
@@ -117,12 +117,12 @@ fn echo(reading: Reading, line: &[u8]) {
 }
 
 // The input's end begins no line.
-pub(crate) fn fault_of(reading: Reading) -> Fault {
+pub(crate) fn fault_of(reading: Reading) -> LineFault {
     if reading.len == TOO_LONG {
-        return Fault::TooLong;
+        return LineFault::TooLong;
     }
     if reading.more || 0 < reading.len {
-        return Fault::Nothing;
+        return LineFault::Nothing;
     }
-    Fault::NoLine
+    LineFault::NoLine
 }

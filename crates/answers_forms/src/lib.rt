@@ -6,9 +6,9 @@ ghost use Rattle.answers_forms.specs.Answers.{filledBy, answeredBy, thre
 ghost use Rattle.answers_forms.specs.Answers.{tokensAs, tokenLinesAs, tokenCountAs, decodedAs, decodedCountAs, checkedAs, faultedAs};
 ghost use Rattle.answers_forms.specs.Answers.{spanCheckedAs, startedAs, positionedAs, steppedAs, steppedLineAs, nextAs, nextLineAs};
 ghost use Rattle.answers_forms.specs.Answers.{hexAs, describedAs};
-use answers_asking::Fault;
-use answers_spelling::Answer;
+use answers_asking::LineFault;
 use answers_spelling::Form;
+use answers_spelling::Reply;
 use decoder_rules::Decoded;
 use lexer::Cursor;
 use lexer::Lexed;
@@ -22,44 +22,44 @@ use text::Refusal;
 use text::Utf8Check;
 
 // Two numbers, and zeros behind them.
-fn filled(form: Form, a: usize, b: usize) -> Answer
+fn filled(form: Form, a: usize, b: usize) -> Reply
     ensures { λ r. ⌜ r ≡ filledBy form a b ⌝ }
 {
-    Answer {
+    Reply {
         form,
         numbers: [a, b, 0, 0, 0, 0, 0, 0],
     }
 }
 
 // The same behind 0 and 0.
-fn answered(form: Form, a: usize, b: usize) -> Answer
+fn answered(form: Form, a: usize, b: usize) -> Reply
     ensures { λ r. ⌜ r ≡ answeredBy form a b ⌝ }
 {
-    Answer {
+    Reply {
         form,
         numbers: [0, 0, a, b, 0, 0, 0, 0],
     }
 }
 
 // Three numbers, and zeros behind them.
-fn three(form: Form, a: usize, b: usize, c: usize) -> Answer
+fn three(form: Form, a: usize, b: usize, c: usize) -> Reply
     ensures { λ r. ⌜ r ≡ threeBy form a b c ⌝ }
 {
-    Answer {
+    Reply {
         form,
         numbers: [a, b, c, 0, 0, 0, 0, 0],
     }
 }
 
 // A refused call: the refusal's number, the number returned, and zeros for its other results.
-fn refused(form: Form, why: Refusal) -> Answer
+fn refused(form: Form, why: Refusal) -> Reply
     ensures { λ r. ⌜ r ≡ refusedAs form why ⌝ }
 {
     filled(form, why.number(), why.value())
 }
 
 // The same in a line of its own, where refusal 1 tells the length of the faulty sequence too.
-fn refused_whole(why: Refusal) -> Answer
+fn refused_whole(why: Refusal) -> Reply
     ensures { λ r. ⌜ r ≡ refusedWhole why ⌝ }
 {
     if why.number() == 1 {
@@ -68,7 +68,7 @@ fn refused_whole(why: Refusal) -> Answer
     refused(Form::Refused, why)
 }
 
-pub fn tokens(lexed: Lexed) -> Answer
+pub fn tokens(lexed: Lexed) -> Reply
     ensures { λ r. ⌜ r ≡ tokensAs lexed ⌝ }
 {
     match lexed {
@@ -78,7 +78,7 @@ pub fn tokens(lexed: Lexed) -> Answer
 }
 
 // The same with their lines.
-pub fn token_lines(lexed: Lexed) -> Answer
+pub fn token_lines(lexed: Lexed) -> Reply
     ensures { λ r. ⌜ r ≡ tokenLinesAs lexed ⌝ }
 {
     match lexed {
@@ -88,7 +88,7 @@ pub fn token_lines(lexed: Lexed) -> Answer
 }
 
 // 0 and the count.
-pub fn token_count(lexed: Lexed) -> Answer
+pub fn token_count(lexed: Lexed) -> Reply
     ensures { λ r. ⌜ r ≡ tokenCountAs lexed ⌝ }
 {
     match lexed {
@@ -97,7 +97,7 @@ pub fn token_count(lexed: Lexed) -> Answer
     }
 }
 
-pub fn decoded(result: Decoded) -> Answer
+pub fn decoded(result: Decoded) -> Reply
     ensures { λ r. ⌜ r ≡ decodedAs result ⌝ }
 {
     match result {
@@ -107,7 +107,7 @@ pub fn decoded(result: Decoded) -> Answer
 }
 
 // 0 and both counts.
-pub fn decoded_count(result: Decoded) -> Answer
+pub fn decoded_count(result: Decoded) -> Reply
     ensures { λ r. ⌜ r ≡ decodedCountAs result ⌝ }
 {
     match result {
@@ -116,7 +116,7 @@ pub fn decoded_count(result: Decoded) -> Answer
     }
 }
 
-pub fn checked(check: Utf8Check) -> Answer
+pub fn checked(check: Utf8Check) -> Reply
     ensures { λ r. ⌜ r ≡ checkedAs check ⌝ }
 {
     match check {
@@ -126,7 +126,7 @@ pub fn checked(check: Utf8Check) -> Answer
 }
 
 // What part of a character is broken.
-pub fn faulted(check: Utf8Check) -> Answer
+pub fn faulted(check: Utf8Check) -> Reply
     ensures { λ r. ⌜ r ≡ faultedAs check ⌝ }
 {
     match check {
@@ -135,7 +135,7 @@ pub fn faulted(check: Utf8Check) -> Answer
     }
 }
 
-pub fn span_checked(check: SpanCheck) -> Answer
+pub fn span_checked(check: SpanCheck) -> Reply
     ensures { λ r. ⌜ r ≡ spanCheckedAs check ⌝ }
 {
     match check {
@@ -144,7 +144,7 @@ pub fn span_checked(check: SpanCheck) -> Answer
     }
 }
 
-pub fn started(start: Start) -> Answer
+pub fn started(start: Start) -> Reply
     ensures { λ r. ⌜ r ≡ startedAs start ⌝ }
 {
     match start {
@@ -153,7 +153,7 @@ pub fn started(start: Start) -> Answer
     }
 }
 
-pub fn positioned(position: Position) -> Answer
+pub fn positioned(position: Position) -> Reply
     ensures { λ r. ⌜ r ≡ positionedAs position ⌝ }
 {
     match position {
@@ -162,7 +162,7 @@ pub fn positioned(position: Position) -> Answer
     }
 }
 
-pub fn stepped(step: Step) -> Answer
+pub fn stepped(step: Step) -> Reply
     ensures { λ r. ⌜ r ≡ steppedAs step ⌝ }
 {
     match step {
@@ -173,7 +173,7 @@ pub fn stepped(step: Step) -> Answer
 }
 
 // The same with the lines of the token and of the cursor.
-pub fn stepped_line(step: Step) -> Answer
+pub fn stepped_line(step: Step) -> Reply
     ensures { λ r. ⌜ r ≡ steppedLineAs step ⌝ }
 {
     match step {
@@ -183,11 +183,11 @@ pub fn stepped_line(step: Step) -> Answer
     }
 }
 
-fn token_and_next(token: Token, next: Cursor) -> Answer
+fn token_and_next(token: Token, next: Cursor) -> Reply
     ensures { λ r. ⌜ r ≡ nextAs token next ⌝ }
 {
     let record = token.as_record();
-    Answer {
+    Reply {
         form: Form::Stepped,
         numbers: [
             record[0],
@@ -202,11 +202,11 @@ fn token_and_next(token: Token, next: Cursor) -> Answer
     }
 }
 
-fn lines_and_next(token: Token, next: Cursor) -> Answer
+fn lines_and_next(token: Token, next: Cursor) -> Reply
     ensures { λ r. ⌜ r ≡ nextLineAs token next ⌝ }
 {
     let record = token.as_record();
-    Answer {
+    Reply {
         form: Form::SteppedLine,
         numbers: [
             record[0],
@@ -221,13 +221,13 @@ fn lines_and_next(token: Token, next: Cursor) -> Answer
     }
 }
 
-pub fn hex(count: usize) -> Answer
+pub fn hex(count: usize) -> Reply
     ensures { λ r. ⌜ r ≡ hexAs count ⌝ }
 {
     filled(Form::Hex, count, 0)
 }
 
-pub fn described(answer: Described, len: usize, count: usize, encoding: usize) -> Answer
+pub fn described(answer: Described, len: usize, count: usize, encoding: usize) -> Reply
     ensures { λ r. ⌜ r ≡ describedAs answer len count encoding ⌝ }
 {
     let mut numbers = [0, 0, len, count, encoding, 0, 0, 0];
@@ -235,31 +235,31 @@ pub fn described(answer: Described, len: usize, count: usize, encoding: usize) -
         numbers[0] = why.number();
         numbers[1] = why.value();
     }
-    Answer {
+    Reply {
         form: Form::Described,
         numbers,
     }
 }
 
-pub fn fault(why: Fault) -> Answer
+pub fn fault(why: LineFault) -> Reply
     ensures { λ r. ⌜ r ≡ faultAs why ⌝ }
 {
     filled(fault_form(why), 0, 0)
 }
 
-fn fault_form(why: Fault) -> Form
+fn fault_form(why: LineFault) -> Form
     ensures { λ r. ⌜ r ≡ faultForm why ⌝ }
 {
     match why {
-        Fault::TooLong => Form::TooLong,
-        Fault::UnknownCall => Form::UnknownCall,
-        Fault::WordCount => Form::WordCount,
-        Fault::NotNumber => Form::NotNumber,
-        Fault::NotHex => Form::NotHex,
-        Fault::NotFlag => Form::NotFlag,
-        Fault::TooMuch => Form::TooMuch,
-        Fault::Nothing => Form::Nothing,
-        Fault::NoLine => Form::Nothing,
+        LineFault::TooLong => Form::TooLong,
+        LineFault::UnknownCall => Form::UnknownCall,
+        LineFault::WordCount => Form::WordCount,
+        LineFault::NotNumber => Form::NotNumber,
+        LineFault::NotHex => Form::NotHex,
+        LineFault::NotFlag => Form::NotFlag,
+        LineFault::TooMuch => Form::TooMuch,
+        LineFault::Nothing => Form::Nothing,
+        LineFault::NoLine => Form::Nothing,
     }
 }
 

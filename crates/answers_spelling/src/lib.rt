@@ -31,7 +31,7 @@ pub enum Form {
     Nothing,
 }
 
-pub struct Answer {
+pub struct Reply {
     pub form: Form,
     pub numbers: [usize; 8],
 }

@@ -8,14 +8,14 @@ use Rattle.lexer_place.specs.Spans.{spanAnswer, textChecked, spanText}
 use Rattle.lexer_place.specs.declared.SpanCheck.{SpanCheck}
 use Rattle.lexer_place.specs.declared.SpanCheck.the-variants.{Whole, Refused}
 use Rattle.galoxumi.specs.Numbers.{partOf, partText}
-use Rattle.galoxumi.specs.declared.Part.{Part}
+use Rattle.galoxumi.specs.declared.PartNumbers.{PartNumbers}
 
 part-text : (doc : List ℕ) (start end : ℕ) (s : SpanCheck)
     → partText doc (partOf s start end) ≡ textChecked s doc (spanOf start end)
 part-text doc start end Whole = refl
 part-text doc start end (Refused r) = refl
 
-pub parted : (doc : List ℕ) (start end : ℕ) (r : Part) → r ≡ partOf (spanAnswer doc (spanOf start end)) start end
+pub parted : (doc : List ℕ) (start end : ℕ) (r : PartNumbers) → r ≡ partOf (spanAnswer doc (spanOf start end)) start end
     → (r ≡ partOf (spanAnswer doc (spanOf start end)) start end) × (partText doc r ≡ spanText doc (spanOf start end))
 unfolding spanText
 parted doc start end r e = (e, ap (partText doc) e ∙ part-text doc start end (spanAnswer doc (spanOf start end)))

@@ -6,7 +6,7 @@ use Rattle.text.specs.declared.utf8.Utf8Check.{Utf8Check}
 use Rattle.text.specs.declared.utf8.Utf8Check.the-variants.{Valid, Refused as Broken}
 use Rattle.lexer_token.specs.Told.{answerNumber, answerValue}
 use Rattle.lexer_token.specs.declared.Answer.{Answer}
-use Rattle.lexer_token.specs.declared.Answer.the-variants.{Given as Told, Refused as Untold}
+use Rattle.lexer_token.specs.declared.Answer.the-variants.{Found as Told, Refused as Untold}
 use Rattle.lexer.specs.Steps.{startCursor}
 use Rattle.lexer.specs.Told.{startNumber, startValue, stepNumber, stepValue, lexedNumber, lexedValue, lexedLength}
 use Rattle.lexer.specs.declared.Start.{Start}

@@ -8,95 +8,95 @@ use lib.{Dec.eqb, ListN.length, ListN.take, ListN.drop}
 use Rattle.text.specs.{Refusals.refusalNumber, Refusals.refusalValue, Refusals.refusalLength}
 use Rattle.text.specs.declared.{refusal.Refusal.Refusal, utf8.Utf8Check.Utf8Check, utf8.Utf8Check.the-variants.Valid, utf8.Utf8Check.the-variants.Refused as Broken}
 use Rattle.lexer_token.specs.{KindNumbers.kindNumber}
-use Rattle.lexer_token.specs.declared.{Answer.Answer, Answer.the-variants.Given as Told, Answer.the-variants.Refused as Untold, Description.Description, Encoding.Encoding}
+use Rattle.lexer_token.specs.declared.{Answer.Answer, Answer.the-variants.Found as Told, Answer.the-variants.Refused as Untold, Description.Description, Encoding.Encoding}
 use Rattle.lexer.specs.{Steps.cursorOf, Told.bitOf}
 use Rattle.lexer.specs.declared.{Cursor.Cursor, Start.Start, Start.the-variants.At, Start.the-variants.Refused as Unstarted, Step.Step, Step.the-variants.Token, Step.the-variants.End, Step.the-variants.Refused as Unstepped, Lexed.Lexed, Lexed.the-variants.Tokens, Lexed.the-variants.Refused as Unlexed}
 use Rattle.lexer_place.specs.declared.{SpanCheck.SpanCheck, SpanCheck.the-variants.Whole, SpanCheck.the-variants.Refused as Misplaced, Position.Position, Position.the-variants.At as Placed, Position.the-variants.Refused as Unplaced}
 use Rattle.decoder_rules.specs.{Encodings.choiceBy, Decoding.decodeIn, Decoding.bytesBy, Decoding.errorsBy, Decoding.after}
 use Rattle.decoder_rules.specs.declared.{Decoded.Decoded, Decoded.the-variants.Written, Decoded.the-variants.Refused as Undecoded}
-use Rattle.galoxumi.specs.declared.{Answered.Answered, CursorNumbers.CursorNumbers, Started.Started, Stepped.Stepped, Part.Part, Positioned.Positioned, DecodedText.DecodedText, Described.Described, EncodedKind.EncodedKind}
+use Rattle.galoxumi.specs.declared.{AnswerNumbers.AnswerNumbers, CursorNumbers.CursorNumbers, StartNumbers.StartNumbers, StepNumbers.StepNumbers, PartNumbers.PartNumbers, PositionNumbers.PositionNumbers, DecodeNumbers.DecodeNumbers, DescribedNumbers.DescribedNumbers, EncodedNumbers.EncodedNumbers}
 
 -- a flag is 0 or 1 as an answer (`bitOf`), and anything but 0 says yes as an argument
 abbrev pub flag : ℕ → Bool
 flag n = not (eqb n 0)
 
 -- an answer with its number
-abbrev pub given : ℕ → Answered
-given value = record { refusal = 0; value = value; length = 0 }
+abbrev pub answerOf : ℕ → AnswerNumbers
+answerOf value = record { refusal = 0; value = value; length = 0 }
 
 -- a refusal with its numbers
-abbrev pub refusedBy : Refusal → Answered
+abbrev pub refusedBy : Refusal → AnswerNumbers
 refusedBy r = record { refusal = refusalNumber r; value = refusalValue r; length = refusalLength r }
 
 -- the UTF-8 check
-abbrev pub checkNumbers : Utf8Check → Answered
-checkNumbers Valid = given 0
+abbrev pub checkNumbers : Utf8Check → AnswerNumbers
+checkNumbers Valid = answerOf 0
 checkNumbers (Broken r) = refusedBy r
 
 -- start
 abbrev pub cursorNumbers : Cursor → CursorNumbers
 cursorNumbers c = record { place = c .place; ended = bitOf (c .ended); line = c .line }
 
-abbrev pub startNumbers : Start → Started
-startNumbers (At c) = record { answer = given 0; cursor = cursorNumbers c }
+abbrev pub startNumbers : Start → StartNumbers
+startNumbers (At c) = record { answer = answerOf 0; cursor = cursorNumbers c }
 startNumbers (Unstarted r) = record { answer = refusedBy r; cursor = cursorNumbers (cursorOf 0 0 false) }
 
 -- a step: `given` is 1 with a token, and all behind it zero without one
-abbrev pub noToken : Answered → Stepped
+abbrev pub noToken : AnswerNumbers → StepNumbers
 noToken answer =
     record {
       answer = answer;
-      given = 0;
+      has_token = 0;
       token = record { kind = 0; start = 0; end = 0; line = 0 };
       cursor = cursorNumbers (cursorOf 0 0 false);
     }
 
-abbrev pub stepNumbers : Step → Stepped
+abbrev pub stepNumbers : Step → StepNumbers
 stepNumbers (Token t c) =
     record {
-      answer = given 0;
-      given = 1;
+      answer = answerOf 0;
+      has_token = 1;
       token = record { kind = kindNumber (t .kind); start = t .span .start; end = t .span .end; line = t .line };
       cursor = cursorNumbers c;
     }
-stepNumbers End = noToken (given 0)
+stepNumbers End = noToken (answerOf 0)
 stepNumbers (Unstepped r) = noToken (refusedBy r)
 
 -- whole lexing: the tokens
-abbrev pub lexNumbers : Lexed → Answered
-lexNumbers (Tokens n) = given n
+abbrev pub lexNumbers : Lexed → AnswerNumbers
+lexNumbers (Tokens n) = answerOf n
 lexNumbers (Unlexed r) = refusedBy r
 
 -- the span check
-abbrev pub spanNumbers : SpanCheck → Answered
-spanNumbers Whole = given 0
+abbrev pub spanNumbers : SpanCheck → AnswerNumbers
+spanNumbers Whole = answerOf 0
 spanNumbers (Misplaced r) = refusedBy r
 
 -- the text of a span, by its start and length: 0 and 0 where the check refuses it
-abbrev pub partFrom : ℕ → ℕ → Part
+abbrev pub partFrom : ℕ → ℕ → PartNumbers
 partFrom start end = record { start = start; length = end - start }
 
-abbrev pub partOf : SpanCheck → ℕ → ℕ → Part
+abbrev pub partOf : SpanCheck → ℕ → ℕ → PartNumbers
 partOf Whole start end = partFrom start end
 partOf (Misplaced r) start end = record { start = 0; length = 0 }
 
 -- the bytes of a part
-abbrev pub partText : List ℕ → Part → List ℕ
+abbrev pub partText : List ℕ → PartNumbers → List ℕ
 partText doc p = take (p .length) (drop (p .start) doc)
 
 -- line and column
-abbrev pub positionNumbers : Position → Positioned
-positionNumbers (Placed line column) = record { answer = given 0; line = line; column = column }
+abbrev pub positionNumbers : Position → PositionNumbers
+positionNumbers (Placed line column) = record { answer = answerOf 0; line = line; column = column }
 positionNumbers (Unplaced r) = record { answer = refusedBy r; line = 0; column = 0 }
 
 -- decode: the bytes, and the errors
-abbrev pub decodeNumbers : Decoded → DecodedText
-decodeNumbers (Written bytes errors) = record { answer = given bytes; errors = errors }
+abbrev pub decodeNumbers : Decoded → DecodeNumbers
+decodeNumbers (Written bytes errors) = record { answer = answerOf bytes; errors = errors }
 decodeNumbers (Undecoded r) = record { answer = refusedBy r; errors = 0 }
 
 -- decode a text of an edition and a kind into lent memory that held `output` and `errors`: the answer, and what each of the
 -- two holds afterwards
-abbrev pub decodeAnswer : List ℕ → ℕ → ℕ → List ℕ → List (List ℕ) → DecodedText
+abbrev pub decodeAnswer : List ℕ → ℕ → ℕ → List ℕ → List (List ℕ) → DecodeNumbers
 decodeAnswer text edition kind output errors = decodeNumbers (decodeIn text edition kind (length output) (length errors))
 
 abbrev pub outputAfter : List ℕ → ℕ → ℕ → List ℕ → List (List ℕ) → List ℕ
@@ -108,12 +108,12 @@ errorsAfter text edition kind output errors =
     after (decodeIn text edition kind (length output) (length errors)) (errorsBy (choiceBy edition kind) text) errors
 
 -- description and encoding of a kind
-abbrev pub toldBy : Answer → Answered
-toldBy Told = given 0
+abbrev pub toldBy : Answer → AnswerNumbers
+toldBy Told = answerOf 0
 toldBy (Untold r) = refusedBy r
 
-abbrev pub describedNumbers : Description → Described
+abbrev pub describedNumbers : Description → DescribedNumbers
 describedNumbers d = record { answer = toldBy (d .answer); length = d .len; bytes = d .bytes }
 
-abbrev pub encodedNumbers : Encoding → EncodedKind
+abbrev pub encodedNumbers : Encoding → EncodedNumbers
 encodedNumbers e = record { answer = toldBy (e .answer); encoding = e .number }

@@ -11,7 +11,7 @@ ghost use Rattle.lexer.specs.Told.{bitOf};
 ghost use Rattle.lexer.specs.Whole.{lexAnswer, lexMemory};
 ghost use Rattle.lexer_place.specs.Spans.{spanAnswer, spanText};
 ghost use Rattle.lexer_place.specs.Positions.{positionAnswer};
-ghost use Rattle.galoxumi.specs.Numbers.{flag, given, refusedBy, toldBy, cursorNumbers, noToken, partFrom};
+ghost use Rattle.galoxumi.specs.Numbers.{flag, answerOf, refusedBy, toldBy, cursorNumbers, noToken, partFrom};
 ghost use Rattle.galoxumi.specs.Numbers.{checkNumbers, startNumbers, stepNumbers, lexNumbers, spanNumbers, partOf, partText};
 ghost use Rattle.galoxumi.specs.Numbers.{positionNumbers, decodeNumbers, decodeAnswer, outputAfter, errorsAfter, describedNumbers, encodedNumbers};
 use decoder_rules::Decoded;
@@ -30,7 +30,7 @@ use text::Utf8Check;
 // 0 where the call answered and else its refusal's number, the number returned with it, and the length
 // of the faulty sequence, which only refusal 1 has.
 #[repr(C)]
-pub struct Answered {
+pub struct AnswerNumbers {
     pub refusal: usize,
     pub value: usize,
     pub length: usize,
@@ -45,8 +45,8 @@ pub struct CursorNumbers {
 }
 
 #[repr(C)]
-pub struct Started {
-    pub answer: Answered,
+pub struct StartNumbers {
+    pub answer: AnswerNumbers,
     pub cursor: CursorNumbers,
 }
 
@@ -60,49 +60,49 @@ pub struct TokenNumbers {
 
 // `given` is 1 with a token, and all behind it 0 without one.
 #[repr(C)]
-pub struct Stepped {
-    pub answer: Answered,
-    pub given: usize,
+pub struct StepNumbers {
+    pub answer: AnswerNumbers,
+    pub has_token: usize,
     pub token: TokenNumbers,
     pub cursor: CursorNumbers,
 }
 
 // A part of a document.
 #[repr(C)]
-pub struct Part {
+pub struct PartNumbers {
     pub start: usize,
     pub length: usize,
 }
 
 #[repr(C)]
-pub struct Positioned {
-    pub answer: Answered,
+pub struct PositionNumbers {
+    pub answer: AnswerNumbers,
     pub line: usize,
     pub column: usize,
 }
 
 // The answer's value is the count of bytes.
 #[repr(C)]
-pub struct DecodedText {
-    pub answer: Answered,
+pub struct DecodeNumbers {
+    pub answer: AnswerNumbers,
     pub errors: usize,
 }
 
 #[repr(C)]
-pub struct Described {
-    pub answer: Answered,
+pub struct DescribedNumbers {
+    pub answer: AnswerNumbers,
     pub length: usize,
     pub bytes: [u8; 25],
 }
 
 #[repr(C)]
-pub struct EncodedKind {
-    pub answer: Answered,
+pub struct EncodedNumbers {
+    pub answer: AnswerNumbers,
     pub encoding: usize,
 }
 
 #[no_mangle]
-pub extern "C" fn galoxumi_check_utf8(doc: &[u8]) -> Answered
+pub extern "C" fn galoxumi_check_utf8(doc: &[u8]) -> AnswerNumbers
     ensures { λ r. ⌜ r ≡ checkNumbers (checkOf (now (doc .entry))) ⌝ }
 {
     match text::check_utf8(doc) {
@@ -112,15 +112,15 @@ pub extern "C" fn galoxumi_check_utf8(doc: &[u8]) -> Answered
 }
 
 #[no_mangle]
-pub extern "C" fn galoxumi_start(doc: &[u8]) -> Started
+pub extern "C" fn galoxumi_start(doc: &[u8]) -> StartNumbers
     ensures { λ r. ⌜ r ≡ startNumbers (startAnswer (now (doc .entry))) ⌝ }
 {
     match Cursor::start(doc) {
-        Start::At(cursor) => Started {
+        Start::At(cursor) => StartNumbers {
             answer: answer_of(0),
             cursor: cursor_numbers(cursor.place, cursor.line, cursor.ended),
         },
-        Start::Refused(r) => Started {
+        Start::Refused(r) => StartNumbers {
             answer: refused(r),
             cursor: cursor_numbers(0, 0, false),
         },
@@ -129,7 +129,7 @@ pub extern "C" fn galoxumi_start(doc: &[u8]) -> Started
 
 // The cursor may be made by hand; one is ended if `ended` is not 0.
 #[no_mangle]
-pub extern "C" fn galoxumi_step(doc: &[u8], place: usize, ended: usize, line: usize) -> Stepped
+pub extern "C" fn galoxumi_step(doc: &[u8], place: usize, ended: usize, line: usize) -> StepNumbers
     ensures { λ r. ⌜ r ≡ stepNumbers (stepOf (now (doc .entry)) (cursorOf place line (flag ended))) ⌝ }
 {
     let cursor = Cursor {
@@ -140,9 +140,9 @@ pub extern "C" fn galoxumi_step(doc: &[u8], place: usize, ended: usize, line: us
     match cursor.step(doc) {
         Step::Token(token, next) => {
             let kind = token.kind;
-            Stepped {
+            StepNumbers {
                 answer: answer_of(0),
-                given: 1,
+                has_token: 1,
                 token: TokenNumbers {
                     kind: kind.number(),
                     start: token.span.start,
@@ -158,7 +158,7 @@ pub extern "C" fn galoxumi_step(doc: &[u8], place: usize, ended: usize, line: us
 }
 
 #[no_mangle]
-pub extern "C" fn galoxumi_lex(doc: &[u8], records: &mut [[usize; 4]]) -> Answered
+pub extern "C" fn galoxumi_lex(doc: &[u8], records: &mut [[usize; 4]]) -> AnswerNumbers
     ensures answer { λ r. ⌜ r ≡ lexNumbers (lexAnswer (now (doc .entry)) (length (now (records .entry)))) ⌝ }
     ensures memory { λ _. ⌜ now (records .exit) ≡ lexMemory (now (doc .entry)) (now (records .entry)) ⌝ }
 {
@@ -169,7 +169,7 @@ pub extern "C" fn galoxumi_lex(doc: &[u8], records: &mut [[usize; 4]]) -> Answer
 }
 
 #[no_mangle]
-pub extern "C" fn galoxumi_check_span(doc: &[u8], start: usize, end: usize) -> Answered
+pub extern "C" fn galoxumi_check_span(doc: &[u8], start: usize, end: usize) -> AnswerNumbers
     ensures { λ r. ⌜ r ≡ spanNumbers (spanAnswer (now (doc .entry)) (spanOf start end)) ⌝ }
 {
     match lexer_place::check_span(doc, Span::new(start, end)) {
@@ -180,13 +180,13 @@ pub extern "C" fn galoxumi_check_span(doc: &[u8], start: usize, end: usize) -> A
 
 // The text of a span is told by its start and length: no reference is handed out.
 #[no_mangle]
-pub extern "C" fn galoxumi_text(doc: &[u8], start: usize, end: usize) -> Part
+pub extern "C" fn galoxumi_text(doc: &[u8], start: usize, end: usize) -> PartNumbers
     ensures answer { λ r. ⌜ r ≡ partOf (spanAnswer (now (doc .entry)) (spanOf start end)) start end ⌝ }
     ensures text { λ r. ⌜ partText (now (doc .entry)) r ≡ spanText (now (doc .entry)) (spanOf start end) ⌝ }
 {
     match lexer_place::check_span(doc, Span::new(start, end)) {
         SpanCheck::Whole => part_from(start, end),
-        SpanCheck::Refused(_) => Part {
+        SpanCheck::Refused(_) => PartNumbers {
             start: 0,
             length: 0,
         },
@@ -194,16 +194,16 @@ pub extern "C" fn galoxumi_text(doc: &[u8], start: usize, end: usize) -> Part
 }
 
 #[no_mangle]
-pub extern "C" fn galoxumi_position(doc: &[u8], offset: usize) -> Positioned
+pub extern "C" fn galoxumi_position(doc: &[u8], offset: usize) -> PositionNumbers
     ensures { λ r. ⌜ r ≡ positionNumbers (positionAnswer (now (doc .entry)) offset) ⌝ }
 {
     match lexer_place::position_of(doc, offset) {
-        Position::At { line, column } => Positioned {
+        Position::At { line, column } => PositionNumbers {
             answer: answer_of(0),
             line,
             column,
         },
-        Position::Refused(r) => Positioned {
+        Position::Refused(r) => PositionNumbers {
             answer: refused(r),
             line: 0,
             column: 0,
@@ -217,7 +217,7 @@ pub extern "C" fn galoxumi_decode(
     kind: usize,
     output: &mut [u8],
     errors: &mut [[usize; 3]],
-) -> DecodedText
+) -> DecodeNumbers
     ensures answer { λ r. ⌜ r ≡ decodeAnswer (now (text .entry)) 10 kind (now (output .entry)) (now (errors .entry)) ⌝ }
     ensures bytes { λ _. ⌜ now (output .exit)
         ≡ outputAfter (now (text .entry)) 10 kind (now (output .entry)) (now (errors .entry)) ⌝ }
@@ -235,7 +235,7 @@ pub extern "C" fn galoxumi_decode_in(
     kind: usize,
     output: &mut [u8],
     errors: &mut [[usize; 3]],
-) -> DecodedText
+) -> DecodeNumbers
     ensures answer { λ r. ⌜ r ≡ decodeAnswer (now (text .entry)) edition kind (now (output .entry)) (now (errors .entry)) ⌝ }
     ensures bytes { λ _. ⌜ now (output .exit)
         ≡ outputAfter (now (text .entry)) edition kind (now (output .entry)) (now (errors .entry)) ⌝ }
@@ -246,13 +246,13 @@ pub extern "C" fn galoxumi_decode_in(
 }
 
 #[no_mangle]
-pub extern "C" fn galoxumi_description(kind: usize) -> Described
+pub extern "C" fn galoxumi_description(kind: usize) -> DescribedNumbers
     ensures { λ r. ⌜ r ≡ describedNumbers (descriptionOf kind) ⌝ }
 {
     let d = TokenKind::description(kind);
     let answer = d.answer;
     let bytes = d.bytes;
-    Described {
+    DescribedNumbers {
         answer: told(answer),
         length: d.len,
         bytes,
@@ -260,57 +260,57 @@ pub extern "C" fn galoxumi_description(kind: usize) -> Described
 }
 
 #[no_mangle]
-pub extern "C" fn galoxumi_encoding(kind: usize) -> EncodedKind
+pub extern "C" fn galoxumi_encoding(kind: usize) -> EncodedNumbers
     ensures { λ r. ⌜ r ≡ encodedNumbers (encodingOf kind) ⌝ }
 {
     let e = TokenKind::encoding(kind);
     let answer = e.answer;
-    EncodedKind {
+    EncodedNumbers {
         answer: told(answer),
         encoding: e.number,
     }
 }
 
-fn answer_of(value: usize) -> Answered
-    ensures { λ r. ⌜ r ≡ given value ⌝ }
+fn answer_of(value: usize) -> AnswerNumbers
+    ensures { λ r. ⌜ r ≡ answerOf value ⌝ }
 {
-    Answered {
+    AnswerNumbers {
         refusal: 0,
         value,
         length: 0,
     }
 }
 
-fn refused(r: Refusal) -> Answered
+fn refused(r: Refusal) -> AnswerNumbers
     ensures { λ a. ⌜ a ≡ refusedBy r ⌝ }
 {
-    Answered {
+    AnswerNumbers {
         refusal: r.number(),
         value: r.value(),
         length: r.length(),
     }
 }
 
-fn decode_numbers(d: Decoded) -> DecodedText
+fn decode_numbers(d: Decoded) -> DecodeNumbers
     ensures { λ r. ⌜ r ≡ decodeNumbers d ⌝ }
 {
     match d {
-        Decoded::Written { bytes, errors } => DecodedText {
+        Decoded::Written { bytes, errors } => DecodeNumbers {
             answer: answer_of(bytes),
             errors,
         },
-        Decoded::Refused(r) => DecodedText {
+        Decoded::Refused(r) => DecodeNumbers {
             answer: refused(r),
             errors: 0,
         },
     }
 }
 
-fn told(a: Answer) -> Answered
+fn told(a: Answer) -> AnswerNumbers
     ensures { λ r. ⌜ r ≡ toldBy a ⌝ }
 {
     match a {
-        Answer::Given => answer_of(0),
+        Answer::Found => answer_of(0),
         Answer::Refused(r) => refused(r),
     }
 }
@@ -325,12 +325,12 @@ fn cursor_numbers(place: usize, line: usize, ended: bool) -> CursorNumbers
     }
 }
 
-fn no_token(answer: Answered) -> Stepped
+fn no_token(answer: AnswerNumbers) -> StepNumbers
     ensures { λ r. ⌜ r ≡ noToken answer ⌝ }
 {
-    Stepped {
+    StepNumbers {
         answer,
-        given: 0,
+        has_token: 0,
         token: TokenNumbers {
             kind: 0,
             start: 0,
@@ -342,13 +342,13 @@ fn no_token(answer: Answered) -> Stepped
 }
 
 // From a start to an end that is not before it; none where it is.
-fn part_from(start: usize, end: usize) -> Part
+fn part_from(start: usize, end: usize) -> PartNumbers
     ensures { λ r. ⌜ r ≡ partFrom start end ⌝ }
 {
     if end < start {
-        return Part { start, length: 0 };
+        return PartNumbers { start, length: 0 };
     }
-    Part {
+    PartNumbers {
         start,
         length: end - start,
     }

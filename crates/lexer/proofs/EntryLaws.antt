@@ -14,7 +14,7 @@ use Rattle.lexer_scans.specs.Extents.{newlineTail}
 use Rattle.lexer.specs.Lines.{lineFeeds}
 use Rattle.lexer.specs.Table.{extent, tokenLen}
 use Rattle.lexer.specs.Tokens.{tokenBy, tokenAt, lineAfter}
-use Rattle.lexer.specs.Loops.{Stands, entryOf, entryFrom, entryAt}
+use Rattle.lexer.specs.Loops.{TokenStands, entryOf, entryFrom, entryAt}
 use Rattle.lexer.proofs.KindLaws.{KindThere, kind-at, token-there}
 use Rattle.lexer.proofs.LineLaws.{holdsLf, token-no-lf, newline-token}
 
@@ -36,7 +36,7 @@ module _ (k : TokenKind) (doc : List ℕ) (at line : ℕ) (h : at < length doc) 
       entry-feeds 0 line (token-no-lf (drop at doc) (ap holdsLf (kind-at doc at h ∙ there) ∙ f)) (omega arith)
 
   -- behind those that are counted in it
-  pub entry-stands : line ≤ at + 1 → Stands doc t
+  pub entry-stands : line ≤ at + 1 → TokenStands doc t
   entry-stands l = rw here (record { within = h; here = refl; low = l })
 
   pub entry-over : entryOf t (lineAfter (t .line) (drop (t .span .start) doc)) ≡ entryAt at line (drop at doc)

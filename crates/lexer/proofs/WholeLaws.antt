@@ -22,7 +22,7 @@ use Rattle.lexer_token.proofs.KindLaws.{kind-back}
 use Rattle.lexer.specs.Tokens.{tokenAt, eofAt, lineAfter, startOf}
 use Rattle.lexer.specs.Whole.{recordsOf, tokenCount, lexAnswer, lexMemory}
 use Rattle.lexer.specs.Loops.{tokensUntil, linePast, lineUntil, store, recordsOver}
-use Rattle.lexer.specs.declared.Passed.{Passed}
+use Rattle.lexer.specs.declared.TokensPassed.{TokensPassed}
 use Rattle.lexer.specs.declared.Lexed.the-variants.{Tokens, Refused}
 use Rattle.lexer.proofs.TokenLaws.{start-fits}
 use Rattle.lexer.proofs.UntilLaws.{eofOf, tokensBefore, until-one, until-all, until-count, past-step, past-none, past-all, sets-last}
@@ -38,7 +38,7 @@ records-all doc = ap (map recordOf) (until-all doc) ∙ go (tokensBefore doc)
     go (t ∷ ts) = ap (λ (r : List (List ℕ)). recordOf t ∷ r) (go ts)
 
 -- what a run over all tokens before Eof leaves: so many, the line behind them, and their records over the old ones
-pub record AllPassed (doc : List ℕ) (start : ℕ) (out : Passed) (old new : List (List ℕ)) : Type 0 where
+pub record AllPassed (doc : List ℕ) (start : ℕ) (out : TokensPassed) (old new : List (List ℕ)) : Type 0 where
   pub by : start ≡ startOf doc
   pub count : out .count ≡ length (tokensUntil (length doc) start 1 doc)
   pub behind : out .line ≡ lineUntil (length doc) start 1 doc
@@ -50,7 +50,7 @@ counted doc start n by count =
     let same : n ≡ length (tokensBefore doc) = rw by at count in
     omega (arith, until-count doc)
 
-module _ {doc : List ℕ} {start : ℕ} {out : Passed} {old new : List (List ℕ)} (p : AllPassed doc start out old new) where
+module _ {doc : List ℕ} {start : ℕ} {out : TokensPassed} {old new : List (List ℕ)} (p : AllPassed doc start out old new) where
   pub filled-length : length new ≡ length old
   filled-length = ap length (p .stores) ∙ length-sets old 0 (map recordOf (tokensUntil (length doc) start 1 doc))
 

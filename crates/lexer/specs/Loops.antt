@@ -16,12 +16,12 @@ use Rattle.lexer.specs.Lines.{lineFeeds}
 use Rattle.lexer.specs.Tokens.{tokenAt, lineAfter, tokensFrom}
 use Rattle.lexer.specs.Whole.{recordsOf, tokenCount}
 use Rattle.lexer.specs.declared.Entry.{Entry}
-use Rattle.lexer.specs.declared.Passed.{Passed}
+use Rattle.lexer.specs.declared.TokensPassed.{TokensPassed}
 
 -- ---- tokens
 
 -- a token is the one at its place of the document, on a line that does not pass that place plus 1
-pub record Stands (doc : List ℕ) (t : Token) : Type 0 where
+pub record TokenStands (doc : List ℕ) (t : Token) : Type 0 where
   pub within : t .span .start < length doc
   pub here : t ≡ tokenAt (t .span .start) (t .line) (drop (t .span .start) doc)
   pub low : t .line ≤ t .span .start + 1
@@ -59,7 +59,7 @@ abbrev pub lineUntil : ℕ → ℕ → ℕ → List ℕ → ℕ
 lineUntil stop at line doc = linePast doc line (tokensUntil stop at line doc)
 
 -- from a place behind the stop the tokens go on as from the start, those that were passed counted
-pub record GoesOn (doc : List ℕ) (stop start first : ℕ) (out : Passed) : Type 0 where
+pub record GoesOn (doc : List ℕ) (stop start first : ℕ) (out : TokensPassed) : Type 0 where
   pub within : out .place ≤ length doc
   pub far : stop ≤ out .place
   pub low : out .line ≤ out .place + 1

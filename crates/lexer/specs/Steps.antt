@@ -5,7 +5,7 @@ use lib.{ListN.length, ListN.drop, Dec.ltb, Dec.eqb}
 use Rattle.text.specs.{Refusals.limit}
 use Rattle.text.specs.declared.{refusal.Refusal.the-variants.TooLong, refusal.Refusal.the-variants.OutOfPlace}
 use Rattle.lexer.specs.{Table.tokenLen, Tokens.tokenAt, Tokens.eofAt, Tokens.lineAfter, Tokens.startOf}
-use Rattle.lexer.specs.declared.{Cursor.Cursor, Start.Start, Start.the-variants.At, Start.the-variants.Refused as Unstarted, Step.Step, Step.the-variants.Token as Given, Step.the-variants.End, Step.the-variants.Refused}
+use Rattle.lexer.specs.declared.{Cursor.Cursor, Start.Start, Start.the-variants.At, Start.the-variants.Refused as Unstarted, Step.Step, Step.the-variants.Token as Next, Step.the-variants.End, Step.the-variants.Refused}
 
 abbrev pub cursorOf : ℕ → ℕ → Bool → Cursor
 cursorOf place line ended = record { place = place; line = line; ended = ended }
@@ -25,8 +25,8 @@ startCursor (Unstarted r) = cursorOf 0 0 false
 abbrev pub stepWithin : List ℕ → Cursor → Step
 stepWithin doc c =
     cond (eqb (c .place) (length doc))
-    (cond (c .ended) End (Given (eofAt (c .place) (c .line)) (cursorOf (c .place) (c .line) true)))
-    (Given (tokenAt (c .place) (c .line) (drop (c .place) doc))
+    (cond (c .ended) End (Next (eofAt (c .place) (c .line)) (cursorOf (c .place) (c .line) true)))
+    (Next (tokenAt (c .place) (c .line) (drop (c .place) doc))
     (cursorOf (c .place + tokenLen (drop (c .place) doc)) (lineAfter (c .line) (drop (c .place) doc)) (c .ended)))
 
 -- a place beyond the document, or a line that passes the place plus 1, as no line does

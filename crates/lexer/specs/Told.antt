@@ -6,7 +6,7 @@ use mathlib.Core.{Bool.Bool, Bool.true, Bool.false, Bool.cond, List.List}
 use lib.{ListN.length, Dec.ltb, Dec.eqb}
 use Rattle.text.specs.{Refusals.limit, Refusals.refusalNumber, Refusals.refusalValue, Refusals.refusalLength, Utf8Read.validPrefix}
 use Rattle.lexer.specs.{Steps.astray, Whole.tokenCount}
-use Rattle.lexer.specs.declared.{Cursor.Cursor, Start.Start, Start.the-variants.At, Start.the-variants.Refused as Unstarted, Step.Step, Step.the-variants.Token as Given, Step.the-variants.End, Step.the-variants.Refused, Lexed.Lexed, Lexed.the-variants.Tokens, Lexed.the-variants.Refused as Unlexed}
+use Rattle.lexer.specs.declared.{Cursor.Cursor, Start.Start, Start.the-variants.At, Start.the-variants.Refused as Unstarted, Step.Step, Step.the-variants.Token as Next, Step.the-variants.End, Step.the-variants.Refused, Lexed.Lexed, Lexed.the-variants.Tokens, Lexed.the-variants.Refused as Unlexed}
 
 -- whether a cursor is ended, as a number: 1 for yes
 abbrev pub bitOf : Bool → ℕ
@@ -35,12 +35,12 @@ startReturned doc = cond (ltb limit (length doc)) limit 0
 
 -- its number, and the number returned
 abbrev pub stepNumber : Step → ℕ
-stepNumber (Given t c) = 0
+stepNumber (Next t c) = 0
 stepNumber End = 0
 stepNumber (Refused r) = refusalNumber r
 
 abbrev pub stepValue : Step → ℕ
-stepValue (Given t c) = 0
+stepValue (Next t c) = 0
 stepValue End = 0
 stepValue (Refused r) = refusalValue r
 

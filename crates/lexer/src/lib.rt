@@ -13,7 +13,7 @@ ghost use Rattle.lexer.specs.Steps.{cursorOf, startAnswer};
 ghost use Rattle.lexer.specs.Told.{startNumber, startValue, startRefusal, startReturned, stepNumber, stepValue, stepRefusal, stepReturned, lexedNumber, lexedValue, lexedLength, lexRefusal, lexReturned};
 ghost use Rattle.lexer.specs.Steps.{stepOf};
 ghost use Rattle.lexer.specs.Whole.{tokenCount, lexAnswer, lexMemory};
-ghost use Rattle.lexer.specs.Loops.{Stands, GoesOn, Numbered, entryOf, entryFrom, entryAt, tokensUntil, lineUntil, store, recordsOver};
+ghost use Rattle.lexer.specs.Loops.{TokenStands, GoesOn, Numbered, entryOf, entryFrom, entryAt, tokensUntil, lineUntil, store, recordsOver};
 use lexer_token::Record;
 use lexer_token::Span;
 use lexer_token::Token;
@@ -261,7 +261,7 @@ fn kind_of(number: usize) -> TokenKind
 }
 
 // How many tokens were passed, and the place and the line behind them.
-struct Passed {
+struct TokensPassed {
     count: usize,
     place: usize,
     line: usize,
@@ -269,7 +269,13 @@ struct Passed {
 
 // The tokens that begin at `start` or behind it, and before `stop`: how many, each written into its
 // record. The only caller of `process_token`, which is compiled into this loop.
-fn lex_until(doc: &[u8], start: usize, first: usize, stop: usize, records: &mut [Record]) -> Passed
+fn lex_until(
+    doc: &[u8],
+    start: usize,
+    first: usize,
+    stop: usize,
+    records: &mut [Record],
+) -> TokensPassed
     requires { ⌜ (start ≤ length (now doc)) × (stop ≤ length (now doc)) × (first ≤ start + 1) × (length (tokensUntil stop start first (now doc)) ≤ length (now records)) ⌝ }
     ensures count { λ r. ⌜ r .count ≡ length (tokensUntil stop start first (now (doc .entry))) ⌝ }
     ensures line { λ r. ⌜ r .line ≡ lineUntil stop start first (now (doc .entry)) ⌝ }
@@ -287,7 +293,7 @@ fn lex_until(doc: &[u8], start: usize, first: usize, stop: usize, records: &mut 
         line = entry.line;
         at = record[2];
     }
-    Passed {
+    TokensPassed {
         count: n,
         place: at,
         line,
@@ -389,7 +395,7 @@ fn same_line(token: Token) -> Entry
 
 // Of a token that may hold LFs: they are counted.
 fn over_lines(doc: &[u8], token: Token) -> Entry
-    requires { ⌜ Stands (now doc) token ⌝ }
+    requires { ⌜ TokenStands (now doc) token ⌝ }
     ensures { λ r. ⌜ r ≡ entryOf token (lineAfter (token .line) (drop (token .span .start) (now (doc .entry)))) ⌝ }
 {
     entry_of(token, lines::line_after(doc, token))

@@ -4,12 +4,12 @@ ghost use Prim.Native.Nat.{_+_, _-_, _≤_};
 ghost use lib.ListN.{length, take, drop};
 ghost use Rattle.lexer.specs.Lines.{lineFeeds};
 ghost use Rattle.lexer.specs.Tokens.{lineAfter};
-ghost use Rattle.lexer.specs.Loops.{Stands};
+ghost use Rattle.lexer.specs.Loops.{TokenStands};
 use lexer_token::Token;
 
 // The line behind a token: its own, and the LFs in it.
 pub(crate) fn line_after(doc: &[u8], token: Token) -> usize
-    requires { ⌜ Stands (now doc) token ⌝ }
+    requires { ⌜ TokenStands (now doc) token ⌝ }
     ensures { λ r. ⌜ r ≡ lineAfter (token .line) (drop (token .span .start) (now (doc .entry))) ⌝ }
 {
     token.line + line_feeds(doc, token.span.start, token.span.end)

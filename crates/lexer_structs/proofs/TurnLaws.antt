@@ -22,7 +22,7 @@ use Rattle.lexer.specs.Steps.{startAnswer, startCursor, stepOf}
 use Rattle.lexer.specs.Whole.{tokenCount, lexAnswer}
 use Rattle.lexer.specs.declared.Cursor.{Cursor}
 use Rattle.lexer.specs.declared.Step.{Step}
-use Rattle.lexer.specs.declared.Step.the-variants.{Token as Given, End, Refused as Unstepped}
+use Rattle.lexer.specs.declared.Step.the-variants.{Token as Next, End, Refused as Unstepped}
 use Rattle.lexer.specs.declared.Lexed.the-variants.{Refused}
 use Rattle.theorems_tokens.specs.Lexing.{cursorBehind, stepsFrom, Gives}
 use Rattle.theorems_tokens.proofs.Lexing.{steps-whole}
@@ -76,7 +76,7 @@ writes-fit doc old = go (writes doc old)
 -- ---- a step, by its answer
 
 module _ (doc : List ℕ) (c : Cursor) where
-  pub next-given : (t : Token) (d : Cursor) → stepOf doc c ≡ Given t d → record { token = t; cursor = d } ≡ nextOf doc c
+  pub next-given : (t : Token) (d : Cursor) → stepOf doc c ≡ Next t d → record { token = t; cursor = d } ≡ nextOf doc c
   unfolding nextOf
   next-given t d e = rw e
 
@@ -106,12 +106,12 @@ next-cursor doc k =
     go (suc k) c = go k (nextOf doc c .cursor)
 
 head-given : (t : Token) (ts : List Token) (s : Step) (rest : List Step) → Gives (t ∷ ts) (s ∷ rest) → tokenGiven s ≡ t
-head-given t ts (Given u c) rest g = g .0
+head-given t ts (Next u c) rest g = g .0
 head-given t ts End rest g = absurd g
 head-given t ts (Unstepped r) rest g = absurd g
 
 tail-given : (t : Token) (ts : List Token) (s : Step) (rest : List Step) → Gives (t ∷ ts) (s ∷ rest) → Gives ts rest
-tail-given t ts (Given u c) rest g = g .1
+tail-given t ts (Next u c) rest g = g .1
 tail-given t ts End rest g = absurd g
 tail-given t ts (Unstepped r) rest g = absurd g
 

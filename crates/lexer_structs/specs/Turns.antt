@@ -11,11 +11,11 @@ use Rattle.lexer.specs.Tokens.{tokensOf, eofAt}
 use Rattle.lexer.specs.Steps.{startAnswer, startCursor, stepOf}
 use Rattle.lexer.specs.declared.Cursor.{Cursor}
 use Rattle.lexer.specs.declared.Step.{Step}
-use Rattle.lexer.specs.declared.Step.the-variants.{Token as Given, End, Refused as Unstepped}
+use Rattle.lexer.specs.declared.Step.the-variants.{Token as Next, End, Refused as Unstepped}
 use Rattle.lexer.specs.declared.Lexed.{Lexed}
 use Rattle.lexer.specs.declared.Lexed.the-variants.{Tokens, Refused}
 use Rattle.theorems_tokens.specs.Lexing.{cursorBehind}
-use Rattle.lexer_structs.specs.declared.Stepped.{Stepped}
+use Rattle.lexer_structs.specs.declared.Turn.{Turn}
 
 -- the answer where a document is UTF-8, by the tokens needed and the records lent
 abbrev pub roomFor : ℕ → ℕ → Lexed
@@ -28,12 +28,12 @@ writesOf (Refused r) = 0
 
 -- the token of a step; an Eof at place 0 of line 0 where there is none
 abbrev pub tokenGiven : Step → Token
-tokenGiven (Given t c) = t
+tokenGiven (Next t c) = t
 tokenGiven End = eofAt 0 0
 tokenGiven (Unstepped r) = eofAt 0 0
 
 -- a step's token and the cursor behind it
-unfoldable pub nextOf : List ℕ → Cursor → Stepped
+unfoldable pub nextOf : List ℕ → Cursor → Turn
 nextOf doc c = record { token = tokenGiven (stepOf doc c); cursor = cursorBehind c (stepOf doc c) }
 
 -- the cursor k steps behind c, and k steps behind the start

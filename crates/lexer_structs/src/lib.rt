@@ -19,7 +19,7 @@ use lexer_token::TokenKind;
 use text::Refusal;
 
 // A token, and where the next one begins.
-struct Stepped {
+struct Turn {
     token: Token,
     cursor: Cursor,
 }
@@ -108,16 +108,16 @@ fn first(doc: &[u8]) -> Cursor
 }
 
 // One step; where it gives no token, an Eof at place 0 of line 0 and the same cursor.
-fn advance(doc: &[u8], c: Cursor) -> Stepped
+fn advance(doc: &[u8], c: Cursor) -> Turn
     ensures { λ r. ⌜ r ≡ nextOf (now (doc .entry)) c ⌝ }
 {
     match c.step(doc) {
-        Step::Token(token, cursor) => Stepped { token, cursor },
-        Step::End => Stepped {
+        Step::Token(token, cursor) => Turn { token, cursor },
+        Step::End => Turn {
             token: blank(),
             cursor: c,
         },
-        Step::Refused(_) => Stepped {
+        Step::Refused(_) => Turn {
             token: blank(),
             cursor: c,
         },

@@ -16,7 +16,7 @@ use Rattle.lexer_token.specs.declared.KindRead.{KindRead}
 use Rattle.lexer_token.specs.declared.KindRead.the-variants.{Kind, Refused}
 use Rattle.lexer_token.specs.declared.Answer.{Answer}
 use Rattle.lexer_token.specs.declared.Description.{Description}
-use Rattle.lexer_token.specs.declared.Encoding.{Encoding}
+use Rattle.lexer_token.specs.declared.KindEncoding.{Encoding}
 
 -- what is read off a kind and off a refusal is read off what a number is read as
 read-among : (f : KindRead → ℕ) (n v : ℕ) → ((k : TokenKind) → f (Kind k) ≡ 0) → f (Refused (NoKind n)) ≡ v

@@ -5,7 +5,7 @@ use Prim.Native.String.{String, [] as none, _∷_ as _then_}
 use mathlib.Core.{List.List, List.[], List._∷_, List._++_}
 use lib.{ListN.length, ListN.replicate}
 use Rattle.lexer_token.specs.{KindNumbers.kindOfNumber}
-use Rattle.lexer_token.specs.declared.{TokenKind.TokenKind, KindRead.KindRead, KindRead.the-variants.Kind, KindRead.the-variants.Refused as Unread, Answer.the-variants.Given, Answer.the-variants.Refused, Description.Description}
+use Rattle.lexer_token.specs.declared.{TokenKind.TokenKind, KindRead.KindRead, KindRead.the-variants.Kind, KindRead.the-variants.Refused as Unread, Answer.the-variants.Found, Answer.the-variants.Refused, Description.Description}
 use Rattle.lexer_token.specs.declared.TokenKind.the-variants.{Dot, Equals, Comma, LeftSquareBracket, RightSquareBracket, LeftCurlyBracket, RightCurlyBracket, Whitespace, Comment, Newline, LiteralString, BasicString, MlLiteralString, MlBasicString, Atom, Eof}
 
 -- the code points of a text, which are its bytes where it is ASCII
@@ -34,7 +34,7 @@ kindText Eof = codes "end-of-input"
 
 -- words in a run of 25 bytes, zeros behind them
 abbrev pub describedBy : List ℕ → Description
-describedBy text = record { answer = Given; len = length text; bytes = text ++ replicate (25 - length text) 0 }
+describedBy text = record { answer = Found; len = length text; bytes = text ++ replicate (25 - length text) 0 }
 
 abbrev pub descriptionBy : KindRead → Description
 descriptionBy (Kind k) = describedBy (kindText k)

@@ -6,7 +6,7 @@ use Prim.Native.Nat.{ℕ}
 use mathlib.Core.{Bool.Bool, Bool.true, Bool.false, Bool.cond}
 use Rattle.text.specs.{Refusals.refusalNumber, Refusals.refusalValue}
 use Rattle.lexer_token.specs.{KindNumbers.kindOfNumber}
-use Rattle.lexer_token.specs.declared.{KindRead.KindRead, KindRead.the-variants.Kind, KindRead.the-variants.Refused as Unread, Answer.Answer, Answer.the-variants.Given, Answer.the-variants.Refused}
+use Rattle.lexer_token.specs.declared.{KindRead.KindRead, KindRead.the-variants.Kind, KindRead.the-variants.Refused as Unread, Answer.Answer, Answer.the-variants.Found, Answer.the-variants.Refused}
 
 -- the number with which a reading is answered, 0 or the refusal's, and the number returned
 abbrev pub kindReadNumber : KindRead → ℕ
@@ -19,11 +19,11 @@ kindReadValue (Unread r) = refusalValue r
 
 -- the same of an answer
 abbrev pub answerNumber : Answer → ℕ
-answerNumber Given = 0
+answerNumber Found = 0
 answerNumber (Refused r) = refusalNumber r
 
 abbrev pub answerValue : Answer → ℕ
-answerValue Given = 0
+answerValue Found = 0
 answerValue (Refused r) = refusalValue r
 
 -- the numbers that are a kind's

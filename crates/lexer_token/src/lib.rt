@@ -94,7 +94,7 @@ pub enum KindRead {
 
 // Whether a call answered, where its values stand beside this.
 pub enum Answer {
-    Given,
+    Found,
     Refused(Refusal),
 }
 
@@ -106,7 +106,7 @@ pub struct Description {
 }
 
 // The number that a decoder takes for a kind: 0 for a kind that is no string, and where refused.
-pub struct Encoding {
+pub struct KindEncoding {
     pub answer: Answer,
     pub number: usize,
 }
@@ -235,17 +235,17 @@ impl TokenKind {
     }
 
     // The encoding of the kind that has a number.
-    pub fn encoding(number: usize) -> Encoding
+    pub fn encoding(number: usize) -> KindEncoding
         ensures answer { λ r. ⌜ r ≡ encodingOf number ⌝ }
         ensures number { λ r. ⌜ answerNumber (r .answer) ≡ kindRefusal number ⌝ }
         ensures value { λ r. ⌜ answerValue (r .answer) ≡ kindReturned number ⌝ }
     {
         match TokenKind::from_number(number) {
-            KindRead::Kind(kind) => Encoding {
-                answer: Answer::Given,
+            KindRead::Kind(kind) => KindEncoding {
+                answer: Answer::Found,
                 number: kind.encoded(),
             },
-            KindRead::Refused(refusal) => Encoding {
+            KindRead::Refused(refusal) => KindEncoding {
                 answer: Answer::Refused(refusal),
                 number: 0,
             },
@@ -288,7 +288,7 @@ fn described_by(text: &[u8]) -> Description
         i += 1;
     }
     Description {
-        answer: Answer::Given,
+        answer: Answer::Found,
         len: text.len(),
         bytes,
     }

@@ -1,4 +1,4 @@
--- The promise of this crate admits one answer only: there is but one thing to return.
+-- The promises of this crate admit one answer only: there is but one thing to return.
 -- Assumes nothing.
 use mathlib.Core.Path.{sym, _∙_}
 use Rattle.text_classes.proofs.OneAnswer.{OneAnswer}
@@ -6,3 +6,6 @@ use Rattle.lister_listing.proofs as promised
 
 pub list-input : OneAnswer promised.list_input.Reads.Learnt
 list-input κs a x y s t p q = p ∙ sym q
+
+pub list : OneAnswer promised.list.Reads.Learnt
+list κs a x y s t p q = p ∙ sym q

@@ -18,7 +18,7 @@ const ROOM: usize = 16384;
 
 const LINE: usize = 84;
 
-// Lists standard input. It returns: of what is read and written no contract can speak.
+// Lists standard input. Its promise is that it returns: no contract can speak of what is read and written.
 pub fn list_input()
     ensures { λ r. ⌜ r ≡ tt ⌝ }
 {
@@ -28,7 +28,10 @@ pub fn list_input()
     list(&doc[..n]);
 }
 
-fn list(doc: &[u8]) {
+// Lists a document.
+pub fn list(doc: &[u8])
+    ensures { λ r. ⌜ r ≡ tt ⌝ }
+{
     if MOST < doc.len() {
         print_refused(2, MOST, 0);
         return;

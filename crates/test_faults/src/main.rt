@@ -7,7 +7,7 @@ use libc::STDOUT_FILENO;
 use text::Utf8Check;
 
 // The bytes in front of the one that varies: the first n, one to three.
-struct Front {
+struct Varied {
     n: usize,
     a: u8,
     b: u8,
@@ -15,7 +15,7 @@ struct Front {
 }
 
 // What the check says of a text.
-struct Answer {
+struct Told {
     ok: bool,
     valid: usize,
     length: usize,
@@ -38,19 +38,19 @@ fn faults(a: u8) {
     print(checked(&[a, b'x']));
     io::write_all(STDOUT_FILENO, b"\n");
     let b = lowest(a);
-    varied(Front {
+    varied(Varied {
         n: 1,
         a,
         b,
         c: 0x80,
     });
-    varied(Front {
+    varied(Varied {
         n: 2,
         a,
         b,
         c: 0x80,
     });
-    varied(Front {
+    varied(Varied {
         n: 3,
         a,
         b,
@@ -68,7 +68,7 @@ fn lowest(a: u8) -> u8 {
 }
 
 // Every byte behind those: the text ends there, and then an ASCII byte follows.
-fn varied(f: Front) {
+fn varied(f: Varied) {
     bytes(f);
     io::write_all(STDOUT_FILENO, b"..");
     runs(f, false);
@@ -77,7 +77,7 @@ fn varied(f: Front) {
     runs(f, true);
 }
 
-fn bytes(f: Front) {
+fn bytes(f: Varied) {
     let n = f.n;
     hex(f.a);
     io::write_all(STDOUT_FILENO, b" ");
@@ -92,7 +92,7 @@ fn bytes(f: Front) {
 }
 
 // Runs of bytes with one answer, a word for each.
-fn runs(f: Front, followed: bool) {
+fn runs(f: Varied, followed: bool) {
     let mut first: usize = 0;
     let mut b: usize = 0;
     while b < 256 {
@@ -107,7 +107,7 @@ fn runs(f: Front, followed: bool) {
     io::write_all(STDOUT_FILENO, b"\n");
 }
 
-fn answer_to(f: Front, v: usize, followed: bool) -> Answer {
+fn answer_to(f: Varied, v: usize, followed: bool) -> Told {
     let b = (v % 256) as u8;
     if followed {
         return followed_by(f, b);
@@ -116,7 +116,7 @@ fn answer_to(f: Front, v: usize, followed: bool) -> Answer {
 }
 
 // The text ends with the byte v.
-fn ended_by(f: Front, v: u8) -> Answer {
+fn ended_by(f: Varied, v: u8) -> Told {
     let n = f.n;
     match n {
         1 => checked(&[f.a, v]),
@@ -126,7 +126,7 @@ fn ended_by(f: Front, v: u8) -> Answer {
 }
 
 // An ASCII byte stands behind it.
-fn followed_by(f: Front, v: u8) -> Answer {
+fn followed_by(f: Varied, v: u8) -> Told {
     let n = f.n;
     match n {
         1 => checked(&[f.a, v, b'x']),
@@ -135,7 +135,7 @@ fn followed_by(f: Front, v: u8) -> Answer {
     }
 }
 
-fn is_same(x: Answer, y: Answer) -> bool {
+fn is_same(x: Told, y: Told) -> bool {
     if x.ok {
         return y.ok;
     }
@@ -145,14 +145,14 @@ fn is_same(x: Answer, y: Answer) -> bool {
     x.valid == y.valid && x.length == y.length
 }
 
-fn checked(s: &[u8]) -> Answer {
+fn checked(s: &[u8]) -> Told {
     match text::check_utf8(s) {
-        Utf8Check::Valid => Answer {
+        Utf8Check::Valid => Told {
             ok: true,
             valid: 0,
             length: 0,
         },
-        Utf8Check::Refused(r) => Answer {
+        Utf8Check::Refused(r) => Told {
             ok: false,
             valid: r.value(),
             length: r.length(),
@@ -168,7 +168,7 @@ fn run(first: usize, last: usize) {
     io::write_all(STDOUT_FILENO, b" ");
 }
 
-fn print(a: Answer) {
+fn print(a: Told) {
     if a.ok {
         io::write_all(STDOUT_FILENO, b"ok");
         return;

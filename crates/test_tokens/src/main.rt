@@ -124,7 +124,7 @@ fn position(doc: &[u8], offset: usize) {
 
 fn answered(a: Answer) {
     match a {
-        Answer::Given => say(b"given\n"),
+        Answer::Found => say(b"given\n"),
         Answer::Refused(r) => refused(r),
     }
 }

@@ -21,7 +21,7 @@ use Rattle.text.specs.Lead.{leadOf, Among, Begun, BegunAt, begunLen, fau
 use Rattle.text_classes.proofs.Conds.{by-eq}
 use Rattle.text.proofs.EncodeLaws.{encode-length, size}
 use Rattle.text.proofs.ReadLaws.{Char, char-sound}
-use Rattle.text.proofs.LeadLaws.{Seen, SeenIn, lead-fits, encode-seen, seen-char}
+use Rattle.text.proofs.LeadLaws.{LeadSeen, SeenIn, lead-fits, encode-seen, seen-char}
 use Rattle.text.proofs.BegunLaws.{begun-only, begun-by}
 
 -- the length that the first byte asks for
@@ -47,7 +47,7 @@ begins-few t r k h within p (v, more, sc, e) =
     go : SeenIn (take k t ++ more) (length (take k t ++ more)) → (k ≤ r) × (1 ≤ asked t)
     go seen =
         let x = take k t ++ more in
-        let s : Seen (leadOf (getD t 0 0)) (length x) (getD x 1 0) (getD x 2 0) (getD x 3 0) (length x) = rw (same 0 p) at seen in
+        let s : LeadSeen (leadOf (getD t 0 0)) (length x) (getD x 1 0) (getD x 2 0) (getD x 3 0) (length x) = rw (same 0 p) at seen in
         let asks = s .len in
         let sized = size-is in
         let few = encode-length v .1 in

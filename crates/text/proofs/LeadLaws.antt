@@ -90,7 +90,7 @@ lead-fits a = row-fits (rows a)
 
 -- ---- what the table asks of a character of n bytes: `left` bytes are there, and b, c, d are the second to the fourth
 
-pub record Seen (l : Lead) (left b c d n : ℕ) : Type 0 where
+pub record LeadSeen (l : Lead) (left b c d n : ℕ) : Type 0 where
   pub len : l .0 ≡ n
   pub fits : n ≤ left
   pub second : 2 ≤ n → Among (l .1) (l .2) b
@@ -98,7 +98,7 @@ pub record Seen (l : Lead) (left b c d n : ℕ) : Type 0 where
   pub fourth : 4 ≤ n → Among 0x80 0xBF d
 
 abbrev pub SeenIn : List ℕ → ℕ → Type 0
-SeenIn x n = Seen (leadOf (getD x 0 0)) (length x) (getD x 1 0) (getD x 2 0) (getD x 3 0) n
+SeenIn x n = LeadSeen (leadOf (getD x 0 0)) (length x) (getD x 1 0) (getD x 2 0) (getD x 3 0) n
 
 -- ---- each encoding passes
 
@@ -194,7 +194,7 @@ module _ (x : List ℕ) (n : ℕ) where
   byte i = getD x i 0
 
   abbrev Fits : Lead → Type 0
-  Fits l = Seen l (length x) (byte 1) (byte 2) (byte 3) n
+  Fits l = LeadSeen l (length x) (byte 1) (byte 2) (byte 3) n
 
   abbrev v2 : ℕ
   v2 = val2 (byte 0) (byte 1)
@@ -247,7 +247,7 @@ seen-char x n p s = seen-row x n p (rows (getD x 0 0)) s
 
 module _ (s : List ℕ) (at : ℕ) (l : Lead) (e : l ≡ leadOf (getD s at 0)) where
   abbrev SeenAt : ℕ → Type 0
-  SeenAt n = Seen l (length s - at) (getD s (at + 1) 0) (getD s (at + 2) 0) (getD s (at + 3) 0) n
+  SeenAt n = LeadSeen l (length s - at) (getD s (at + 1) 0) (getD s (at + 2) 0) (getD s (at + 3) 0) n
 
   lead-le : l .0 ≤ 4
   lead-le = rw e (lead-fits (getD s at 0) .0)

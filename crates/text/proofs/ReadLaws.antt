@@ -11,7 +11,7 @@ use lib.Seq.{take-append-seam, drop-at, drop-nil, take-length, drop-drop, length
 use lib.Dec.{eqb}
 use borrow.Author.Tests.{eqb-true, eq-eqb, ltb-true}
 use Rattle.text.specs.Utf8.{Scalar, encodeScalar, encodes, All, Utf8}
-use Rattle.text.specs.Utf8Read.{isScalar, ascii, guess, starts, charLen, character, scalarsFrom, scalars, validPrefix, Passed}
+use Rattle.text.specs.Utf8Read.{isScalar, ascii, guess, starts, charLen, character, scalarsFrom, scalars, validPrefix, CharsPassed}
 use Rattle.text_classes.specs.Runs.{run}
 use Rattle.text_classes.proofs.Conds.{not-both}
 use Rattle.text_classes.proofs.RunLaws.{run-le, run-step}
@@ -217,7 +217,7 @@ valid-ascii (a ∷ s) = go (ascii a) refl (valid-ascii s)
 -- ---- the two ways forward of the check
 
 module _ (s : List ℕ) (at : ℕ) where
-  pub passed-ascii : at < length s → ascii (getD s at 0) ≡ true → (r : ℕ) → r ≡ at + run ascii (drop at s) → Passed s at r
+  pub passed-ascii : at < length s → ascii (getD s at 0) ≡ true → (r : ℕ) → r ≡ at + run ascii (drop at s) → CharsPassed s at r
   passed-ascii h t r e =
       let n = run ascii (drop at s) in
       let more = run-step ascii s at h t in
@@ -230,7 +230,7 @@ module _ (s : List ℕ) (at : ℕ) where
         stuck = λ same. absurd (omega (arith, more));
       })
 
-  pub passed-char : at < length s → (n : ℕ) → n ≡ charLen (drop at s) → Passed s at (at + n)
+  pub passed-char : at < length s → (n : ℕ) → n ≡ charLen (drop at s) → CharsPassed s at (at + n)
   passed-char h zero e =
       let same : at ≡ at + 0 = omega arith in
       record {

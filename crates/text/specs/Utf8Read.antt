@@ -55,7 +55,7 @@ unfoldable pub validPrefix : List ℕ → ℕ
 validPrefix s = length (encodes (scalars s))
 
 -- from place `at` on, whole characters stand up to place r, and none begins at `at` where r is `at`
-pub record Passed (s : List ℕ) (at r : ℕ) : Type 0 where
+pub record CharsPassed (s : List ℕ) (at r : ℕ) : Type 0 where
   pub within : r ≤ length s
   pub whole : at + validPrefix (drop at s) ≡ r + validPrefix (drop r s)
   pub forward : at ≤ r

@@ -7,7 +7,7 @@ ghost use lib.ListN.{length, drop};
 ghost use Rattle.text_classes.specs.Runs.{run};
 ghost use Rattle.text_classes.proofs.RunLaws.{Block, SameEnd};
 ghost use Rattle.text.specs.Utf8.{encodeScalar};
-ghost use Rattle.text.specs.Utf8Read.{isScalar, ascii, charLen, Passed, Along};
+ghost use Rattle.text.specs.Utf8Read.{isScalar, ascii, charLen, CharsPassed, Along};
 ghost use Rattle.text.specs.Lead.{leadOf, onesOf, Among, Asked, Character, CharacterAt, fourAt, BegunAt, faultLen};
 ghost use Rattle.text.specs.CheckMeans.{padded, encodedOf, checkOf};
 ghost use Rattle.text.specs.Told.{checkNumber, checkValue, checkLength, checkRefusal, checkReturned, checkFault};
@@ -46,7 +46,7 @@ pub fn check_utf8(s: &[u8]) -> Utf8Check
 // `at` itself where no character begins there.
 fn passed(s: &[u8], at: usize) -> usize
     requires { ⌜ at < length (now s) ⌝ }
-    ensures { λ r. ⌜ Passed (now (s .entry)) at r ⌝ }
+    ensures { λ r. ⌜ CharsPassed (now (s .entry)) at r ⌝ }
 {
     if s[at] < 0x80 {
         return ascii_run(s, at);

@@ -27,7 +27,7 @@ use Rattle.lexer.specs.declared.Cursor.{Cursor}
 use Rattle.lexer.specs.declared.Start.{Start}
 use Rattle.lexer.specs.declared.Start.the-variants.{At}
 use Rattle.lexer.specs.declared.Step.{Step}
-use Rattle.lexer.specs.declared.Step.the-variants.{Token as Given, End}
+use Rattle.lexer.specs.declared.Step.the-variants.{Token as Next, End}
 use Rattle.lexer.proofs.TokenLaws.{token-fits-at, tokens-step, tokens-end, start-fits}
 use Rattle.theorems_tokens.proofs.Lexing.{step-eof, step-end, token-cut, start-cut, by-rule}
 use Rattle.theorems_grammar.specs.Demand3.{Reached, start, next}
@@ -63,15 +63,15 @@ eof-is : (at line : ℕ) → eofAt at line ≡ tokenAt at line []
 unfolding tokenLen kindOf extent
 eof-is at line = ap (λ (i : ℕ). tokenOf (kindOf []) at i line) (sym (add-zero at))
 
-end-not-given : {r : Token} {d : Cursor} {P : Type 0} → End ≡ Given r d → P
+end-not-given : {r : Token} {d : Cursor} {P : Type 0} → End ≡ Next r d → P
 end-not-given h = let z : _≡_ {A = ℕ} 0 1 = cc in absurd (omega arith)
 
 module _ (doc : List ℕ) (c : Cursor) (r : Token) (d : Cursor) where
   abbrev Says : Step → Type 0
-  Says x = x ≡ Given r d → StepGave doc c r d
+  Says x = x ≡ Next r d → StepGave doc c r d
 
   end-says : length doc ≤ limit → c .line ≤ c .place + 1 → c .place ≡ length doc
-      → (t : Token) (n : Cursor) → t ≡ eofAt (c .place) (c .line) → n .place ≡ c .place → Says (Given t n)
+      → (t : Token) (n : Cursor) → t ≡ eofAt (c .place) (c .line) → n .place ≡ c .place → Says (Next t n)
   unfolding tokenLen kindOf extent
   end-says l o p t n e f h =
       let x : t ≡ r = cc in
@@ -84,7 +84,7 @@ module _ (doc : List ℕ) (c : Cursor) (r : Token) (d : Cursor) where
         on = ap (λ (i : Cursor). i .place) (sym y) ∙ (f ∙ rw z (sym (add-zero (c .place))));
       }
 
-  pub step-gave : stepOf doc c ≡ Given r d → StepGave doc c r d
+  pub step-gave : stepOf doc c ≡ Next r d → StepGave doc c r d
   unfolding stepOf
   step-gave =
       by-lt Says limit (length doc) (λ l h. absurd (omega (arith, ap stepNumber h)))
@@ -100,7 +100,7 @@ module _ (doc : List ℕ) (c : Cursor) (r : Token) (d : Cursor) where
 
 -- a step before the end, by any cursor
 pub step-there : (doc : List ℕ) → length doc ≤ limit → (c : Cursor) → c .line ≤ c .place + 1 → c .place < length doc
-    → stepOf doc c ≡ Given (tokenHere doc c) (cursorNext doc c)
+    → stepOf doc c ≡ Next (tokenHere doc c) (cursorNext doc c)
 unfolding stepOf
 step-there doc l c o h =
     let within = le-ltb (length doc) (c .place) (omega arith) in
@@ -141,18 +141,18 @@ all-listed doc r m = m
 cursor-by : (c : Cursor) (n : ℕ) (b : Bool) → c .place ≡ n → c .ended ≡ b → c ≡ cursorOf n (c .line) b
 cursor-by c n b p q = ap (λ (i : ℕ). cursorOf i (c .line) (c .ended)) p ∙ ap (cursorOf n (c .line)) q
 
-module _ (doc : List ℕ) (c : Cursor) (r : Token) (d : Cursor) (e : stepOf doc c ≡ Given r d) where
+module _ (doc : List ℕ) (c : Cursor) (r : Token) (d : Cursor) (e : stepOf doc c ≡ Next r d) where
   no-step-over : c .ended ≡ true → c .place ≡ length doc → {P : Type 0} → P
   no-step-over f p =
       let s = step-gave doc c r d e in
       let here = ap (stepOf doc) (sym (cursor-by c (length doc) true p f)) in
-      let h : End ≡ Given r d = sym (step-end doc (s .few) (c .line) (omega (arith, s .near))) ∙ (here ∙ e) in
+      let h : End ≡ Next r d = sym (step-end doc (s .few) (c .line) (omega (arith, s .near))) ∙ (here ∙ e) in
       end-not-given h
 
   went-on : c .ended ≡ false → c .place < length doc → AllListed doc (c .place) (c .line) → Going doc d
   went-on f l m =
       let s = step-gave doc c r d e in
-      let h : Given (tokenHere doc c) (cursorNext doc c) ≡ Given r d = sym (step-there doc (s .few) c (s .near) l) ∙ e in
+      let h : Next (tokenHere doc c) (cursorNext doc c) ≡ Next r d = sym (step-there doc (s .few) c (s .near) l) ∙ e in
       let x : cursorNext doc c ≡ d = cc in
       subst (Going doc) x (on f (token-fits-at doc (c .place) (omega arith))
       (λ t i. m t (subst (List·Memᴰ t) (sym (tokens-step doc (c .place) (c .line) l)) (List·Memᴰ·tail i))))
@@ -161,7 +161,7 @@ module _ (doc : List ℕ) (c : Cursor) (r : Token) (d : Cursor) (e : stepOf doc 
   was-over f p =
       let s = step-gave doc c r d e in
       let here = ap (stepOf doc) (sym (cursor-by c (length doc) false p f)) in
-      let h : Given (eofAt (length doc) (c .line)) (cursorOf (length doc) (c .line) true) ≡ Given r d =
+      let h : Next (eofAt (length doc) (c .line)) (cursorOf (length doc) (c .line) true) ≡ Next r d =
       sym (step-eof doc (s .few) (c .line) (omega (arith, s .near))) ∙ (here ∙ e) in
       let x : cursorOf (length doc) (c .line) true ≡ d = cc in
       subst (Going doc) x (over refl refl)
@@ -187,7 +187,7 @@ first-listed doc at line r l e = elim (decLt at (length doc)) [
       subst (List·Memᴰ r) (sym (tokens-end doc at line (omega arith))) (List·Memᴰ·head eof)
 ]
 
-pub reached-listed : (doc : List ℕ) (c : Cursor) → Reached doc c → (r : Token) (d : Cursor) → stepOf doc c ≡ Given r d
+pub reached-listed : (doc : List ℕ) (c : Cursor) → Reached doc c → (r : Token) (d : Cursor) → stepOf doc c ≡ Next r d
     → List·Memᴰ r (tokensOf doc)
 reached-listed doc c k r d e = elim (going doc c k) [
   | on f l m ↦ m r (first-listed doc (c .place) (c .line) r l (step-gave doc c r d e .is))

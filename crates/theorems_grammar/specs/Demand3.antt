@@ -22,7 +22,7 @@ use Rattle.decoder_rules.specs.{Encodings.choiceBy, Encodings.editionNumber, De
 use Rattle.lexer_token.specs.{KindNumbers.kindNumber, Records.tokenOf, Records.textOf}
 use Rattle.lexer_token.specs.declared.{Token.Token}
 use Rattle.lexer.specs.{Tokens.tokensOf, Lines.lineFeeds, Lines.lineOf, Steps.cursorOf, Steps.startAnswer, Steps.stepOf}
-use Rattle.lexer.specs.declared.{Cursor.Cursor, Start.the-variants.At, Step.the-variants.Token as Given}
+use Rattle.lexer.specs.declared.{Cursor.Cursor, Start.the-variants.At, Step.the-variants.Token as Next}
 use Rattle.theorems_grammar.specs.{Strings.StringKind, Strings.tokenKind, Strings.encoding, Strings.mark, Strings.Apart, Strings.Derived, Strings.Means}
 
 -- ---- texts, in bytes
@@ -96,7 +96,7 @@ pub record Agrees (ed : Edition) (s : StringKind) (t : List ℕ) : Type 0 where
 
 pub data Reached (doc : List ℕ) : Cursor → Type 0 where
   start : {c : Cursor} → startAnswer doc ≡ At c → Reached doc c
-  next : {c d : Cursor} {r : Token} → Reached doc c → stepOf doc c ≡ Given r d → Reached doc d
+  next : {c d : Cursor} {r : Token} → Reached doc c → stepOf doc c ≡ Next r d → Reached doc d
 
 -- ---- the demand
 
@@ -105,19 +105,19 @@ pub record Demand3 (ed : Edition) : Type 0 where
   pub tokens : (doc : List ℕ) → Utf8 doc → length doc ≤ limit → (r : Token) → List·Memᴰ r (tokensOf doc)
       → (s : StringKind) → r .kind ≡ tokenKind s → Agrees ed s (textOf doc r)
   -- every string token that a step gives at a place from which on the document is UTF-8, by any cursor
-  pub steps : (doc : List ℕ) (c : Cursor) → Utf8 (drop (c .place) doc) → (r : Token) (d : Cursor) → stepOf doc c ≡ Given r d
+  pub steps : (doc : List ℕ) (c : Cursor) → Utf8 (drop (c .place) doc) → (r : Token) (d : Cursor) → stepOf doc c ≡ Next r d
       → (s : StringKind) → r .kind ≡ tokenKind s → Agrees ed s (textOf doc r)
   -- steps from the start of a document in UTF-8 reach such places only
   pub reached : (doc : List ℕ) → Utf8 doc → (c : Cursor) → Reached doc c → Utf8 (drop (c .place) doc)
   -- and give tokens of whole lexing only
-  pub listed : (doc : List ℕ) (c : Cursor) → Reached doc c → (r : Token) (d : Cursor) → stepOf doc c ≡ Given r d
+  pub listed : (doc : List ℕ) (c : Cursor) → Reached doc c → (r : Token) (d : Cursor) → stepOf doc c ≡ Next r d
       → List·Memᴰ r (tokensOf doc)
   -- a derived text at any cursor's place, its own quote mark not behind it, is the token that a step gives there, on the
   -- cursor's line, which does not pass its place plus 1; the next cursor's line is counted on by the LFs of the text
   pub step-back : (doc : List ℕ) → length doc ≤ limit → (c : Cursor) → c .line ≤ c .place + 1
       → (s : StringKind) (cs v rest : List ℕ) → Derived ed s cs v → drop (c .place) doc ≡ encodes cs ++ rest → Apart (mark s) rest
       → stepOf doc c
-      ≡ Given (tokenOf (tokenKind s) (c .place) (c .place + length (encodes cs)) (c .line))
+      ≡ Next (tokenOf (tokenKind s) (c .place) (c .place + length (encodes cs)) (c .line))
       (cursorOf (c .place + length (encodes cs)) (c .line + lineFeeds (encodes cs)) (c .ended))
   -- and where whole lexing has a token r that starts there, r is that token
   pub token-back : (doc : List ℕ) (r : Token) → List·Memᴰ r (tokensOf doc)

@@ -26,7 +26,7 @@ use Rattle.lexer.specs.Steps.{cursorOf, startAnswer, startCursor, stepWithin, a
 use Rattle.lexer.specs.Whole.{recordsOf}
 use Rattle.lexer.specs.declared.Cursor.{Cursor}
 use Rattle.lexer.specs.declared.Step.{Step}
-use Rattle.lexer.specs.declared.Step.the-variants.{Token as Given, End, Refused}
+use Rattle.lexer.specs.declared.Step.the-variants.{Token as Next, End, Refused}
 use Rattle.text_classes.proofs.Conds.{cond-case, of-choice}
 use Rattle.lexer.proofs.LineLaws.{feeds-none, feeds-split, mark-bytes, start-no-lf, feeds-taken}
 use Rattle.lexer.proofs.TokenLaws.{token-fits, token-long, token-fits-at, line-fits-at, tokens-cons, tokens-step, tokens-end, start-fits}
@@ -45,7 +45,7 @@ module _ (doc : List ℕ) (l : length doc ≤ limit) where
   cursorPast at line = cursorOf (at + tokenLen (drop at doc)) (lineAfter line (drop at doc)) false
 
   pub step-token : (at line : ℕ) → at < length doc → line ≤ at + 1
-      → stepOf doc (cursorOf at line false) ≡ Given (tokenAt at line (drop at doc)) (cursorPast at line)
+      → stepOf doc (cursorOf at line false) ≡ Next (tokenAt at line (drop at doc)) (cursorPast at line)
   unfolding stepOf
   step-token at line h o =
       let within : at ≤ length doc = omega arith in
@@ -53,7 +53,7 @@ module _ (doc : List ℕ) (l : length doc ≤ limit) where
       simp (le-ltb limit (length doc) l, le-ltb (length doc) at within, le-ltb (at + 1) line o, ne-eqb at (length doc) other)
 
   pub step-eof : (line : ℕ) → line ≤ length doc + 1
-      → stepOf doc (cursorOf (length doc) line false) ≡ Given (eofAt (length doc) line) (cursorOf (length doc) line true)
+      → stepOf doc (cursorOf (length doc) line false) ≡ Next (eofAt (length doc) line) (cursorOf (length doc) line true)
   unfolding stepOf
   step-eof line o =
       let n = length doc in
@@ -118,7 +118,7 @@ token-cut s u = clean-cut s (tokenLen s) (token-clean s) u
 
 -- ---- each token of the list stands at a place, by the rules
 
-pub record Stands (at line : ℕ) (s : List ℕ) (t : Token) : Type 0 where
+pub record TokenWithin (at line : ℕ) (s : List ℕ) (t : Token) : Type 0 where
   pub place : ℕ
   pub within : place ≤ length s
   pub is : t ≡ tokenAt (at + place) (line + lineFeeds (take place s)) (drop place s)
@@ -129,7 +129,7 @@ same-token-at {a} {b} {l} {m} {s} {t} p q e =
     ap (λ (k : ℕ). tokenAt k l s) p ∙ ap (λ (k : ℕ). tokenAt b k s) q ∙ ap (tokenAt b m) e
 
 stands-later : (at line n : ℕ) (s : List ℕ) (t : Token) → n ≤ length s → (Utf8 s → Utf8 (drop n s))
-    → Stands (at + n) (line + lineFeeds (take n s)) (drop n s) t → Stands at line s t
+    → TokenWithin (at + n) (line + lineFeeds (take n s)) (drop n s) t → TokenWithin at line s t
 stands-later at line n s t h u w =
     let e : drop (w .place) (drop n s) ≡ drop (n + w .place) s = drop-drop (w .place) n s in
     let same : at + n + w .place ≡ at + (n + w .place) = omega arith in
@@ -142,7 +142,7 @@ stands-later at line n s t h u w =
       whole = λ x. subst Utf8 e (w .whole (u x));
     }
 
-stands-here : (at line : ℕ) (s : List ℕ) (t : Token) → t ≡ tokenAt at line s → Stands at line s t
+stands-here : (at line : ℕ) (s : List ℕ) (t : Token) → t ≡ tokenAt at line s → TokenWithin at line s t
 stands-here at line s t e =
     record {
       place = 0;
@@ -155,17 +155,17 @@ nothing-left : (at line : ℕ) → tokensFrom at line [] ≡ tokenAt at line [] 
 unfolding tokensFrom walk tokenLen kindOf extent
 nothing-left at line = let same : at ≡ at + 0 = omega arith in ap (λ (k : ℕ). tokenOf Eof at k line ∷ []) same
 
-last-token : (at line : ℕ) (t : Token) → List·Memᴰ t (tokensFrom at line []) → Stands at line [] t
+last-token : (at line : ℕ) (t : Token) → List·Memᴰ t (tokensFrom at line []) → TokenWithin at line [] t
 last-token at line t m = elim (List·Memᴰ·cases-cons (subst (List·Memᴰ t) (nothing-left at line) m)) [
   | inl e ↦ stands-here at line [] t e
   | inr k ↦ absurd (List·Memᴰ·not-nil k)
 ]
 
-abbrev EachStands : List ℕ → Type 0
-EachStands s = (at line : ℕ) (t : Token) → List·Memᴰ t (tokensFrom at line s) → Stands at line s t
+abbrev EachWithin : List ℕ → Type 0
+EachWithin s = (at line : ℕ) (t : Token) → List·Memᴰ t (tokensFrom at line s) → TokenWithin at line s t
 
 -- behind the first token stand the others, as they do in what is left
-each-behind : (n : ℕ) → ((s : List ℕ) → length s ≤ n → EachStands s) → (b : ℕ) (s : List ℕ) → length s ≤ n → EachStands (b ∷ s)
+each-behind : (n : ℕ) → ((s : List ℕ) → length s ≤ n → EachWithin s) → (b : ℕ) (s : List ℕ) → length s ≤ n → EachWithin (b ∷ s)
 each-behind n ih b s l at line t m =
     let k = tokenLen (b ∷ s) in
     let long = token-long (b ∷ s) (omega arith) in
@@ -176,8 +176,8 @@ each-behind n ih b s l at line t m =
           (ih (drop k (b ∷ s)) (omega arith) (at + k) (lineAfter line (b ∷ s)) t i)
     ]
 
-each-token : (s : List ℕ) → EachStands s
-each-token s = by-length EachStands last-token each-behind (length s) s (omega arith)
+each-token : (s : List ℕ) → EachWithin s
+each-token s = by-length EachWithin last-token each-behind (length s) s (omega arith)
 
 -- ---- behind a byte order mark
 
@@ -265,7 +265,7 @@ step-moved doc c d h =
     let moved-too = le-ltb (c .place + 1) (c .line + d) h in
     let same : astray doc (movedCursor d c) ≡ astray doc c =
     ap (λ (x : Bool). ltb (length doc) (c .place) || x) (moved-too ∙ sym in-line) in
-    let token = ap (λ (n : ℕ). Given (tokenAt (c .place) (c .line + d) s) (cursorOf (c .place + tokenLen s) n (c .ended))) on in
+    let token = ap (λ (n : ℕ). Next (tokenAt (c .place) (c .line + d) s) (cursorOf (c .place + tokenLen s) n (c .ended))) on in
     let within : stepWithin doc (movedCursor d c) ≡ movedStep d (stepWithin doc c) =
     sym (of-choice (movedStep d) (eqb (c .place) (length doc)) (of-choice (movedStep d) (c .ended) refl refl) (sym token)) in
     let moved = of-choice (movedStep d) (astray doc c) refl (sym within) in
@@ -292,7 +292,7 @@ steps-moved doc c d h (suc k) =
     rw (step-moved doc c d h, behind (stepOf doc c)) (ap (λ (r : List Step). movedStep d (stepOf doc c) ∷ r) rest)
   where
     behind : (s : Step) → cursorBehind (movedCursor d c) (movedStep d s) ≡ movedCursor d (cursorBehind c s)
-    behind (Given t e) = refl
+    behind (Next t e) = refl
     behind End = refl
     behind (Refused r) = refl
 

@@ -18,13 +18,13 @@ use Rattle.lexer_place.specs.Positions.{positionAnswer}
 use Rattle.lexer_place.specs.Told.{positionLine}
 use Rattle.lexer.specs.declared.Cursor.{Cursor}
 use Rattle.lexer.specs.declared.Step.{Step}
-use Rattle.lexer.specs.declared.Step.the-variants.{Token as Given, End, Refused}
+use Rattle.lexer.specs.declared.Step.the-variants.{Token as Next, End, Refused}
 
 -- ---- steps and whole lexing
 
 -- the next cursor; behind an end or a refusal the caller has the same one
 abbrev pub cursorBehind : Cursor → Step → Cursor
-cursorBehind c (Given t d) = d
+cursorBehind c (Next t d) = d
 cursorBehind c End = c
 cursorBehind c (Refused r) = c
 
@@ -36,10 +36,10 @@ stepsFrom (suc k) doc c = stepOf doc c ∷ stepsFrom k doc (cursorBehind c (step
 -- answers that give these tokens, one after the other, then the end for ever, and never a refusal
 abbrev pub Gives : List Token → List Step → Type 0
 Gives ts [] = Unit
-Gives [] (Given u c ∷ rest) = ⊥
+Gives [] (Next u c ∷ rest) = ⊥
 Gives [] (End ∷ rest) = Gives [] rest
 Gives [] (Refused r ∷ rest) = ⊥
-Gives (t ∷ ts) (Given u c ∷ rest) = (u ≡ t) × Gives ts rest
+Gives (t ∷ ts) (Next u c ∷ rest) = (u ≡ t) × Gives ts rest
 Gives (t ∷ ts) (End ∷ rest) = ⊥
 Gives (t ∷ ts) (Refused r ∷ rest) = ⊥
 
@@ -68,7 +68,7 @@ abbrev pub movedCursor : ℕ → Cursor → Cursor
 movedCursor d c = cursorOf (c .place) (c .line + d) (c .ended)
 
 abbrev pub movedStep : ℕ → Step → Step
-movedStep d (Given t c) = Given (tokenOf (t .kind) (t .span .start) (t .span .end) (t .line + d)) (movedCursor d c)
+movedStep d (Next t c) = Next (tokenOf (t .kind) (t .span .start) (t .span .end) (t .line + d)) (movedCursor d c)
 movedStep d End = End
 movedStep d (Refused r) = Refused r
 

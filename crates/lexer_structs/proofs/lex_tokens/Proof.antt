@@ -59,14 +59,14 @@ use Rattle.lexer_structs.specs.Turns.{writesOf, nextOf, cursorAfter, sto
 use Rattle.lexer_structs.proofs.TurnLaws.{writes-fit, first-cursor, next-cursor, stored-none, stored-next, length-stored, stored-all}
 use Rattle.lexer_token.specs.declared.Token.{Token}
 use Rattle.lexer.specs.declared.Cursor.{Cursor}
-use Rattle.lexer_structs.specs.declared.Stepped.{Stepped}
+use Rattle.lexer_structs.specs.declared.Turn.{Turn}
 use Rattle.lexer.specs.declared.Lexed.{Lexed}
 use Rattle.lexer_token.proofs.Token as T
 use Rattle.lexer_token.proofs.Token.Laws as T′
 use Rattle.lexer.proofs.Cursor as Cu
 use Rattle.lexer.proofs.Cursor.Laws as Cu′
-use Rattle.lexer_structs.proofs.Stepped as Sp
-use Rattle.lexer_structs.proofs.Stepped.Laws as Sp′
+use Rattle.lexer_structs.proofs.Turn as Sp
+use Rattle.lexer_structs.proofs.Turn.Laws as Sp′
 use Rattle.lexer.proofs.Lexed as Le
 use Rattle.lexer.proofs.Lexed.Laws as Le′
 use Rattle.lexer_structs.proofs.WalkSteps.{local-at, returned}
@@ -114,14 +114,14 @@ tok-val t = LL.tuple-val T.the-type T′.the-laws (T.the-type .to t)
 abbrev cur-val : Cursor → Val
 cur-val c = LL.tuple-val Cu.the-type Cu′.the-laws (Cu.the-type .to c)
 
-abbrev step-val : Stepped → Val
+abbrev step-val : Turn → Val
 step-val s = LL.tuple-val Sp.the-type Sp′.the-laws (Sp.the-type .to s)
 
 -- what a step owns says the same of its token and of its cursor
-of-token : (s : Stepped) → Is Sp.the-row s (step-val s ∷ []) → Is R (s .token) (tok-val (s .token) ∷ [])
+of-token : (s : Turn) → Is Sp.the-row s (step-val s ∷ []) → Is R (s .token) (tok-val (s .token) ∷ [])
 of-token s g = LL.owed Sp.the-type Sp′.the-laws s _ g .0
 
-of-cursor : (s : Stepped) → Is Sp.the-row s (step-val s ∷ []) → Is Cu.the-row (s .cursor) (cur-val (s .cursor) ∷ [])
+of-cursor : (s : Turn) → Is Sp.the-row s (step-val s ∷ []) → Is Cu.the-row (s .cursor) (cur-val (s .cursor) ∷ [])
 of-cursor s g = LL.owed Sp.the-type Sp′.the-laws s _ g .1 .0
 
 -- the bytes before element i are fewer than 2 ^ 64
@@ -251,13 +251,13 @@ module _ {M : Type 1} (𝓤 : URA M) (H : Heap 𝓤) (A : Atoms 𝓤) (W : Given
       fjoin ! $ move ! (2 ∷ 0 ∷ []) $ fjoin ! $
       nothing ! $ move ! (2 ∷ 0 ∷ []) $ join ! $ join ! $ frame ! $ done !
 
-  abbrev AdvanceEnsures : Cursor → Stepped → SProp 𝓤
+  abbrev AdvanceEnsures : Cursor → Turn → SProp 𝓤
   AdvanceEnsures c = ensured 𝓤 H A advance.ended (advance.clauses 𝓤 H A mem run) (κ, tt) (doc, (c, tt)) tt
 
-  abbrev IsNext : Cursor → Stepped → Type 0
+  abbrev IsNext : Cursor → Turn → Type 0
   IsNext c r = r ≡ nextOf (doc .now) c
 
-  advance-said : (c : Cursor) (r : Stepped) → ent 𝓤 (AdvanceEnsures c r) (fact 𝓤 (IsNext c r))
+  advance-said : (c : Cursor) (r : Turn) → ent 𝓤 (AdvanceEnsures c r) (fact 𝓤 (IsNext c r))
   advance-said c r = exE 𝓤 _ (λ ws. snd∗ 𝓤 (sem 𝓤 H A (lasts advance.ended (κ, tt) (doc, (c, tt)) ws)) (fact 𝓤 (IsNext c r)))
 
   -- ---- the exit
@@ -362,8 +362,8 @@ module _ {M : Type 1} (𝓤 : URA M) (H : Heap 𝓤) (A : Atoms 𝓤) (W : Given
             -- _7; …]
             -- u is the machine value of the step that the contract names, so the relation holds of it, its token and its cursor
             let is-u : u ∷ [] ≡ step-val stepped ∷ [] =
-            LL.tells Sp.the-type Sp′.the-laws r (u ∷ []) gu ∙ ap (λ (s : Stepped). step-val s ∷ []) is-s in
-            let gu₂ : Is Sp.the-row stepped (u ∷ []) = subst (λ (s : Stepped). Is Sp.the-row s (u ∷ [])) is-s gu in
+            LL.tells Sp.the-type Sp′.the-laws r (u ∷ []) gu ∙ ap (λ (s : Turn). step-val s ∷ []) is-s in
+            let gu₂ : Is Sp.the-row stepped (u ∷ []) = subst (λ (s : Turn). Is Sp.the-row s (u ∷ [])) is-s gu in
             let gs : Is Sp.the-row stepped (step-val stepped ∷ []) = subst (Is Sp.the-row stepped) is-u gu₂ in
             let gt : Is R (stepped .token) (tok-val (stepped .token) ∷ []) = of-token stepped gs in
             let gc : Is Cu.the-row (stepped .cursor) (cur-val (stepped .cursor) ∷ []) = of-cursor stepped gs in
@@ -401,7 +401,7 @@ module _ {M : Type 1} (𝓤 : URA M) (H : Heap 𝓤) (A : Atoms 𝓤) (W : Given
             let gn = subst (λ (c : Cursor). Is Cu.the-row c (cur-val c ∷ [])) (next-cursor (doc .now) (i .0)) gc in
             again ! Nearer At i (i .0 + 1, (add-one-le less, gn)) (add-one-dec n (i .0) less))))
           where
-            stepped : Stepped
+            stepped : Turn
             stepped = nextOf (doc .now) (cur (i .0))
 
             in-rec : i .0 < length ys
