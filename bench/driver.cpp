@@ -315,7 +315,7 @@ void count_calls()
     count("galoxumi_check_utf8" + on, [=] { return galoxumi_check_utf8(doc, len).refusal; });
     count("galoxumi_lex" + on, [=] { return galoxumi_lex(doc, len, few_records, 16).value; });
     count("galoxumi_start" + on, [=] { return galoxumi_start(doc, len).cursor.place; });
-    count("galoxumi_step, first token" + on, [=] { return galoxumi_step(doc, len, 0, 0, 1).has_token; });
+    count("galoxumi_step, first token" + on, [=] { return galoxumi_step(doc, len, 0, 0, 1).found; });
     count("galoxumi_position, at the end" + on, [=] { return galoxumi_position(doc, len, len).column; });
     for (const auto &short_text : short_texts) {
         count_decode(short_text);

@@ -93,11 +93,11 @@ galoxumi_started galoxumi_start(const uint8_t *doc, size_t doc_len);
 
 /* One token at a cursor, which may be made by hand; ended is 0, or anything else for an ended one. The line is the
  * token's, right or wrong, and the next cursor's is counted on from it.
- * has_token is 1 for a token, with the next cursor; 0 at the end, where an ended cursor stands at the document's
+ * found is 1 for a token, with the next cursor; 0 at the end, where an ended cursor stands at the document's
  * end, and all behind it is 0 then. A byte order mark is not skipped, and UTF-8 is not tested. Refusals 2, 6. */
 typedef struct {
     galoxumi_answer answer;
-    size_t has_token;
+    size_t found;
     galoxumi_token token;
     galoxumi_cursor cursor;
 } galoxumi_stepped;

@@ -78,7 +78,7 @@ static void lines_of_long_strings(void)
 
 static int steps(galoxumi_stepped s, galoxumi_token token, galoxumi_cursor next)
 {
-    return answers(s.answer, 0, 0) && s.has_token == 1 && memcmp(&s.token, &token, sizeof token) == 0
+    return answers(s.answer, 0, 0) && s.found == 1 && memcmp(&s.token, &token, sizeof token) == 0
            && memcmp(&s.cursor, &next, sizeof next) == 0;
 }
 

@@ -36,7 +36,7 @@ pub(crate) struct Token {
 #[repr(C)]
 pub(crate) struct Stepped {
     pub answer: Answer,
-    pub has_token: usize,
+    pub found: usize,
     pub token: Token,
     pub cursor: Cursor,
 }

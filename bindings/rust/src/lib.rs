@@ -173,7 +173,7 @@ impl Iterator for Lexer<'_> {
             self.refused = true;
             return Some(Err(refusal));
         }
-        if step.has_token == 0 {
+        if step.found == 0 {
             return None;
         }
         self.place = step.cursor.place;

@@ -54,7 +54,7 @@ pub enum LineFault {
 }
 
 // What was read. The last word spells the document.
-pub struct Request {
+pub struct Question {
     pub fault: LineFault,
     pub call: Call,
     pub numbers: [usize; 3],
@@ -68,7 +68,7 @@ struct Numbers {
     last: Word,
 }
 
-pub(crate) fn read(reading: Reading, memory: &[u8]) -> Request {
+pub(crate) fn read(reading: Reading, memory: &[u8]) -> Question {
     let line = words::front(memory, reading.len);
     let name = words::word_at(line, 0);
     let call = call_of(words::name_key(words::text_of(line, name)));
@@ -76,7 +76,7 @@ pub(crate) fn read(reading: Reading, memory: &[u8]) -> Request {
     let document = words::word_after(line, numbers.last);
     let in_line = fault_of(line, call, numbers, document);
     let values = numbers.values;
-    Request {
+    Question {
         fault: first_of(lines::fault_of(reading), in_line),
         call,
         numbers: values,

@@ -7,8 +7,8 @@ mod words;
 pub use asked::Call;
 pub use asked::LineFault;
 pub use asked::OUTPUT;
+pub use asked::Question;
 pub use asked::RECORDS;
-pub use asked::Request;
 pub use lines::Reading;
 ghost use Prim.Native.Nat.{_≤_};
 ghost use lib.ListN.{length};
@@ -17,7 +17,7 @@ ghost use lib.ListN.{length};
 // memory, `len` bytes of it.
 pub struct Request {
     pub reading: Reading,
-    pub asked: Request,
+    pub asked: Question,
     pub len: usize,
 }
 

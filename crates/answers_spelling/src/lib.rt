@@ -87,7 +87,7 @@ const TOO_MUCH: Text = *b"? more than can be lent\n";
 const NOTHING: Text = *b"________________________";
 
 // Writes an answer. It returns: of what is written no contract can speak.
-pub fn print_answer(answer: Answer, bytes: &[u8], errors: &[[usize; 3]], tokens: &[[usize; 4]])
+pub fn print_answer(answer: Reply, bytes: &[u8], errors: &[[usize; 3]], tokens: &[[usize; 4]])
     ensures { λ r. ⌜ r ≡ tt ⌝ }
 {
     let mut space = [0u8; 16384];

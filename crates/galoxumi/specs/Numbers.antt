@@ -8,7 +8,7 @@ use lib.{Dec.eqb, ListN.length, ListN.take, ListN.drop}
 use Rattle.text.specs.{Refusals.refusalNumber, Refusals.refusalValue, Refusals.refusalLength}
 use Rattle.text.specs.declared.{refusal.Refusal.Refusal, utf8.Utf8Check.Utf8Check, utf8.Utf8Check.the-variants.Valid, utf8.Utf8Check.the-variants.Refused as Broken}
 use Rattle.lexer_token.specs.{KindNumbers.kindNumber}
-use Rattle.lexer_token.specs.declared.{Answer.Answer, Answer.the-variants.Found as Told, Answer.the-variants.Refused as Untold, Description.Description, Encoding.Encoding}
+use Rattle.lexer_token.specs.declared.{Answer.Answer, Answer.the-variants.Found as Told, Answer.the-variants.Refused as Untold, Description.Description, KindEncoding.KindEncoding}
 use Rattle.lexer.specs.{Steps.cursorOf, Told.bitOf}
 use Rattle.lexer.specs.declared.{Cursor.Cursor, Start.Start, Start.the-variants.At, Start.the-variants.Refused as Unstarted, Step.Step, Step.the-variants.Token, Step.the-variants.End, Step.the-variants.Refused as Unstepped, Lexed.Lexed, Lexed.the-variants.Tokens, Lexed.the-variants.Refused as Unlexed}
 use Rattle.lexer_place.specs.declared.{SpanCheck.SpanCheck, SpanCheck.the-variants.Whole, SpanCheck.the-variants.Refused as Misplaced, Position.Position, Position.the-variants.At as Placed, Position.the-variants.Refused as Unplaced}
@@ -46,7 +46,7 @@ abbrev pub noToken : AnswerNumbers → StepNumbers
 noToken answer =
     record {
       answer = answer;
-      has_token = 0;
+      found = 0;
       token = record { kind = 0; start = 0; end = 0; line = 0 };
       cursor = cursorNumbers (cursorOf 0 0 false);
     }
@@ -55,7 +55,7 @@ abbrev pub stepNumbers : Step → StepNumbers
 stepNumbers (Token t c) =
     record {
       answer = answerOf 0;
-      has_token = 1;
+      found = 1;
       token = record { kind = kindNumber (t .kind); start = t .span .start; end = t .span .end; line = t .line };
       cursor = cursorNumbers c;
     }
@@ -115,5 +115,5 @@ toldBy (Untold r) = refusedBy r
 abbrev pub describedNumbers : Description → DescribedNumbers
 describedNumbers d = record { answer = toldBy (d .answer); length = d .len; bytes = d .bytes }
 
-abbrev pub encodedNumbers : Encoding → EncodedNumbers
+abbrev pub encodedNumbers : KindEncoding → EncodedNumbers
 encodedNumbers e = record { answer = toldBy (e .answer); encoding = e .number }

@@ -62,7 +62,7 @@ pub struct TokenNumbers {
 #[repr(C)]
 pub struct StepNumbers {
     pub answer: AnswerNumbers,
-    pub has_token: usize,
+    pub found: usize,
     pub token: TokenNumbers,
     pub cursor: CursorNumbers,
 }
@@ -142,7 +142,7 @@ pub extern "C" fn galoxumi_step(doc: &[u8], place: usize, ended: usize, line: us
             let kind = token.kind;
             StepNumbers {
                 answer: answer_of(0),
-                has_token: 1,
+                found: 1,
                 token: TokenNumbers {
                     kind: kind.number(),
                     start: token.span.start,
@@ -330,7 +330,7 @@ fn no_token(answer: AnswerNumbers) -> StepNumbers
 {
     StepNumbers {
         answer,
-        has_token: 0,
+        found: 0,
         token: TokenNumbers {
             kind: 0,
             start: 0,

@@ -16,7 +16,7 @@ use Rattle.lexer_token.specs.declared.KindRead.{KindRead}
 use Rattle.lexer_token.specs.declared.KindRead.the-variants.{Kind, Refused}
 use Rattle.lexer_token.specs.declared.Answer.{Answer}
 use Rattle.lexer_token.specs.declared.Description.{Description}
-use Rattle.lexer_token.specs.declared.KindEncoding.{Encoding}
+use Rattle.lexer_token.specs.declared.KindEncoding.{KindEncoding}
 
 -- what is read off a kind and off a refusal is read off what a number is read as
 read-among : (f : KindRead → ℕ) (n v : ℕ) → ((k : TokenKind) → f (Kind k) ≡ 0) → f (Refused (NoKind n)) ≡ v
@@ -59,7 +59,7 @@ described-numbers n r e =
     let said = by-description (kindOfNumber n) in
     (e, rw e (said .0 ∙ numbered n .0, said .1 ∙ numbered n .1))
 
-pub encoded-numbers : (n : ℕ) (r : Encoding) → r ≡ encodingOf n
+pub encoded-numbers : (n : ℕ) (r : KindEncoding) → r ≡ encodingOf n
     → (r ≡ encodingOf n) × ((answerNumber (r .answer) ≡ kindRefusal n) × (answerValue (r .answer) ≡ kindReturned n))
 unfolding encodingOf
 encoded-numbers n r e =

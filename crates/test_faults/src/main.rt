@@ -7,7 +7,7 @@ use libc::STDOUT_FILENO;
 use text::Utf8Check;
 
 // The bytes in front of the one that varies: the first n, one to three.
-struct Varied {
+struct Opening {
     n: usize,
     a: u8,
     b: u8,
@@ -38,19 +38,19 @@ fn faults(a: u8) {
     print(checked(&[a, b'x']));
     io::write_all(STDOUT_FILENO, b"\n");
     let b = lowest(a);
-    varied(Varied {
+    varied(Opening {
         n: 1,
         a,
         b,
         c: 0x80,
     });
-    varied(Varied {
+    varied(Opening {
         n: 2,
         a,
         b,
         c: 0x80,
     });
-    varied(Varied {
+    varied(Opening {
         n: 3,
         a,
         b,
@@ -68,7 +68,7 @@ fn lowest(a: u8) -> u8 {
 }
 
 // Every byte behind those: the text ends there, and then an ASCII byte follows.
-fn varied(f: Varied) {
+fn varied(f: Opening) {
     bytes(f);
     io::write_all(STDOUT_FILENO, b"..");
     runs(f, false);
@@ -77,7 +77,7 @@ fn varied(f: Varied) {
     runs(f, true);
 }
 
-fn bytes(f: Varied) {
+fn bytes(f: Opening) {
     let n = f.n;
     hex(f.a);
     io::write_all(STDOUT_FILENO, b" ");
@@ -92,7 +92,7 @@ fn bytes(f: Varied) {
 }
 
 // Runs of bytes with one answer, a word for each.
-fn runs(f: Varied, followed: bool) {
+fn runs(f: Opening, followed: bool) {
     let mut first: usize = 0;
     let mut b: usize = 0;
     while b < 256 {
@@ -107,7 +107,7 @@ fn runs(f: Varied, followed: bool) {
     io::write_all(STDOUT_FILENO, b"\n");
 }
 
-fn answer_to(f: Varied, v: usize, followed: bool) -> Told {
+fn answer_to(f: Opening, v: usize, followed: bool) -> Told {
     let b = (v % 256) as u8;
     if followed {
         return followed_by(f, b);
@@ -116,7 +116,7 @@ fn answer_to(f: Varied, v: usize, followed: bool) -> Told {
 }
 
 // The text ends with the byte v.
-fn ended_by(f: Varied, v: u8) -> Told {
+fn ended_by(f: Opening, v: u8) -> Told {
     let n = f.n;
     match n {
         1 => checked(&[f.a, v]),
@@ -126,7 +126,7 @@ fn ended_by(f: Varied, v: u8) -> Told {
 }
 
 // An ASCII byte stands behind it.
-fn followed_by(f: Varied, v: u8) -> Told {
+fn followed_by(f: Opening, v: u8) -> Told {
     let n = f.n;
     match n {
         1 => checked(&[f.a, v, b'x']),

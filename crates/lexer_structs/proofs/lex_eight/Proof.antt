@@ -70,13 +70,13 @@ use Rattle.lexer_structs.proofs.LexedEight.Laws as Ei′
 use Rattle.lexer_structs.proofs.WalkSteps.{local-at, returned}
 use Rattle.lexer_structs.proofs.blank as blank
 use Rattle.lexer_structs.proofs.blank.Symbol as blank-def
-use Rattle.lexer_structs.proofs.blank.Symbol.{name as #lexer_structs·blank}
+use Rattle.lexer_structs.proofs.blank.Symbol.{name as #structs·blank}
 use Rattle.lexer_structs.proofs.blank.Met as blank-thm
 use Rattle.lexer_structs.proofs.lex_tokens as lex-tokens
 use Rattle.lexer_structs.proofs.lex_tokens.Symbol as lex-tokens-def
-use Rattle.lexer_structs.proofs.lex_tokens.Symbol.{name as #lexer_structs·lex-tokens}
+use Rattle.lexer_structs.proofs.lex_tokens.Symbol.{name as #structs·lex-tokens}
 use Rattle.lexer_structs.proofs.lex_tokens.Met as lex-tokens-thm
-use Rattle.lexer_structs.proofs.lex_eight.Key.{name as #lexer_structs·lex-eight}
+use Rattle.lexer_structs.proofs.lex_eight.Key.{name as #structs·lex-eight}
 use Rattle.lexer_structs.proofs.lex_eight as lex-eight
 use Rattle.lexer_structs.proofs.lex_eight.Statement as stated
 use Rattle.lexer_structs.proofs.lex_eight.Code as code
@@ -266,8 +266,8 @@ module _ {M : Type 1} (𝓤 : URA M) (H : Heap 𝓤) (A : Atoms 𝓤) (W : Given
       nothing ! $ move ! (1 ∷ 0 ∷ []) $ join ! $ frame ! $ nothing ! $ move ! (1 ∷ 0 ∷ []) $ fjoin ! $ frame ! $
       owned ! Ei.the-row (Is Ei.the-row) (LL.makes Ei.the-type Ei′.the-plain 𝓤 H A) (all zs) _ g $ done !
 
-  module _ (𝓣 : Tables 𝓤 H) (known-blank : Triple 𝓤 (𝓣 .C #lexer_structs·blank) (Blank 𝓤 H A mem run))
-      (known : Triple 𝓤 (𝓣 .C #lexer_structs·lex-tokens) (LexTokens 𝓤 H A mem run)) where
+  module _ (𝓣 : Tables 𝓤 H) (known-blank : Triple 𝓤 (𝓣 .C #structs·blank) (Blank 𝓤 H A mem run))
+      (known : Triple 𝓤 (𝓣 .C #structs·lex-tokens) (LexTokens 𝓤 H A mem run)) where
     abbrev C : Calls 𝓤 H
     C = 𝓣 .C
 
@@ -395,8 +395,8 @@ module _ {M : Type 1} (𝓤 : URA M) (H : Heap 𝓤) (A : Atoms 𝓤) (W : Given
         pass1 ! (init ! 12 refl (tt, (tt, (record { fits = room₁ .0 }, tt)))) $ pass0 ! $ making l₀ l₁ l₂ l₃ l₄ l₅ l₆ l₇))))))))
 
 module _ {M : Type 1} (𝓤 : URA M) (H : Heap 𝓤) (A : Atoms 𝓤) (W : Given 𝓤 H A) (mem : Memory → SProp 𝓤) (run : Routine → Fun 𝓤)
-    (𝓣 : Tables 𝓤 H) (known-blank : Triple 𝓤 (𝓣 .C #lexer_structs·blank) (Blank 𝓤 H A mem run))
-    (known : Triple 𝓤 (𝓣 .C #lexer_structs·lex-tokens) (LexTokens 𝓤 H A mem run)) where
+    (𝓣 : Tables 𝓤 H) (known-blank : Triple 𝓤 (𝓣 .C #structs·blank) (Blank 𝓤 H A mem run))
+    (known : Triple 𝓤 (𝓣 .C #structs·lex-tokens) (LexTokens 𝓤 H A mem run)) where
   lex-eight-walks : Walks 𝓤 H A lex-eight.ended stayed (WpFn 𝓤 H (𝓣 .C) (𝓣 .Λ) code.function) (lex-eight.clauses 𝓤 H A mem run)
   lex-eight-walks = walked 𝓤 H A lex-eight.ended stayed (lex-eight.clauses 𝓤 H A mem run) (WpFn 𝓤 H (𝓣 .C) (𝓣 .Λ) code.function)
       (λ κs. (slice-vals, tt)) (λ κs. (shr-slice-tells (named 0) (κs .0) u8, tt))
@@ -412,10 +412,10 @@ pub lex-eight-spec : {M : Type 1} → stated.statement M
 unfolding code.routine tablesOf
 lex-eight-spec 𝓤 H 𝓜 𝓖 𝓡 =
     entered 𝓤 H (tripleOf 𝓤 H (𝓖 .A) lex-eight.signature (lex-eight.spec 𝓤 H (𝓖 .A) (𝓜 .mem) (𝓡 .run)))
-    (tables 𝓤 H 𝓜 𝓡 code.env .C) (tables 𝓤 H 𝓜 𝓡 code.env .Λ) #lexer_structs·lex-eight code.function (code.unfolded 𝓤 H 𝓜 𝓡)
+    (tables 𝓤 H 𝓜 𝓡 code.env .C) (tables 𝓤 H 𝓜 𝓡 code.env .Λ) #structs·lex-eight code.function (code.unfolded 𝓤 H 𝓜 𝓡)
     (lex-eight-meets 𝓤 H (𝓖 .A) (givenOf 𝓤 H 𝓜 𝓖) (𝓜 .mem) (𝓡 .run) (tablesOf 𝓤 H 𝓜 (tables 𝓤 H 𝓜 𝓡 code.env))
-    (cited 𝓤 H (Blank 𝓤 H (𝓖 .A) (𝓜 .mem) (𝓡 .run)) 𝓜 𝓡 code.env #lexer_structs·blank blank-def.routine code.calls-records·blank
+    (cited 𝓤 H (Blank 𝓤 H (𝓖 .A) (𝓜 .mem) (𝓡 .run)) 𝓜 𝓡 code.env #structs·blank blank-def.routine code.calls-lexer-structs·blank
     (blank-thm.met 𝓤 H 𝓜 𝓖 𝓡))
     (cited 𝓤 H
-    (LexTokens 𝓤 H (𝓖 .A) (𝓜 .mem) (𝓡 .run)) 𝓜 𝓡 code.env #lexer_structs·lex-tokens lex-tokens-def.routine code.calls-records·lex-tokens
+    (LexTokens 𝓤 H (𝓖 .A) (𝓜 .mem) (𝓡 .run)) 𝓜 𝓡 code.env #structs·lex-tokens lex-tokens-def.routine code.calls-lexer-structs·lex-tokens
     (lex-tokens-thm.met 𝓤 H 𝓜 𝓖 𝓡)))

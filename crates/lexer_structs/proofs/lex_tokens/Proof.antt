@@ -72,21 +72,21 @@ use Rattle.lexer.proofs.Lexed.Laws as Le′
 use Rattle.lexer_structs.proofs.WalkSteps.{local-at, returned}
 use Rattle.lexer_structs.proofs.plan as plan
 use Rattle.lexer_structs.proofs.plan.Symbol as plan-def
-use Rattle.lexer_structs.proofs.plan.Symbol.{name as #lexer_structs·plan}
+use Rattle.lexer_structs.proofs.plan.Symbol.{name as #structs·plan}
 use Rattle.lexer_structs.proofs.plan.Met as plan-thm
 use Rattle.lexer_structs.proofs.writes as writes
 use Rattle.lexer_structs.proofs.writes.Symbol as writes-def
-use Rattle.lexer_structs.proofs.writes.Symbol.{name as #lexer_structs·writes}
+use Rattle.lexer_structs.proofs.writes.Symbol.{name as #structs·writes}
 use Rattle.lexer_structs.proofs.writes.Met as writes-thm
 use Rattle.lexer_structs.proofs.first as first
 use Rattle.lexer_structs.proofs.first.Symbol as first-def
-use Rattle.lexer_structs.proofs.first.Symbol.{name as #lexer_structs·first}
+use Rattle.lexer_structs.proofs.first.Symbol.{name as #structs·first}
 use Rattle.lexer_structs.proofs.first.Met as first-thm
 use Rattle.lexer_structs.proofs.advance as advance
 use Rattle.lexer_structs.proofs.advance.Symbol as advance-def
-use Rattle.lexer_structs.proofs.advance.Symbol.{name as #lexer_structs·advance}
+use Rattle.lexer_structs.proofs.advance.Symbol.{name as #structs·advance}
 use Rattle.lexer_structs.proofs.advance.Met as advance-thm
-use Rattle.lexer_structs.proofs.lex_tokens.Key.{name as #lexer_structs·lex-tokens}
+use Rattle.lexer_structs.proofs.lex_tokens.Key.{name as #structs·lex-tokens}
 use Rattle.lexer_structs.proofs.lex_tokens as lex-tokens
 use Rattle.lexer_structs.proofs.lex_tokens.Statement as stated
 use Rattle.lexer_structs.proofs.lex_tokens.Code as code
@@ -295,10 +295,10 @@ module _ {M : Type 1} (𝓤 : URA M) (H : Heap 𝓤) (A : Atoms 𝓤) (W : Given
   Nearer-wf : WellFounded Nearer
   Nearer-wf = InvImage·wf (λ (i : Upto). n - i .0) (Nat·lt-wfRel .wf)
 
-  module _ (𝓣 : Tables 𝓤 H) (known-plan : Triple 𝓤 (𝓣 .C #lexer_structs·plan) (Plan 𝓤 H A mem run))
-      (known-writes : Triple 𝓤 (𝓣 .C #lexer_structs·writes) (WritesC 𝓤 H A mem run))
-      (known-first : Triple 𝓤 (𝓣 .C #lexer_structs·first) (First 𝓤 H A mem run))
-      (known-advance : Triple 𝓤 (𝓣 .C #lexer_structs·advance) (Advance 𝓤 H A mem run)) where
+  module _ (𝓣 : Tables 𝓤 H) (known-plan : Triple 𝓤 (𝓣 .C #structs·plan) (Plan 𝓤 H A mem run))
+      (known-writes : Triple 𝓤 (𝓣 .C #structs·writes) (WritesC 𝓤 H A mem run))
+      (known-first : Triple 𝓤 (𝓣 .C #structs·first) (First 𝓤 H A mem run))
+      (known-advance : Triple 𝓤 (𝓣 .C #structs·advance) (Advance 𝓤 H A mem run)) where
     abbrev C : Calls 𝓤 H
     C = 𝓣 .C
 
@@ -527,10 +527,10 @@ module _ {M : Type 1} (𝓤 : URA M) (H : Heap 𝓤) (A : Atoms 𝓤) (W : Given
         move ! (24 ∷ 25 ∷ 26 ∷ 27 ∷ []) $ planning l₀ l₁ l₂ l₃ l₄ l₅ l₆ l₇ l₈ l₉ l₁₀ l₁₁))))))))))))
 
 module _ {M : Type 1} (𝓤 : URA M) (H : Heap 𝓤) (A : Atoms 𝓤) (W : Given 𝓤 H A) (mem : Memory → SProp 𝓤) (run : Routine → Fun 𝓤)
-    (𝓣 : Tables 𝓤 H) (known-plan : Triple 𝓤 (𝓣 .C #lexer_structs·plan) (Plan 𝓤 H A mem run))
-    (known-writes : Triple 𝓤 (𝓣 .C #lexer_structs·writes) (WritesC 𝓤 H A mem run))
-    (known-first : Triple 𝓤 (𝓣 .C #lexer_structs·first) (First 𝓤 H A mem run))
-    (known-advance : Triple 𝓤 (𝓣 .C #lexer_structs·advance) (Advance 𝓤 H A mem run)) where
+    (𝓣 : Tables 𝓤 H) (known-plan : Triple 𝓤 (𝓣 .C #structs·plan) (Plan 𝓤 H A mem run))
+    (known-writes : Triple 𝓤 (𝓣 .C #structs·writes) (WritesC 𝓤 H A mem run))
+    (known-first : Triple 𝓤 (𝓣 .C #structs·first) (First 𝓤 H A mem run))
+    (known-advance : Triple 𝓤 (𝓣 .C #structs·advance) (Advance 𝓤 H A mem run)) where
   lex-tokens-walks : Walks 𝓤 H A lex-tokens.ended stayed (WpFn 𝓤 H (𝓣 .C) (𝓣 .Λ) code.function) (lex-tokens.clauses 𝓤 H A mem run)
   lex-tokens-walks =
       walked 𝓤 H A lex-tokens.ended stayed (lex-tokens.clauses 𝓤 H A mem run) (WpFn 𝓤 H (𝓣 .C) (𝓣 .Λ) code.function)
@@ -551,13 +551,13 @@ pub lex-tokens-spec : {M : Type 1} → stated.statement M
 unfolding code.routine tablesOf
 lex-tokens-spec 𝓤 H 𝓜 𝓖 𝓡 =
     entered 𝓤 H (tripleOf 𝓤 H (𝓖 .A) lex-tokens.signature (lex-tokens.spec 𝓤 H (𝓖 .A) (𝓜 .mem) (𝓡 .run)))
-    (tables 𝓤 H 𝓜 𝓡 code.env .C) (tables 𝓤 H 𝓜 𝓡 code.env .Λ) #lexer_structs·lex-tokens code.function (code.unfolded 𝓤 H 𝓜 𝓡)
+    (tables 𝓤 H 𝓜 𝓡 code.env .C) (tables 𝓤 H 𝓜 𝓡 code.env .Λ) #structs·lex-tokens code.function (code.unfolded 𝓤 H 𝓜 𝓡)
     (lex-tokens-meets 𝓤 H (𝓖 .A) (givenOf 𝓤 H 𝓜 𝓖) (𝓜 .mem) (𝓡 .run) (tablesOf 𝓤 H 𝓜 (tables 𝓤 H 𝓜 𝓡 code.env))
-    (cited 𝓤 H (Plan 𝓤 H (𝓖 .A) (𝓜 .mem) (𝓡 .run)) 𝓜 𝓡 code.env #lexer_structs·plan plan-def.routine code.calls-records·plan
+    (cited 𝓤 H (Plan 𝓤 H (𝓖 .A) (𝓜 .mem) (𝓡 .run)) 𝓜 𝓡 code.env #structs·plan plan-def.routine code.calls-lexer-structs·plan
     (plan-thm.met 𝓤 H 𝓜 𝓖 𝓡))
-    (cited 𝓤 H (WritesC 𝓤 H (𝓖 .A) (𝓜 .mem) (𝓡 .run)) 𝓜 𝓡 code.env #lexer_structs·writes writes-def.routine code.calls-records·writes
+    (cited 𝓤 H (WritesC 𝓤 H (𝓖 .A) (𝓜 .mem) (𝓡 .run)) 𝓜 𝓡 code.env #structs·writes writes-def.routine code.calls-lexer-structs·writes
     (writes-thm.met 𝓤 H 𝓜 𝓖 𝓡))
-    (cited 𝓤 H (First 𝓤 H (𝓖 .A) (𝓜 .mem) (𝓡 .run)) 𝓜 𝓡 code.env #lexer_structs·first first-def.routine code.calls-records·first
+    (cited 𝓤 H (First 𝓤 H (𝓖 .A) (𝓜 .mem) (𝓡 .run)) 𝓜 𝓡 code.env #structs·first first-def.routine code.calls-lexer-structs·first
     (first-thm.met 𝓤 H 𝓜 𝓖 𝓡))
-    (cited 𝓤 H (Advance 𝓤 H (𝓖 .A) (𝓜 .mem) (𝓡 .run)) 𝓜 𝓡 code.env #lexer_structs·advance advance-def.routine code.calls-records·advance
+    (cited 𝓤 H (Advance 𝓤 H (𝓖 .A) (𝓜 .mem) (𝓡 .run)) 𝓜 𝓡 code.env #structs·advance advance-def.routine code.calls-lexer-structs·advance
     (advance-thm.met 𝓤 H 𝓜 𝓖 𝓡)))
