@@ -17,7 +17,7 @@
  *   6        a place beyond the document; for a cursor also a line   the document's length
  *            past its place plus 1; for a span also a start after
  *            the end, or an end at a byte 80 to BF
- *   7        a number that is no kind of the call's                  that number
+ *   7        a number that is no kind of the call's, or no error's   that number
  *   9        a number that is no edition of TOML                     that number
  *
  * With refusal 1 `length` is that of the faulty sequence behind the valid prefix: the bytes, 1 to 3, that begin no
@@ -176,6 +176,29 @@ typedef struct {
 } galoxumi_encoded;
 
 galoxumi_encoded galoxumi_encoding(size_t kind);
+
+/* What a text of an error is. */
+enum {
+    GALOXUMI_NOTHING = 0,    /* there is no such text */
+    GALOXUMI_MESSAGE = 1,    /* what is wrong */
+    GALOXUMI_LITERAL = 2,    /* a text that is expected at the error's place */
+    GALOXUMI_DESCRIPTION = 3 /* words for what is expected there */
+};
+
+/* A text of the error that has a number, 1 to 15, in the edition of TOML that a number names, 10 or 11. which is 0 for
+ * its message, and 1, 2 .. for the things that it expects, in their order. expected says how many these are, and said
+ * what the text is: GALOXUMI_NOTHING where which is more than they are. Then the text's length, and the text with zeros
+ * after it. The words are toml_parser's; only error 8 expects more in edition 11 than in 10. All is zero where refused.
+ * Refusals 7, 9. */
+typedef struct {
+    galoxumi_answer answer;
+    size_t expected;
+    size_t said;
+    size_t length;
+    uint8_t bytes[43];
+} galoxumi_words;
+
+galoxumi_words galoxumi_error_words(size_t error, size_t edition, size_t which);
 
 #ifdef __cplusplus
 }

@@ -348,6 +348,75 @@ static void past_the_limit(struct memory m, size_t len)
     EXPECT(m.out[0] == 0xA5 && m.records[0][0] == 7 && m.tokens[0][0] == 7);
 }
 
+/* ---- the words of errors */
+
+static int says(galoxumi_words w, size_t expected, size_t said, const char *words)
+{
+    uint8_t padded[43] = {0};
+    memcpy(padded, words, strlen(words));
+    return answers(w.answer, 0, 0) && w.expected == expected && w.said == said && w.length == strlen(words)
+           && memcmp(w.bytes, padded, sizeof padded) == 0;
+}
+
+static int unsaid(galoxumi_words w, size_t refusal, size_t value)
+{
+    static const uint8_t zeros[43];
+    return answers(w.answer, refusal, value) && w.expected == 0 && w.said == GALOXUMI_NOTHING && w.length == 0
+           && memcmp(w.bytes, zeros, sizeof zeros) == 0;
+}
+
+/* The words of an error in an edition: its message, then what it expects, and then nothing. Here a literal has an L in
+ * front, and a description a D. */
+static int has_words(size_t error, size_t edition, const char *message, const char *const *expected)
+{
+    size_t n = 0;
+    while (expected[n]) {
+        n++;
+    }
+    int ok = says(galoxumi_error_words(error, edition, 0), n, GALOXUMI_MESSAGE, message);
+    for (size_t i = 0; i < n; i++) {
+        size_t said = expected[i][0] == 'L' ? GALOXUMI_LITERAL : GALOXUMI_DESCRIPTION;
+        ok &= says(galoxumi_error_words(error, edition, i + 1), n, said, expected[i] + 1);
+    }
+    return ok && says(galoxumi_error_words(error, edition, n + 1), n, GALOXUMI_NOTHING, "")
+           && says(galoxumi_error_words(error, edition, SIZE_MAX), n, GALOXUMI_NOTHING, "");
+}
+
+static void words_of_errors(void)
+{
+    static const struct {
+        const char *message, *expected[11];
+    } table[] = {
+        {"invalid literal string", {"L'"}},
+        {"invalid literal string", {"Dnon-single-quote visible characters"}},
+        {"invalid multi-line literal string", {"L'"}},
+        {"carriage return must be followed by newline", {"L\n"}},
+        {"invalid multi-line literal string", {"Dnon-single-quote characters"}},
+        {"invalid basic string", {"L\""}},
+        {"invalid basic string", {"Dnon-double-quote visible characters", "L\\"}},
+        {"missing escaped value", {"Lb", "Lf", "Ln", "Lr", "L\\", "L\"", "Lu", "LU"}},
+        {"too few unicode value digits", {"Dunicode hexadecimal value"}},
+        {"invalid value", {"Dunicode hexadecimal value"}},
+        {"invalid multi-line basic string", {"L\""}},
+        {"invalid multi-line basic string", {"L\\", "Dcharacters"}},
+        {"invalid multi-line basic string", {"L\n"}},
+        {"unquoted keys cannot be empty", {"Dletters", "Dnumbers", "L-", "L_"}},
+        {"invalid unquoted key", {"Dletters", "Dnumbers", "L-", "L_"}},
+    };
+    static const char *const escapes[] = {"Lb", "Lf", "Ln", "Lr", "L\\", "L\"", "Lu", "LU", "Le", "Lx", NULL};
+    FROM("the Rust, src/decoder/string.rs: ParseError::new and with_expected; edition 11: docs/DIFFERENCES.md");
+    for (size_t error = 1; error <= 15; error++) {
+        EXPECT(has_words(error, 10, table[error - 1].message, table[error - 1].expected));
+        EXPECT(has_words(error, 11, table[error - 1].message, error == 8 ? escapes : table[error - 1].expected));
+    }
+    FROM("docs/RULES.md, the refusals: 7 for a number that is no error's, then 9, each with the number, and zeros");
+    EXPECT(unsaid(galoxumi_error_words(0, 10, 0), 7, 0));
+    EXPECT(unsaid(galoxumi_error_words(16, 12, 1), 7, 16));
+    EXPECT(unsaid(galoxumi_error_words(SIZE_MAX, 10, 0), 7, SIZE_MAX));
+    EXPECT(unsaid(galoxumi_error_words(8, 12, 1), 9, 12));
+    EXPECT(unsaid(galoxumi_error_words(1, 0, 0), 9, 0));
+}
+
 /* With refusal 1 the length of the faulty sequence, from every call that gives it. */
 static int broken(galoxumi_answer a, size_t value, size_t length)
 {
@@ -421,6 +490,7 @@ int main(void)
     RUN(decoding_refused);
     RUN(places);
     RUN(kinds);
+    RUN(words_of_errors);
     RUN(editions);
     RUN(faults);
     RUN(long_documents);

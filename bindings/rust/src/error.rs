@@ -1,6 +1,7 @@
-//! Errors of decoding: a number stands for a description and what was expected, together.
+//! Errors of decoding: a number stands for a description and what was expected, together. The library has the words.
 
-use crate::{Edition, Span};
+use crate::{ffi, Edition, Span};
+use std::sync::OnceLock;
 
 /// What was expected at the place of an error.
 #[derive(Copy, Clone, PartialEq, Eq, Debug)]
@@ -20,26 +21,48 @@ pub struct ParseError {
     unexpected: Span,
 }
 
-use Expected::{Description, Literal};
+/// The words of an error in an edition.
+struct Words {
+    description: &'static str,
+    expected: Vec<Expected>,
+}
 
-const APOSTROPHE: &[Expected] = &[Literal("'")];
-const QUOTATION_MARK: &[Expected] = &[Literal("\"")];
-const LINE_FEED: &[Expected] = &[Literal("\n")];
-const HEX_VALUE: &[Expected] = &[Description("unicode hexadecimal value")];
-// TOML 1.0 has all but the last two.
-const ESCAPES: [Expected; 10] = [
-    Literal("b"),
-    Literal("f"),
-    Literal("n"),
-    Literal("r"),
-    Literal("\\"),
-    Literal("\""),
-    Literal("u"),
-    Literal("U"),
-    Literal("e"),
-    Literal("x"),
-];
-const KEY: &[Expected] = &[Description("letters"), Description("numbers"), Literal("-"), Literal("_")];
+impl Words {
+    /// The words of the error that has a number, unless none has it.
+    fn read(number: usize, edition: Edition) -> Option<Self> {
+        let text = |which| ffi::error_words(number, edition.number(), which);
+        let message = text(0);
+        let expected = (1..=message.expected).map(|which| Expected::read(&text(which))).collect();
+        (message.answer.refusal == 0).then(|| Self { description: kept(&message), expected })
+    }
+
+    /// The words of all errors in an edition, in the order of their numbers: read once, and then kept.
+    fn all(edition: Edition) -> &'static [Self] {
+        static TOML_10: OnceLock<Vec<Words>> = OnceLock::new();
+        static TOML_11: OnceLock<Vec<Words>> = OnceLock::new();
+        let words = match edition {
+            Edition::Toml10 => &TOML_10,
+            Edition::Toml11 => &TOML_11,
+        };
+        words.get_or_init(|| (1..).map_while(|number| Self::read(number, edition)).collect())
+    }
+}
+
+impl Expected {
+    /// A text of a list of what is expected: 2 is a literal's number, and 3 a description's.
+    fn read(text: &ffi::ErrorWords) -> Self {
+        match text.said {
+            2 => Self::Literal(kept(text)),
+            _ => Self::Description(kept(text)),
+        }
+    }
+}
+
+/// A text of the library's, kept for as long as the program runs.
+fn kept(text: &ffi::ErrorWords) -> &'static str {
+    let words = String::from_utf8_lossy(&text.bytes[..text.length]);
+    Box::leak(words.into_owned().into_boxed_str())
+}
 
 impl ParseError {
     pub(crate) fn from_record(record: [usize; 3], text: &[u8], edition: Edition) -> Self {
@@ -64,38 +87,17 @@ impl ParseError {
 
     /// What is wrong.
     pub fn description(&self) -> &'static str {
-        match self.number {
-            1 | 2 => "invalid literal string",
-            3 | 5 => "invalid multi-line literal string",
-            4 => "carriage return must be followed by newline",
-            6 | 7 => "invalid basic string",
-            8 => "missing escaped value",
-            9 => "too few unicode value digits",
-            10 => "invalid value",
-            11..=13 => "invalid multi-line basic string",
-            14 => "unquoted keys cannot be empty",
-            _ => "invalid unquoted key",
-        }
+        self.words().description
     }
 
     /// What was expected there. The list of escapes has no `t`, though `\t` is accepted: it is
-    /// toml_parser's list, behind which TOML 1.1 has its own two.
+    /// toml_parser's list, after which TOML 1.1 has its own two.
     pub fn expected(&self) -> &'static [Expected] {
-        match self.number {
-            1 | 3 => APOSTROPHE,
-            2 => &[Description("non-single-quote visible characters")],
-            4 | 13 => LINE_FEED,
-            5 => &[Description("non-single-quote characters")],
-            6 | 11 => QUOTATION_MARK,
-            7 => &[Description("non-double-quote visible characters"), Literal("\\")],
-            8 => match self.edition {
-                Edition::Toml10 => &ESCAPES[..8],
-                Edition::Toml11 => &ESCAPES,
-            },
-            9 | 10 => HEX_VALUE,
-            12 => &[Literal("\\"), Description("characters")],
-            _ => KEY,
-        }
+        &self.words().expected
+    }
+
+    fn words(&self) -> &'static Words {
+        &Words::all(self.edition)[self.number - 1]
     }
 }
 

@@ -73,6 +73,15 @@ pub(crate) struct Encoded {
     pub encoding: usize,
 }
 
+#[repr(C)]
+pub(crate) struct ErrorWords {
+    pub answer: Answer,
+    pub expected: usize,
+    pub said: usize,
+    pub length: usize,
+    pub bytes: [u8; 43],
+}
+
 mod archive {
     use super::*;
 
@@ -96,6 +105,7 @@ mod archive {
         ) -> Decoded;
         pub fn galoxumi_description(kind: usize) -> Described;
         pub fn galoxumi_encoding(kind: usize) -> Encoded;
+        pub fn galoxumi_error_words(error: usize, edition: usize, which: usize) -> ErrorWords;
     }
 }
 
@@ -154,4 +164,8 @@ pub(crate) fn description(kind: usize) -> Described {
 
 pub(crate) fn encoding(kind: usize) -> Encoded {
     unsafe { archive::galoxumi_encoding(kind) }
+}
+
+pub(crate) fn error_words(error: usize, edition: usize, which: usize) -> ErrorWords {
+    unsafe { archive::galoxumi_error_words(error, edition, which) }
 }

@@ -2,7 +2,7 @@
 //!
 //! Slices go in; typed tokens, decoded bytes and positioned errors come out, in the names that users
 //! of toml_parser know. A document that cannot be served is answered by a [`Refusal`], never by a
-//! panic. No call looks at more than the bytes that it is given, and none keeps anything.
+//! panic. No call looks at more than the bytes that it is given, and none keeps any of them.
 //!
 //! ```
 //! use galoxumi::{lex, TokenKind};

@@ -131,6 +131,11 @@ fn errors_have_their_words() {
     for (text, encoding, number, description, expected) in cases {
         let error = decode(text, encoding).expect("decoded").errors[0];
         assert_eq!((error.number(), error.description(), error.expected()), (number, description, expected));
+        // TOML 1.1 has the same words, and of escapes two more.
+        let later = decode_in(text, encoding, Edition::Toml11).expect("decoded").errors[0];
+        assert_eq!((later.number(), later.description()), (number, description));
+        assert_eq!(later.expected()[..expected.len()], *expected);
+        assert_eq!(later.expected().len(), if number == 8 { 10 } else { expected.len() });
     }
 }
 
@@ -163,7 +168,6 @@ fn toml_11_has_two_more_escapes() {
     let decoded = decode(text, Encoding::BasicString).expect("decoded");
     assert_eq!(decoded.errors.iter().map(|e| (e.number(), e.unexpected().start())).collect::<Vec<_>>(), [(8, 2), (8, 4)]);
     let error = decode_in(br#""\q""#, Encoding::BasicString, Edition::Toml11).expect("decoded").errors[0];
-    assert_eq!(error.expected().len(), 10);
     assert_eq!(error.expected()[8..], [Expected::Literal("e"), Expected::Literal("x")]);
     let error = decode_in(br#""\x4""#, Encoding::BasicString, Edition::Toml11).expect("decoded").errors[0];
     assert_eq!((error.number(), error.unexpected()), (9, Span::new(4, 4)));

@@ -43,3 +43,6 @@ galoxumi-description κs a x y s t p q = p ∙ sym q
 
 pub galoxumi-encoding : OneAnswer promised.galoxumi_encoding.Reads.Learnt
 galoxumi-encoding κs a x y s t p q = p ∙ sym q
+
+pub galoxumi-error-words : OneAnswer promised.galoxumi_error_words.Reads.Learnt
+galoxumi-error-words κs a x y s t p q = p ∙ sym q

@@ -14,7 +14,8 @@ use Rattle.lexer.specs.declared.{Cursor.Cursor, Start.Start, Start.the-variants
 use Rattle.lexer_place.specs.declared.{SpanCheck.SpanCheck, SpanCheck.the-variants.Whole, SpanCheck.the-variants.Refused as Misplaced, Position.Position, Position.the-variants.At as Placed, Position.the-variants.Refused as Unplaced}
 use Rattle.decoder_rules.specs.{Encodings.choiceBy, Decoding.decodeIn, Decoding.bytesBy, Decoding.errorsBy, Decoding.after}
 use Rattle.decoder_rules.specs.declared.{Decoded.Decoded, Decoded.the-variants.Written, Decoded.the-variants.Refused as Undecoded}
-use Rattle.galoxumi.specs.declared.{AnswerNumbers.AnswerNumbers, CursorNumbers.CursorNumbers, StartNumbers.StartNumbers, StepNumbers.StepNumbers, PartNumbers.PartNumbers, PositionNumbers.PositionNumbers, DecodeNumbers.DecodeNumbers, DescribedNumbers.DescribedNumbers, EncodedNumbers.EncodedNumbers}
+use Rattle.decoder_words.specs.declared.{Said.Said, Said.the-variants.Message, Said.the-variants.Literal, Said.the-variants.Description as Wanted, Said.the-variants.Nothing, Words.Words}
+use Rattle.galoxumi.specs.declared.{AnswerNumbers.AnswerNumbers, CursorNumbers.CursorNumbers, StartNumbers.StartNumbers, StepNumbers.StepNumbers, PartNumbers.PartNumbers, PositionNumbers.PositionNumbers, DecodeNumbers.DecodeNumbers, DescribedNumbers.DescribedNumbers, EncodedNumbers.EncodedNumbers, WordsNumbers.WordsNumbers}
 
 -- a flag is 0 or 1 as an answer (`bitOf`), and anything but 0 says yes as an argument
 abbrev pub flag : ℕ → Bool
@@ -117,3 +118,20 @@ describedNumbers d = record { answer = toldBy (d .answer); length = d .len; byte
 
 abbrev pub encodedNumbers : KindEncoding → EncodedNumbers
 encodedNumbers e = record { answer = toldBy (e .answer); encoding = e .number }
+
+-- a text of an error: what it is, as a number
+abbrev pub saidNumber : Said → ℕ
+saidNumber Nothing = 0
+saidNumber Message = 1
+saidNumber Literal = 2
+saidNumber Wanted = 3
+
+abbrev pub wordsNumbers : Words → WordsNumbers
+wordsNumbers w =
+    record {
+      answer = toldBy (w .answer);
+      expected = w .expected;
+      said = saidNumber (w .said);
+      length = w .len;
+      bytes = w .bytes;
+    }

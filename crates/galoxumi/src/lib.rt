@@ -11,10 +11,13 @@ ghost use Rattle.lexer.specs.Told.{bitOf};
 ghost use Rattle.lexer.specs.Whole.{lexAnswer, lexMemory};
 ghost use Rattle.lexer_place.specs.Spans.{spanAnswer, spanText};
 ghost use Rattle.lexer_place.specs.Positions.{positionAnswer};
+ghost use Rattle.decoder_words.specs.Words.{errorWords};
 ghost use Rattle.galoxumi.specs.Numbers.{flag, answerOf, refusedBy, toldBy, cursorNumbers, noToken, partFrom};
 ghost use Rattle.galoxumi.specs.Numbers.{checkNumbers, startNumbers, stepNumbers, lexNumbers, spanNumbers, partOf, partText};
 ghost use Rattle.galoxumi.specs.Numbers.{positionNumbers, decodeNumbers, decodeAnswer, outputAfter, errorsAfter, describedNumbers, encodedNumbers};
+ghost use Rattle.galoxumi.specs.Numbers.{saidNumber, wordsNumbers};
 use decoder_rules::Decoded;
+use decoder_words::Said;
 use lexer::Cursor;
 use lexer::Lexed;
 use lexer::Start;
@@ -99,6 +102,16 @@ pub struct DescribedNumbers {
 pub struct EncodedNumbers {
     pub answer: AnswerNumbers,
     pub encoding: usize,
+}
+
+// `said` is 0 for no text, 1 for the message, 2 for a literal and 3 for a description.
+#[repr(C)]
+pub struct WordsNumbers {
+    pub answer: AnswerNumbers,
+    pub expected: usize,
+    pub said: usize,
+    pub length: usize,
+    pub bytes: [u8; 43],
 }
 
 #[no_mangle]
@@ -271,6 +284,23 @@ pub extern "C" fn galoxumi_encoding(kind: usize) -> EncodedNumbers
     }
 }
 
+#[no_mangle]
+pub extern "C" fn galoxumi_error_words(error: usize, edition: usize, which: usize) -> WordsNumbers
+    ensures { λ r. ⌜ r ≡ wordsNumbers (errorWords error edition which) ⌝ }
+{
+    let w = decoder_words::error_words(error, edition, which);
+    let answer = w.answer;
+    let said = w.said;
+    let bytes = w.bytes;
+    WordsNumbers {
+        answer: told(answer),
+        expected: w.expected,
+        said: said_number(said),
+        length: w.len,
+        bytes,
+    }
+}
+
 fn answer_of(value: usize) -> AnswerNumbers
     ensures { λ r. ⌜ r ≡ answerOf value ⌝ }
 {
@@ -312,6 +342,17 @@ fn told(a: Answer) -> AnswerNumbers
     match a {
         Answer::Found => answer_of(0),
         Answer::Refused(r) => refused(r),
+    }
+}
+
+fn said_number(said: Said) -> usize
+    ensures { λ r. ⌜ r ≡ saidNumber said ⌝ }
+{
+    match said {
+        Said::Nothing => 0,
+        Said::Message => 1,
+        Said::Literal => 2,
+        Said::Description => 3,
     }
 }
 

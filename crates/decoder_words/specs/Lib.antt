@@ -1,0 +1,3 @@
+pub mod ErrorNumbers
+pub mod Words
+pub mod Told
