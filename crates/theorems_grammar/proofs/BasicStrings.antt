@@ -33,16 +33,16 @@ use Rattle.theorems_grammar.proofs.LineMarks.{marked, line-errors, line
 
 -- in one edition of TOML
 module _ (ed : Edition) where
-  abbrev P : Pieces
-  P = pieceOf (BasicText ed)
+  abbrev pieces : Pieces
+  pieces = pieceOf (BasicText ed)
 
   -- ---- the pieces, on bytes
 
-  plain : CopiesRuns P basicUnescaped
+  plain : CopiesRuns pieces basicUnescaped
   unfolding basicPiece run
-  plain at b s e = rw e
+  plain at b s class = rw class
 
-  slash : (at : ℕ) (s : List ℕ) → P false at (0x5C ∷ s) ≡ escapePiece ed at s
+  slash : (at : ℕ) (s : List ℕ) → pieces false at (0x5C ∷ s) ≡ escapePiece ed at s
   unfolding basicPiece basicUnescaped
   slash at s = refl
 
@@ -50,24 +50,26 @@ module _ (ed : Edition) where
   abbrev Good : ℕ → List ℕ → Type 0
   Good b r = (basicUnescaped b ≡ true) ⊎ ((b ≡ 0x5C) × EscapedAt ed r)
 
-  clean : (at b : ℕ) (r : List ℕ) → P false at (b ∷ r) .verdict ≡ Clean → Good b r
+  clean : (at b : ℕ) (r : List ℕ) → pieces false at (b ∷ r) .verdict ≡ Clean → Good b r
   unfolding basicPiece
   clean at b r =
-      cond-case (IfClean (Good b r)) (basicUnescaped b) (λ h e. inl h)
-      λ h. by-eq (IfClean (Good b r)) b 0x5C (λ q e. inr (q, escape-inv ed at r e)) (λ q e. absurd (wrong≢clean e))
+      cond-case (IfClean (Good b r)) (basicUnescaped b) (λ test clean-piece. inl test)
+      λ test. by-eq (IfClean (Good b r)) b 0x5C (λ is-slash clean-piece. inr (is-slash, escape-inv ed at r clean-piece))
+      (λ is-slash clean-piece. absurd (wrong≢clean clean-piece))
 
-  char-reads : ReadsChars P basicUnescaped
-  char-reads = reads-char P basicUnescaped plain basic-high
+  char-reads : ReadsChars pieces basicUnescaped
+  char-reads = reads-char pieces basicUnescaped plain basic-high
 
   -- ---- from the grammar
 
-  chars-read : {cs v : List ℕ} (d : BasicChars ed cs v) → CharsName d → ReadsAs P cs v
-  chars-read stop n at = reads-none P false at []
-  chars-read (more {r = r} (basic-unescaped {c} u) d) n at =
-      let a = char-reads c at (encodes r) (basic-at u) in reads-then P a (chars-read d (n .1) (a .to))
-  chars-read (more {r = r} (escaped-char (escaped {t} e)) d) n at =
-      let a = escape-reads P e (n .0) at (encodes r) (slash at (t ++ encodes r)) in
-      rw (encodes-ascii (0x5C ∷ t) r (omega arith, escape-ascii e)) (reads-then P a (chars-read d (n .1) (a .to)))
+  chars-read : {cs v : List ℕ} (d : BasicChars ed cs v) → CharsName d → ReadsAs pieces cs v
+  chars-read stop names at = reads-none pieces false at []
+  chars-read (more {r = r} (basic-unescaped {c} class) rest) names at =
+      let first = char-reads c at (encodes r) (basic-at class) in reads-then pieces first (chars-read rest (names .1) (first .to))
+  chars-read (more {r = r} (escaped-char (escaped {t} char)) rest) names at =
+      let first = escape-reads pieces char (names .0) at (encodes r) (slash at (t ++ encodes r)) in
+      rw (encodes-ascii (0x5C ∷ t) r (omega arith, escape-ascii char))
+      (reads-then pieces first (chars-read rest (names .1) (first .to)))
 
   -- ---- to the grammar
 
@@ -75,68 +77,73 @@ module _ (ed : Edition) where
   Chars cs = (v : List ℕ) × (d : BasicChars ed cs v) × CharsName d
 
   put-char : (c : ℕ) (cs : List ℕ) → Scalar c → basicUnescaped c ≡ true → Chars cs → Chars (c ∷ cs)
-  put-char c cs sc h (v, d, n) = (c ∷ v, more (basic-unescaped (basic-is c sc h)) d, (tt, n))
+  put-char c cs scalar class (v, chars, names) = (c ∷ v, more (basic-unescaped (basic-is c scalar class)) chars, (tt, names))
 
-  put-escape : (s : List ℕ) (x : EscapedAt ed s) (r : List ℕ) → Chars r → Chars (0x5C ∷ (x .t ++ r))
-  put-escape s x r (v, d, n) = (x .v ∷ v, more (escaped-char (escaped (x .char))) d, (x .names, n))
+  put-escape : (s : List ℕ) (escape : EscapedAt ed s) (r : List ℕ) → Chars r → Chars (0x5C ∷ (escape .t ++ r))
+  put-escape s escape r (v, chars, names) =
+      (escape .v ∷ v, more (escaped-char (escaped (escape .char))) chars, (escape .names, names))
 
   -- code points without error are derived
   abbrev CharsIf : List ℕ → Type 0
-  CharsIf cs = All Scalar cs → (at : ℕ) → ErrorFree P false at (encodes cs) → Chars cs
+  CharsIf cs = All Scalar cs → (at : ℕ) → ErrorFree pieces false at (encodes cs) → Chars cs
 
-  module _ (n : ℕ) (ih : (ds : List ℕ) → length ds ≤ n → CharsIf ds) (c : ℕ) (cs : List ℕ) (l : length cs ≤ n)
-      (sc : All Scalar (c ∷ cs)) (at : ℕ) (e : ErrorFree P false at (encodes (c ∷ cs))) where
+  module _ (n : ℕ) (shorter : (ds : List ℕ) → length ds ≤ n → CharsIf ds) (c : ℕ) (cs : List ℕ) (few : length cs ≤ n)
+      (scalars : All Scalar (c ∷ cs)) (at : ℕ) (clean-text : ErrorFree pieces false at (encodes (c ∷ cs))) where
     char-clean : basicUnescaped c ≡ true → Chars (c ∷ cs)
-    char-clean h =
-        let a = char-reads c at (encodes cs) h in
-        put-char c cs (sc .0) h (ih cs l (sc .1) (a .to) (sym (a .quiet) ∙ e))
+    char-clean class =
+        let reading = char-reads c at (encodes cs) class in
+        put-char c cs (scalars .0) class (shorter cs few (scalars .1) (reading .to) (sym (reading .quiet) ∙ clean-text))
 
-    escape-clean : (x : EscapedAt ed (encodes cs)) → ErrorFree P false at (0x5C ∷ encodes cs) → Chars (0x5C ∷ cs)
-    escape-clean x z =
-        let f = ascii-led (x .t) cs (x .rest) (escape-ascii (x .char)) (x .split) in
-        let a = escape-reads P (x .char) (x .names) at (x .rest) (slash at (x .t ++ x .rest)) in
-        let z₂ : ErrorFree P false (a .to) (encodes (f .rest)) =
-        rw (f .bytes) (sym (a .quiet) ∙ (sym (ap (λ y. collect P notesAt 0 false at (0x5C ∷ y)) (x .split)) ∙ z)) in
-        let s₂ : All Scalar (f .rest) = all-parts Scalar (x .t) (f .rest) (subst (All Scalar) (f .text) (sc .1)) .1 in
-        let l₂ : length cs ≡ length (x .t) + length (f .rest) = ap length (f .text) ∙ length-append (x .t) (f .rest) in
-        let d = ih (f .rest) (omega arith) s₂ (a .to) z₂ in
-        subst (λ y. Chars (0x5C ∷ y)) (sym (f .text)) (put-escape (encodes cs) x (f .rest) d)
+    escape-clean : (escape : EscapedAt ed (encodes cs)) → ErrorFree pieces false at (0x5C ∷ encodes cs) → Chars (0x5C ∷ cs)
+    escape-clean escape clean-escape =
+        let led = ascii-led (escape .t) cs (escape .rest) (escape-ascii (escape .char)) (escape .split) in
+        let reading =
+        escape-reads pieces (escape .char) (escape .names) at (escape .rest) (slash at (escape .t ++ escape .rest)) in
+        let clean-left : ErrorFree pieces false (reading .to) (encodes (led .rest)) =
+        rw (led .bytes)
+        (sym (reading .quiet) ∙ (sym (ap (λ y. collect pieces notesAt 0 false at (0x5C ∷ y)) (escape .split)) ∙ clean-escape)) in
+        let scalars-left : All Scalar (led .rest) =
+        all-parts Scalar (escape .t) (led .rest) (subst (All Scalar) (led .text) (scalars .1)) .1 in
+        let lengths : length cs ≡ length (escape .t) + length (led .rest) =
+        ap length (led .text) ∙ length-append (escape .t) (led .rest) in
+        let chars = shorter (led .rest) (omega arith) scalars-left (reading .to) clean-left in
+        subst (λ y. Chars (0x5C ∷ y)) (sym (led .text)) (put-escape (encodes cs) escape (led .rest) chars)
 
     some-clean : Chars (c ∷ cs)
     some-clean = elim (side c) [
-      | beyond h ↦ char-clean (basic-high c h)
-      | ascii h ↦
-          let z : ErrorFree P false at (c ∷ encodes cs) = rw (encode-1 c h) at e in
-          elim (clean at c (encodes cs) (first-clean P false at c (encodes cs) z)) [
-            | inl u ↦ char-clean u
-            | inr p ↦
-                let z₂ = subst (λ y. ErrorFree P false at (y ∷ encodes cs)) (p .0) z in
-                subst (λ y. Chars (y ∷ cs)) (sym (p .0)) (escape-clean (p .1) z₂)
+      | beyond size ↦ char-clean (basic-high c size)
+      | ascii size ↦
+          let clean-bytes : ErrorFree pieces false at (c ∷ encodes cs) = rw (encode-1 c size) at clean-text in
+          elim (clean at c (encodes cs) (first-clean pieces false at c (encodes cs) clean-bytes)) [
+            | inl class ↦ char-clean class
+            | inr escaped-here ↦
+                let clean-escape = subst (λ y. ErrorFree pieces false at (y ∷ encodes cs)) (escaped-here .0) clean-bytes in
+                subst (λ y. Chars (y ∷ cs)) (sym (escaped-here .0)) (escape-clean (escaped-here .1) clean-escape)
           ]
     ]
 
   chars-clean : (cs : List ℕ) → CharsIf cs
-  chars-clean cs = by-length CharsIf (λ sc at e. ([], stop, tt)) some-clean (length cs) cs (omega arith)
+  chars-clean cs = by-length CharsIf (λ scalars at clean-text. ([], stop, tt)) some-clean (length cs) cs (omega arith)
 
   -- ---- the text
 
   -- a derived text has no error, and its bytes are its value's
-  pub basic-complete : {cs v : List ℕ} (d : BasicString ed cs v) → BasicNames d
+  pub basic-complete : {cs v : List ℕ} (chars : BasicString ed cs v) → BasicNames chars
       → (errorsOf (BasicText ed) (encodes cs) ≡ []) × (bytesOf (BasicText ed) (encodes cs) ≡ encodes v)
-  basic-complete (basic-string {t} {v} d) n =
-      let r = chars-read d n 1 in
+  basic-complete (basic-string {t} {v} chars) names =
+      let reading = chars-read chars names 1 in
       let low : 0x22 < 0x80 = omega arith in (
-        line-errors (BasicText ed) 0x22 low (λ t. refl) t ∙ r .quiet,
-        line-bytes (BasicText ed) 0x22 low (λ t. refl) t ∙ (r .bytes ∙ append-nil (encodes v)),
+        line-errors (BasicText ed) 0x22 low (λ t. refl) t ∙ reading .quiet,
+        line-bytes (BasicText ed) 0x22 low (λ t. refl) t ∙ (reading .bytes ∙ append-nil (encodes v)),
       )
 
   -- a text without error is derived
   pub basic-sound : (cs : List ℕ) → All Scalar cs → errorsOf (BasicText ed) (encodes cs) ≡ []
       → (v : List ℕ) × (d : BasicString ed cs v) × BasicNames d
-  basic-sound cs sc e =
-      let o = line-text (BasicText ed) 0x22 (omega arith) (λ t. refl) cs sc e in
-      subst (λ x. (v : List ℕ) × (d : BasicString ed x v) × BasicNames d) (sym (o .text))
-      (put (o .body) (chars-clean (o .body) (o .each) 1 (o .clean)))
+  basic-sound cs scalars clean-text =
+      let parts = line-text (BasicText ed) 0x22 (omega arith) (λ t. refl) cs scalars clean-text in
+      subst (λ x. (v : List ℕ) × (d : BasicString ed x v) × BasicNames d) (sym (parts .text))
+      (put (parts .body) (chars-clean (parts .body) (parts .each) 1 (parts .clean)))
     where
       put : (m : List ℕ) → Chars m → (v : List ℕ) × (d : BasicString ed (marked 0x22 m) v) × BasicNames d
-      put m (v, d, n) = (v, basic-string d, n)
+      put m (v, d, names) = (v, basic-string d, names)

@@ -35,57 +35,60 @@ data Outcome (b m o e n : ℕ) : Type 0 where
   too-few : b ≤ o → e < m → n ≡ 5 → Outcome b m o e n
   fits : b ≤ o → m ≤ e → n ≡ 0 → Outcome b m o e n
 
-module _ (bytes : List ℕ) (errors : List (List ℕ)) (o e : ℕ) (a : Decoded) (is : fitted bytes errors o e ≡ a) where
+module _ (bytes : List ℕ) (errors : List (List ℕ)) (o e : ℕ) (a : Decoded) (answer-is : fitted bytes errors o e ≡ a) where
   written : length bytes ≤ o → length errors ≤ e → Written (length bytes) (length errors) ≡ a
-  written l k = fitted-written bytes errors o e (length bytes) (length errors) refl refl l k ∙ is
+  written bytes-fit errors-fit =
+      fitted-written bytes errors o e (length bytes) (length errors) refl refl bytes-fit errors-fit ∙ answer-is
 
   outcome : Outcome (length bytes) (length errors) o e (decodedNumber a)
   outcome = elim (decLt o (length bytes)) [
-    | yes l ↦ too-short l (ap decodedNumber (sym (fitted-short bytes errors o e (length bytes) refl l ∙ is)))
-    | no l ↦ elim (decLt e (length errors)) [
-      | yes k ↦ too-few (omega arith) k
-          (ap decodedNumber (sym (fitted-few bytes errors o e (length bytes) (length errors) refl refl (omega arith) k ∙ is)))
-      | no k ↦ fits (omega arith) (omega arith) (ap decodedNumber (sym (written (omega arith) (omega arith))))
+    | yes too-long ↦ too-short too-long
+        (ap decodedNumber (sym (fitted-short bytes errors o e (length bytes) refl too-long ∙ answer-is)))
+    | no bytes-fit ↦ elim (decLt e (length errors)) [
+      | yes too-many ↦ too-few (omega arith) too-many (ap decodedNumber (sym (
+          fitted-few bytes errors o e (length bytes) (length errors) refl refl (omega arith) too-many ∙ answer-is)))
+      | no errors-fit ↦ fits (omega arith) (omega arith) (ap decodedNumber (sym (written (omega arith) (omega arith))))
     ]
   ]
 
   -- n bytes and no error are answered exactly where there is no error, and n bytes fit
   clean : (n : ℕ) → (a ≡ Written n 0) ↔ ((errors ≡ []) × (n ≡ length bytes) × (length bytes ≤ o))
-  clean n = (λ h. to h outcome, from)
+  clean n = (λ answered. to answered outcome, from)
     where
       to : a ≡ Written n 0 → Outcome (length bytes) (length errors) o e (decodedNumber a)
           → (errors ≡ []) × (n ≡ length bytes) × (length bytes ≤ o)
-      to h (too-short l k) = absurd (omega (arith, ap decodedNumber h))
-      to h (too-few l m k) = absurd (omega (arith, ap decodedNumber h))
-      to h (fits l m k) =
-          let w = written l m ∙ h in
-          (nil errors (ap decodedErrors w), sym (ap decodedValue w), l)
+      to answered (too-short too-long number) = absurd (omega (arith, ap decodedNumber answered))
+      to answered (too-few bytes-fit too-many number) = absurd (omega (arith, ap decodedNumber answered))
+      to answered (fits bytes-fit errors-fit number) =
+          let same = written bytes-fit errors-fit ∙ answered in
+          (nil errors (ap decodedErrors same), sym (ap decodedValue same), bytes-fit)
 
       from : (errors ≡ []) × (n ≡ length bytes) × (length bytes ≤ o) → a ≡ Written n 0
-      from (p, q, l) =
-          let none : length errors ≡ 0 = ap length p in
-          sym (written l (omega arith)) ∙ (ap (λ (i : ℕ). Written (length bytes) i) none ∙ ap (λ (i : ℕ). Written i 0) (sym q))
+      from (no-errors, count, bytes-fit) =
+          let none : length errors ≡ 0 = ap length no-errors in
+          sym (written bytes-fit (omega arith))
+          ∙ (ap (λ (i : ℕ). Written (length bytes) i) none ∙ ap (λ (i : ℕ). Written i 0) (sym count))
 
 module _ {b m o e n : ℕ} where
   never : (k : ℕ) → (k ≡ 4 → ⊥) → (k ≡ 5 → ⊥) → (k ≡ 0 → ⊥) → Outcome b m o e n → n ≡ k → ⊥
-  never k x y z (too-short l h) p = x (sym p ∙ h)
-  never k x y z (too-few l r h) p = y (sym p ∙ h)
-  never k x y z (fits l r h) p = z (sym p ∙ h)
+  never k not-4 not-5 not-0 (too-short too-long number) is = not-4 (sym is ∙ number)
+  never k not-4 not-5 not-0 (too-few bytes-fit too-many number) is = not-5 (sym is ∙ number)
+  never k not-4 not-5 not-0 (fits bytes-fit errors-fit number) is = not-0 (sym is ∙ number)
 
   when-short : Outcome b m o e n → (n ≡ 4) ↔ (o < b)
-  when-short (too-short l h) = ((λ z. l), λ z. h)
-  when-short (too-few l r h) = ((λ z. omega arith), λ z. omega arith)
-  when-short (fits l r h) = ((λ z. omega arith), λ z. omega arith)
+  when-short (too-short too-long number) = ((λ z. too-long), λ z. number)
+  when-short (too-few bytes-fit too-many number) = ((λ z. omega arith), λ z. omega arith)
+  when-short (fits bytes-fit errors-fit number) = ((λ z. omega arith), λ z. omega arith)
 
   when-few : Outcome b m o e n → (n ≡ 5) ↔ ((b ≤ o) × (e < m))
-  when-few (too-short l h) = ((λ z. absurd (omega arith)), λ z. omega (arith, z .0))
-  when-few (too-few l r h) = ((λ z. (l, r)), λ z. h)
-  when-few (fits l r h) = ((λ z. absurd (omega arith)), λ z. omega (arith, z .1))
+  when-few (too-short too-long number) = ((λ z. absurd (omega arith)), λ z. omega (arith, z .0))
+  when-few (too-few bytes-fit too-many number) = ((λ z. (bytes-fit, too-many)), λ z. number)
+  when-few (fits bytes-fit errors-fit number) = ((λ z. absurd (omega arith)), λ z. omega (arith, z .1))
 
   when-fits : Outcome b m o e n → (n ≡ 0) ↔ ((b ≤ o) × (m ≤ e))
-  when-fits (too-short l h) = ((λ z. absurd (omega arith)), λ z. omega (arith, z .0))
-  when-fits (too-few l r h) = ((λ z. absurd (omega arith)), λ z. omega (arith, z .1))
-  when-fits (fits l r h) = ((λ z. (l, r)), λ z. h)
+  when-fits (too-short too-long number) = ((λ z. absurd (omega arith)), λ z. omega (arith, z .0))
+  when-fits (too-few bytes-fit too-many number) = ((λ z. absurd (omega arith)), λ z. omega (arith, z .1))
+  when-fits (fits bytes-fit errors-fit number) = ((λ z. (bytes-fit, errors-fit)), λ z. number)
 
 -- ---- the call
 
@@ -122,35 +125,41 @@ module _ (ed : Edition) (s : StringKind) (t : List ℕ) (u : Utf8 t) (small : le
   answer-means : (n : ℕ) → (answerOf ed s t out e ≡ Written n 0)
       ↔ ((v : List ℕ) × TextMeans ed s t v × (n ≡ length (encodes v)) × (length (encodes v) ≤ length out))
   answer-means n = (
-    λ h.
-        let x = answer-clean n .0 h in
-        let y = meant .0 (x .0) in
-        let b = value (y .0) (y .1) in
-        (y .0, y .1, x .1 ∙ ap length b, subst (λ (z : List ℕ). length z ≤ length out) b (x .2)),
-    λ y.
-        let b = value (y .0) (y .1) in
-        let fits = subst (λ (z : List ℕ). length z ≤ length out) (sym b) (y .3) in
-        answer-clean n .1 (meant .1 (y .0, y .1), y .2 ∙ sym (ap length b), fits),
+    λ answered.
+        let no-error = answer-clean n .0 answered in
+        let meaning = meant .0 (no-error .0) in
+        let same-bytes = value (meaning .0) (meaning .1) in (
+          meaning .0,
+          meaning .1,
+          no-error .1 ∙ ap length same-bytes,
+          subst (λ (z : List ℕ). length z ≤ length out) same-bytes (no-error .2),
+        ),
+    λ meaning.
+        let same-bytes = value (meaning .0) (meaning .1) in
+        let room = subst (λ (z : List ℕ). length z ≤ length out) (sym same-bytes) (meaning .3) in
+        answer-clean n .1 (meant .1 (meaning .0, meaning .1), meaning .2 ∙ sym (ap length same-bytes), room),
   )
 
   output-is : (v : List ℕ) → TextMeans ed s t v → length (encodes v) ≤ length out
       → outputOf ed s t out e ≡ encodes v ++ drop (length (encodes v)) out
-  output-is v m l =
-      let a = answer-means (length (encodes v)) .1 (v, m, refl, l) in
-      rw (a, ← known-kind ed s, value v m)
+  output-is v means room =
+      let answered = answer-means (length (encodes v)) .1 (v, means, refl, room) in
+      rw (answered, ← known-kind ed s, value v means)
 
   pub called-is : Called ed s t out e
   called-is =
-      let x = outcome bytes errors (length out) e (answerOf ed s t out e) answer-is in
+      let result = outcome bytes errors (length out) e (answerOf ed s t out e) answer-is in
       record {
-        within-limit = never 2 (λ z. omega arith) (λ z. omega arith) (λ z. omega arith) x;
-        valid = never 1 (λ z. omega arith) (λ z. omega arith) (λ z. omega arith) x;
-        known = never 7 (λ z. omega arith) (λ z. omega arith) (λ z. omega arith) x;
-        named = never 9 (λ z. omega arith) (λ z. omega arith) (λ z. omega arith) x;
-        short = when-short x;
-        few = when-few x;
-        answered = when-fits x;
-        no-error = λ l. let c = answer-clean (length bytes) in (λ h. derived .0 (c .0 h .0), λ d. c .1 (derived .1 d, refl, l));
+        within-limit = never 2 (λ z. omega arith) (λ z. omega arith) (λ z. omega arith) result;
+        valid = never 1 (λ z. omega arith) (λ z. omega arith) (λ z. omega arith) result;
+        known = never 7 (λ z. omega arith) (λ z. omega arith) (λ z. omega arith) result;
+        named = never 9 (λ z. omega arith) (λ z. omega arith) (λ z. omega arith) result;
+        short = when-short result;
+        few = when-few result;
+        answered = when-fits result;
+        no-error = λ room.
+            let clean-iff = answer-clean (length bytes) in
+            (λ answered. derived .0 (clean-iff .0 answered .0), λ text. clean-iff .1 (derived .1 text, refl, room));
         meaning = answer-means;
         output = output-is;
       }

@@ -20,10 +20,10 @@ no-true e = absurd (false≢true e)
 -- ---- a range of bytes
 
 among-inv : (a z b : ℕ) → among a z b ≡ true → (a ≤ b) × (b ≤ z)
-among-inv a z b e = (leb-true a b (both-left (leb a b) _ e), leb-true b z (both-right (leb a b) _ e))
+among-inv a z b inside = (leb-true a b (both-left (leb a b) _ inside), leb-true b z (both-right (leb a b) _ inside))
 
 among-at : (a z b : ℕ) → a ≤ b → b ≤ z → among a z b ≡ true
-among-at a z b p q = rw (le-leb a b p, le-leb b z q)
+among-at a z b least most = rw (le-leb a b least, le-leb b z most)
 
 -- ---- wschar
 
@@ -36,8 +36,8 @@ wschar-is b h =
 -- ---- non-ascii
 
 pub non-ascii-of : (c : ℕ) → Scalar c → 0x80 ≤ c → NonAscii c
-non-ascii-of c (inl h) k = x80-D7FF k (omega arith)
-non-ascii-of c (inr h) k = xE000-10FFFF (h .0) (omega arith)
+non-ascii-of c (inl low) high = x80-D7FF high (omega arith)
+non-ascii-of c (inr range) high = xE000-10FFFF (range .0) (omega arith)
 
 pub non-ascii-high : {c : ℕ} → NonAscii c → 0x80 ≤ c
 non-ascii-high (x80-D7FF h k) = h
@@ -60,11 +60,13 @@ literal-at {c} (LiteralChar.non-ascii n) = literal-high c (non-ascii-high n)
 
 pub literal-is : (c : ℕ) → Scalar c → literalChar c ≡ true → LiteralChar c
 unfolding literalChar
-literal-is c s t =
-    or-inv (eqb c 0x09) _ t (λ h. subst LiteralChar (sym (eqb-true c 0x09 h)) LiteralChar.x09)
-    λ t₂. or-inv (among 0x20 0x26 c) _ t₂ (λ h. let w = among-inv 0x20 0x26 c h in LiteralChar.x20-26 (w .0) (w .1))
-    λ t₃. or-inv (among 0x28 0x7E c) _ t₃ (λ h. let w = among-inv 0x28 0x7E c h in LiteralChar.x28-7E (w .0) (w .1))
-    λ h. LiteralChar.non-ascii (non-ascii-of c s (leb-true 0x80 c h))
+literal-is c scalar in-class =
+    or-inv (eqb c 0x09) _ in-class (λ here. subst LiteralChar (sym (eqb-true c 0x09 here)) LiteralChar.x09)
+    λ not-tab. or-inv (among 0x20 0x26 c) _ not-tab
+    (λ here. let range = among-inv 0x20 0x26 c here in LiteralChar.x20-26 (range .0) (range .1))
+    λ not-low. or-inv (among 0x28 0x7E c) _ not-low
+    (λ here. let range = among-inv 0x28 0x7E c here in LiteralChar.x28-7E (range .0) (range .1))
+    λ here. LiteralChar.non-ascii (non-ascii-of c scalar (leb-true 0x80 c here))
 
 pub mll-literal : {c : ℕ} → MllChar c ↔ LiteralChar c
 mll-literal = (to, from)
@@ -101,12 +103,14 @@ basic-at {c} (BasicUnescaped.non-ascii n) = basic-high c (non-ascii-high n)
 
 pub basic-is : (c : ℕ) → Scalar c → basicUnescaped c ≡ true → BasicUnescaped c
 unfolding basicUnescaped wschar
-basic-is c s t =
-    or-inv (wschar c) _ t (λ h. BasicUnescaped.wschar (wschar-is c h))
-    λ t₁. or-inv (eqb c 0x21) _ t₁ (λ h. subst BasicUnescaped (sym (eqb-true c 0x21 h)) BasicUnescaped.x21)
-    λ t₂. or-inv (among 0x23 0x5B c) _ t₂ (λ h. let w = among-inv 0x23 0x5B c h in BasicUnescaped.x23-5B (w .0) (w .1))
-    λ t₃. or-inv (among 0x5D 0x7E c) _ t₃ (λ h. let w = among-inv 0x5D 0x7E c h in BasicUnescaped.x5D-7E (w .0) (w .1))
-    λ h. BasicUnescaped.non-ascii (non-ascii-of c s (leb-true 0x80 c h))
+basic-is c scalar in-class =
+    or-inv (wschar c) _ in-class (λ here. BasicUnescaped.wschar (wschar-is c here))
+    λ not-blank. or-inv (eqb c 0x21) _ not-blank (λ here. subst BasicUnescaped (sym (eqb-true c 0x21 here)) BasicUnescaped.x21)
+    λ not-x21. or-inv (among 0x23 0x5B c) _ not-x21
+    (λ here. let range = among-inv 0x23 0x5B c here in BasicUnescaped.x23-5B (range .0) (range .1))
+    λ not-low. or-inv (among 0x5D 0x7E c) _ not-low
+    (λ here. let range = among-inv 0x5D 0x7E c here in BasicUnescaped.x5D-7E (range .0) (range .1))
+    λ here. BasicUnescaped.non-ascii (non-ascii-of c scalar (leb-true 0x80 c here))
 
 pub mlb-basic : {c : ℕ} → MlbUnescaped c ↔ BasicUnescaped c
 mlb-basic = (to, from)
@@ -133,15 +137,15 @@ mlb-same b = refl
 
 pub digit-is : (b : ℕ) → hexdig b ≡ true → HexDig b (hexValue b)
 unfolding hexdig hexValue
-digit-is b h =
-    or-inv (among 0x30 0x39 b) _ h
-    (λ e. let w = among-inv 0x30 0x39 b e in
+digit-is b in-class =
+    or-inv (among 0x30 0x39 b) _ in-class
+    (λ here. let range = among-inv 0x30 0x39 b here in
     rw (lt-ltb b 0x41 (omega arith)) (HexDig.digit {c = b} {d = b - 0x30} (omega arith) (omega arith)))
-    λ h₂. or-inv (among 0x41 0x46 b) _ h₂
-    (λ e. let w = among-inv 0x41 0x46 b e in
+    λ not-digit. or-inv (among 0x41 0x46 b) _ not-digit
+    (λ here. let range = among-inv 0x41 0x46 b here in
     rw (le-ltb b 0x41 (omega arith), lt-ltb b 0x61 (omega arith))
     (HexDig.upper {c = b} {d = b - 0x37} (omega arith) (omega arith) (omega arith)))
-    (λ e. let w = among-inv 0x61 0x66 b e in
+    (λ here. let range = among-inv 0x61 0x66 b here in
     rw (le-ltb b 0x41 (omega arith), le-ltb b 0x61 (omega arith))
     (HexDig.lower {c = b} {d = b - 0x57} (omega arith) (omega arith) (omega arith)))
 

@@ -60,78 +60,87 @@ module _ (ed : Edition) where
 
   long-of : (k : TokenKind) (t rest : List ℕ) → IsToken k t rest → extent k (t ++ rest) ≡ length t
   unfolding tokenLen
-  long-of k t rest (e, h) = ap (λ (x : TokenKind). extent x (t ++ rest)) (sym e) ∙ h
+  long-of k t rest (kind, long) = ap (λ (x : TokenKind). extent x (t ++ rest)) (sym kind) ∙ long
 
   sound : (s : StringKind) (cs rest : List ℕ) → All Scalar cs → IsToken (tokenKind s) (encodes cs) rest
       → errorsOf (encoding ed s) (encodes cs) ≡ []
       → (v : List ℕ) × Means ed s cs v
   unfolding extent
-  sound literal cs rest h t e = literal-sound cs h e
-  sound basic cs rest h t e = let x = basic-sound ed cs h e in (x .0, (x .1, basic-value ed (x .1) (x .2)))
-  sound ml-literal cs rest h t e =
-      let x = ml-literal-sound cs rest h (long-of (tokenKind ml-literal) (encodes cs) rest t) e in
-      (x .0, (x .1, x .2))
-  sound ml-basic cs rest h t e =
-      let x = ml-basic-sound ed cs rest h (long-of (tokenKind ml-basic) (encodes cs) rest t) e in
-      (x .0, (x .1, x .3, ml-basic-value ed (x .1) (x .2)))
+  sound literal cs rest scalars token clean-text = literal-sound cs scalars clean-text
+  sound basic cs rest scalars token clean-text =
+      let derived = basic-sound ed cs scalars clean-text in
+      (derived .0, (derived .1, basic-value ed (derived .1) (derived .2)))
+  sound ml-literal cs rest scalars token clean-text =
+      let derived = ml-literal-sound cs rest scalars (long-of (tokenKind ml-literal) (encodes cs) rest token) clean-text in
+      (derived .0, (derived .1, derived .2))
+  sound ml-basic cs rest scalars token clean-text =
+      let derived = ml-basic-sound ed cs rest scalars (long-of (tokenKind ml-basic) (encodes cs) rest token) clean-text in
+      (derived .0, (derived .1, derived .3, ml-basic-value ed (derived .1) (derived .2)))
 
   -- ---- a token's text
 
-  module _ (s : StringKind) (t rest : List ℕ) (u : Utf8 t) (tok : IsToken (tokenKind s) t rest) where
-    abbrev k : Encoding
-    k = encoding ed s
+  module _ (s : StringKind) (t rest : List ℕ) (utf8 : Utf8 t) (token : IsToken (tokenKind s) t rest) where
+    abbrev kind : Encoding
+    kind = encoding ed s
 
-    means-of : errorsOf k t ≡ [] → (v : List ℕ) × TextMeans ed s t v
-    means-of e = go (u .0) (u .1) (u .2)
+    means-of : errorsOf kind t ≡ [] → (v : List ℕ) × TextMeans ed s t v
+    means-of clean-text = by-points (utf8 .0) (utf8 .1) (utf8 .2)
       where
-        go : (cs : List ℕ) → All Scalar cs → encodes cs ≡ t → (v : List ℕ) × TextMeans ed s t v
-        go cs h q =
-            let x = sound s cs rest h (subst (λ y. IsToken (tokenKind s) y rest) (sym q) tok) (ap (errorsOf k) q ∙ e) in
-            (x .0, record { points = cs; scalar = h; text = q; means = x .1 })
+        by-points : (cs : List ℕ) → All Scalar cs → encodes cs ≡ t → (v : List ℕ) × TextMeans ed s t v
+        by-points cs scalars text =
+            let meaning =
+            sound s cs rest scalars (subst (λ y. IsToken (tokenKind s) y rest) (sym text) token)
+            (ap (errorsOf kind) text ∙ clean-text) in
+            (meaning .0, record { points = cs; scalar = scalars; text = text; means = meaning .1 })
 
     derives : (v : List ℕ) → TextMeans ed s t v → TextDerived ed s t v
-    derives v m =
-        let d = means-derives s (m .points) v (m .means) in
-        record { points = m .points; scalar = m .scalar; text = m .text; derives = d }
+    derives v meaning =
+        let derivation = means-derives s (meaning .points) v (meaning .means) in
+        record { points = meaning .points; scalar = meaning .scalar; text = meaning .text; derives = derivation }
 
-    clean : (v : List ℕ) → TextDerived ed s t v → errorsOf k t ≡ []
-    clean v d = sym (ap (errorsOf k) (d .text)) ∙ complete s (d .points) v (d .derives)
+    clean : (v : List ℕ) → TextDerived ed s t v → errorsOf kind t ≡ []
+    clean v d = sym (ap (errorsOf kind) (d .text)) ∙ complete s (d .points) v (d .derives)
 
-    value-of : (v : List ℕ) → TextMeans ed s t v → bytesOf k t ≡ encodes v
-    value-of v m = sym (ap (bytesOf k) (m .text)) ∙ bytes s (m .points) v (m .means)
+    value-of : (v : List ℕ) → TextMeans ed s t v → bytesOf kind t ≡ encodes v
+    value-of v meaning = sym (ap (bytesOf kind) (meaning .text)) ∙ bytes s (meaning .points) v (meaning .means)
 
     scalar-value : (v : List ℕ) → TextMeans ed s t v → All Scalar v
-    scalar-value v m = value-scalars ed s (m .points) v (means-derives s (m .points) v (m .means)) (m .scalar)
+    scalar-value v meaning =
+        value-scalars ed s (meaning .points) v (means-derives s (meaning .points) v (meaning .means)) (meaning .scalar)
 
-    derived-iff : (errorsOf k t ≡ []) ↔ ((v : List ℕ) × TextDerived ed s t v)
-    derived-iff = (λ e. let x = means-of e in (x .0, derives (x .0) (x .1)), λ d. clean (d .0) (d .1))
+    derived-iff : (errorsOf kind t ≡ []) ↔ ((v : List ℕ) × TextDerived ed s t v)
+    derived-iff = (
+      λ clean-text. let meaning = means-of clean-text in (meaning .0, derives (meaning .0) (meaning .1)),
+      λ text. clean (text .0) (text .1),
+    )
 
-    means-iff : (errorsOf k t ≡ []) ↔ ((v : List ℕ) × TextMeans ed s t v)
+    means-iff : (errorsOf kind t ≡ []) ↔ ((v : List ℕ) × TextMeans ed s t v)
     means-iff = (means-of, λ m. clean (m .0) (derives (m .0) (m .1)))
 
     agrees : length t ≤ limit → Agrees ed s t
     agrees small =
         record {
-          whole = u;
+          whole = utf8;
           derived = derived-iff;
           meant = means-iff;
           value = value-of;
-          one = λ v w m n. same-scalars v w (scalar-value v m) (scalar-value w n) (sym (value-of v m) ∙ value-of w n);
-          called = called-is ed s t u small derived-iff means-iff value-of;
+          one = λ v w first second.
+              same-scalars v w (scalar-value v first) (scalar-value w second) (sym (value-of v first) ∙ value-of w second);
+          called = called-is ed s t utf8 small derived-iff means-iff value-of;
         }
 
   -- the token at a place
   place-agrees : (doc : List ℕ) (at line : ℕ) → Utf8 (drop at doc) → length doc ≤ limit
       → (s : StringKind) → kindOf (drop at doc) ≡ tokenKind s → Agrees ed s (textOf doc (tokenAt at line (drop at doc)))
-  place-agrees doc at line u l s e =
-      let d : List ℕ = drop at doc in
-      let n = tokenLen d in
-      let p : take n d ++ drop n d ≡ d = take-append-drop n d in
-      let z : length (take n d) ≡ n = length-take-le n d (token-fits d) in
-      let tok : IsToken (tokenKind s) (take n d) (drop n d) = (ap kindOf p ∙ e, ap tokenLen p ∙ sym z) in
+  place-agrees doc at line utf8 few s kind =
+      let left : List ℕ = drop at doc in
+      let n = tokenLen left in
+      let parts : take n left ++ drop n left ≡ left = take-append-drop n left in
+      let taken : length (take n left) ≡ n = length-take-le n left (token-fits left) in
+      let token : IsToken (tokenKind s) (take n left) (drop n left) = (ap kindOf parts ∙ kind, ap tokenLen parts ∙ sym taken) in
       let same : n ≡ at + n - at = omega arith in
-      subst (λ (i : ℕ). Agrees ed s (take i d)) same
-      (agrees s (take n d) (drop n d) (token-cut d u .0) tok (omega (arith, token-fits d, length-drop at doc)))
+      subst (λ (i : ℕ). Agrees ed s (take i left)) same
+      (agrees s (take n left) (drop n left) (token-cut left utf8 .0) token (omega (arith, token-fits left, length-drop at doc)))
 
   -- ---- derived texts at a place
 
@@ -140,18 +149,18 @@ module _ (ed : Edition) where
   end-kind doc at l = rw (drop-of-length-le doc {i = at} l)
 
   eof-no-string : (s : StringKind) → Eof ≡ tokenKind s → ⊥
-  eof-no-string literal z = let y : _≡_ {A = ℕ} 4 39 = ap kindNumber z in omega arith
-  eof-no-string basic z = let y : _≡_ {A = ℕ} 4 34 = ap kindNumber z in omega arith
-  eof-no-string ml-literal z = let y : _≡_ {A = ℕ} 4 1 = ap kindNumber z in omega arith
-  eof-no-string ml-basic z = let y : _≡_ {A = ℕ} 4 2 = ap kindNumber z in omega arith
+  eof-no-string literal same = let numbers : _≡_ {A = ℕ} 4 39 = ap kindNumber same in omega arith
+  eof-no-string basic same = let numbers : _≡_ {A = ℕ} 4 34 = ap kindNumber same in omega arith
+  eof-no-string ml-literal same = let numbers : _≡_ {A = ℕ} 4 1 = ap kindNumber same in omega arith
+  eof-no-string ml-basic same = let numbers : _≡_ {A = ℕ} 4 2 = ap kindNumber same in omega arith
 
   module _ (doc : List ℕ) (at : ℕ) (s : StringKind) (cs v rest : List ℕ)
-      (d : Derived ed s cs v) (e : drop at doc ≡ encodes cs ++ rest) (a : Apart (mark s) rest) where
+      (derived : Derived ed s cs v) (text : drop at doc ≡ encodes cs ++ rest) (apart : Apart (mark s) rest) where
     kind-there : kindOf (drop at doc) ≡ tokenKind s
-    kind-there = ap kindOf e ∙ derived-token ed s cs v rest d a .0
+    kind-there = ap kindOf text ∙ derived-token ed s cs v rest derived apart .0
 
     long-there : tokenLen (drop at doc) ≡ length (encodes cs)
-    long-there = ap tokenLen e ∙ derived-token ed s cs v rest d a .1
+    long-there = ap tokenLen text ∙ derived-token ed s cs v rest derived apart .1
 
     token-there : (line : ℕ) → tokenAt at line (drop at doc) ≡ tokenOf (tokenKind s) at (at + length (encodes cs)) line
     token-there line = rw (kind-there, long-there)
@@ -160,7 +169,7 @@ module _ (ed : Edition) where
     lines-there : lineFeeds (take (tokenLen (drop at doc)) (drop at doc)) ≡ lineFeeds (encodes cs)
     lines-there =
         let n = length (encodes cs) in
-        ap lineFeeds (ap (λ (i : ℕ). take i (drop at doc)) long-there ∙ ap (take n) e ∙ take-append-seam (encodes cs) rest)
+        ap lineFeeds (ap (λ (i : ℕ). take i (drop at doc)) long-there ∙ ap (take n) text ∙ take-append-seam (encodes cs) rest)
 
     before-end : at < length doc
     before-end = elim (decLt at (length doc)) [
@@ -173,24 +182,25 @@ module _ (ed : Edition) where
   pub demand-3 : Demand3 ed
   demand-3 =
       record {
-        tokens = λ doc u l r m s e.
-            let x = by-rule doc r m in
-            subst (λ (y : Token). Agrees ed s (textOf doc y)) (sym (listed-is doc r m))
-            (place-agrees doc (r .span .start) (lineOf doc (r .span .start)) (x .whole u) l s (sym (x .kind) ∙ e));
-        steps = λ doc c u r d e s h.
-            let x = step-gave doc c r d e in
-            let kind : kindOf (drop (c .place) doc) ≡ tokenKind s = ap (λ (y : Token). y .kind) (sym (x .is)) ∙ h in
-            subst (λ (y : Token). Agrees ed s (textOf doc y)) (sym (x .is))
-            (place-agrees doc (c .place) (c .line) u (x .few) s kind);
+        tokens = λ doc utf8 few r listed s is.
+            let facts = by-rule doc r listed in
+            subst (λ (token : Token). Agrees ed s (textOf doc token)) (sym (listed-is doc r listed))
+            (place-agrees doc (r .span .start) (lineOf doc (r .span .start)) (facts .whole utf8) few s (sym (facts .kind) ∙ is));
+        steps = λ doc c utf8 r d gives s is.
+            let facts = step-gave doc c r d gives in
+            let kind : kindOf (drop (c .place) doc) ≡ tokenKind s = ap (λ (token : Token). token .kind) (sym (facts .is)) ∙ is in
+            subst (λ (token : Token). Agrees ed s (textOf doc token)) (sym (facts .is))
+            (place-agrees doc (c .place) (c .line) utf8 (facts .few) s kind);
         reached = reached-cut;
         listed = reached-listed;
-        step-back = λ doc l c o s cs v rest d e a.
-            step-there doc l c o (before-end doc (c .place) s cs v rest d e a)
+        step-back = λ doc few c near s cs v rest derived text apart.
+            step-there doc few c near (before-end doc (c .place) s cs v rest derived text apart)
             ∙ rw (
-              token-there doc (c .place) s cs v rest d e a (c .line),
-              lines-there doc (c .place) s cs v rest d e a,
-              long-there doc (c .place) s cs v rest d e a,
+              token-there doc (c .place) s cs v rest derived text apart (c .line),
+              lines-there doc (c .place) s cs v rest derived text apart,
+              long-there doc (c .place) s cs v rest derived text apart,
             );
-        token-back = λ doc r m s cs v rest d e a.
-            listed-is doc r m ∙ token-there doc (r .span .start) s cs v rest d e a (lineOf doc (r .span .start));
+        token-back = λ doc r listed s cs v rest derived text apart.
+            listed-is doc r listed
+            ∙ token-there doc (r .span .start) s cs v rest derived text apart (lineOf doc (r .span .start));
       }

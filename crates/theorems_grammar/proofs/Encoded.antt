@@ -28,27 +28,27 @@ abbrev Beyond : ℕ → Type 0
 Beyond b = 0x80 ≤ b
 
 beyond-bytes : (c : ℕ) → 0x80 ≤ c → All Beyond (encodeScalar c)
-beyond-bytes c h =
-    let p = parts c in
-    rw (p .whole) (omega (arith, p .more h), all-weaken (λ b t. t .0) (p .tails) (p .each))
+beyond-bytes c high =
+    let bytes = parts c in
+    rw (bytes .whole) (omega (arith, bytes .more high), all-weaken (λ b t. t .0) (bytes .tails) (bytes .each))
 
 -- what holds of a code point and of all beyond ASCII holds of its bytes
 pub char-bytes : {P : ℕ → Type 0} → ((b : ℕ) → 0x80 ≤ b → P b) → (c : ℕ) → P c → All P (encodeScalar c)
-char-bytes high c h = elim (side c) [
-  | ascii l ↦ rw (encode-1 c l) (h, tt)
-  | beyond l ↦ all-weaken high (encodeScalar c) (beyond-bytes c l)
+char-bytes high c holds = elim (side c) [
+  | ascii size ↦ rw (encode-1 c size) (holds, tt)
+  | beyond size ↦ all-weaken high (encodeScalar c) (beyond-bytes c size)
 ]
 
 pub chars-bytes : {P : ℕ → Type 0} → ((b : ℕ) → 0x80 ≤ b → P b) → (cs : List ℕ) → All P cs → All P (encodes cs)
 chars-bytes high [] h = tt
-chars-bytes {P} high (c ∷ cs) h =
-    all-append P (encodeScalar c) (encodes cs) (char-bytes high c (h .0)) (chars-bytes high cs (h .1))
+chars-bytes {P} high (c ∷ cs) each =
+    all-append P (encodeScalar c) (encodes cs) (char-bytes high c (each .0)) (chars-bytes high cs (each .1))
 
 -- the first byte is an ASCII byte only where the code point is
 pub first-is : (c k : ℕ) → k < 0x80 → eqb (parts c .first) k ≡ eqb c k
-first-is c k l = elim (side c) [
-  | ascii h ↦ ap (λ (b : ℕ). eqb b k) (parts c .same h)
-  | beyond h ↦ ne-eqb (parts c .first) k (λ e. omega (arith, parts c .more h)) ∙ sym (ne-eqb c k (λ e. omega arith))
+first-is c k low = elim (side c) [
+  | ascii size ↦ ap (λ (b : ℕ). eqb b k) (parts c .same size)
+  | beyond size ↦ ne-eqb (parts c .first) k (λ e. omega (arith, parts c .more size)) ∙ sym (ne-eqb c k (λ e. omega arith))
 ]
 
 -- ---- ASCII
@@ -70,24 +70,25 @@ pub record Led (t cs s : List ℕ) : Type 0 where
   pub bytes : encodes rest ≡ s
 
 led-cons : (b c : ℕ) (t cs s : List ℕ) → c ≡ b → Led t cs s → Led (b ∷ t) (c ∷ cs) s
-led-cons b c t cs s x f = record { rest = f .rest; text = cc; bytes = f .bytes }
+led-cons b c t cs s same led = record { rest = led .rest; text = cc; bytes = led .bytes }
 
 pub ascii-led : (t cs s : List ℕ) → AllAscii t → encodes cs ≡ t ++ s → Led t cs s
-ascii-led [] cs s h e = record { rest = cs; text = refl; bytes = e }
-ascii-led (b ∷ t) [] s h e = absurd (omega (arith, ap length e))
-ascii-led (b ∷ t) (c ∷ cs) s h e = go (side c) (ascii-led t cs s (h .1))
+ascii-led [] cs s low text = record { rest = cs; text = refl; bytes = text }
+ascii-led (b ∷ t) [] s low text = absurd (omega (arith, ap length text))
+ascii-led (b ∷ t) (c ∷ cs) s low text = by-side (side c) (ascii-led t cs s (low .1))
   where
-    go : Side c → (encodes cs ≡ t ++ s → Led t cs s) → Led (b ∷ t) (c ∷ cs) s
-    go (ascii l) ih =
-        let q : c ∷ encodes cs ≡ b ∷ (t ++ s) = rw (encode-1 c l) at e in
-        let x : c ≡ b = cc in
-        let y : encodes cs ≡ t ++ s = cc in
-        led-cons b c t cs s x (ih y)
-    go (beyond l) ih =
-        let p = parts c in
-        let q : p .first ∷ (p .tails ++ encodes cs) ≡ b ∷ (t ++ s) = ap (λ (x : List ℕ). x ++ encodes cs) (sym (p .whole)) ∙ e in
-        let x : p .first ≡ b = cc in
-        absurd (omega (arith, p .more l, h .0))
+    by-side : Side c → (encodes cs ≡ t ++ s → Led t cs s) → Led (b ∷ t) (c ∷ cs) s
+    by-side (ascii small) led-rest =
+        let bytes : c ∷ encodes cs ≡ b ∷ (t ++ s) = rw (encode-1 c small) at text in
+        let same : c ≡ b = cc in
+        let rest : encodes cs ≡ t ++ s = cc in
+        led-cons b c t cs s same (led-rest rest)
+    by-side (beyond large) led-rest =
+        let char = parts c in
+        let bytes : char .first ∷ (char .tails ++ encodes cs) ≡ b ∷ (t ++ s) =
+        ap (λ (same : List ℕ). same ++ encodes cs) (sym (char .whole)) ∙ text in
+        let same : char .first ≡ b = cc in
+        absurd (omega (arith, char .more large, low .0))
 
 -- what stands between ASCII in bytes stands between it in code points
 pub record Between (a z cs m : List ℕ) : Type 0 where
@@ -101,14 +102,17 @@ ascii-cuttable [] h = tt
 ascii-cuttable (b ∷ z) h = inl (h .0)
 
 pub between : (a z cs m : List ℕ) → AllAscii a → AllAscii z → All Scalar cs → encodes cs ≡ a ++ (m ++ z) → Between a z cs m
-between a z cs m ha hz sc e =
-    let f = ascii-led a cs (m ++ z) ha e in
-    let sr : All Scalar (f .rest) = all-parts Scalar a (f .rest) (subst (All Scalar) (f .text) sc) .1 in
-    go (f .rest) sr (f .text) (f .bytes) (cut m z (f .rest, sr, f .bytes) (ascii-cuttable z hz) .0)
+between a z cs m before-ascii after-ascii scalars text =
+    let led = ascii-led a cs (m ++ z) before-ascii text in
+    let rest-scalars : All Scalar (led .rest) = all-parts Scalar a (led .rest) (subst (All Scalar) (led .text) scalars) .1 in
+    by-cut (led .rest) rest-scalars (led .text) (led .bytes)
+    (cut m z (led .rest, rest-scalars, led .bytes) (ascii-cuttable z after-ascii) .0)
   where
-    go : (r : List ℕ) → All Scalar r → cs ≡ a ++ r → encodes r ≡ m ++ z → Utf8 m → Between a z cs m
-    go r sr t b (ms, sm, em) =
-        let sz : All Scalar z = all-weaken (λ c h. let k : c < 0xD800 = omega arith in inl k) z hz in
-        let e₂ : encodes (ms ++ z) ≡ m ++ z = encodes-append ms z ∙ rw (em, ascii-whole z hz) in
-        let x : r ≡ ms ++ z = same-scalars r (ms ++ z) sr (all-append Scalar ms z sm sz) (b ∙ sym e₂) in
-        record { inner = ms; text = t ∙ ap (λ y. a ++ y) x; bytes = em; each = sm }
+    by-cut : (r : List ℕ) → All Scalar r → cs ≡ a ++ r → encodes r ≡ m ++ z → Utf8 m → Between a z cs m
+    by-cut r rest-scalars rest-text rest-bytes (inner, inner-scalars, inner-bytes) =
+        let after-scalars : All Scalar z = all-weaken (λ c low. let small : c < 0xD800 = omega arith in inl small) z after-ascii in
+        let bytes : encodes (inner ++ z) ≡ m ++ z = encodes-append inner z ∙ rw (inner-bytes, ascii-whole z after-ascii) in
+        let split : r ≡ inner ++ z =
+        same-scalars r (inner ++ z) rest-scalars (all-append Scalar inner z inner-scalars after-scalars)
+        (rest-bytes ∙ sym bytes) in
+        record { inner = inner; text = rest-text ∙ ap (λ y. a ++ y) split; bytes = inner-bytes; each = inner-scalars }

@@ -35,32 +35,32 @@ use Rattle.theorems_grammar.proofs.ClassLaws.{digit-is, digit-at}
 digits-run : {n a v : ℕ} {t : List ℕ} → HexDigits n a t v → (s : List ℕ) → n ≤ run hexdig (t ++ s)
 unfolding run
 digits-run stop s = omega arith
-digits-run (more x r) s = rw (digit-at x .0) (omega (arith, digits-run r s))
+digits-run (more first rest) s = rw (digit-at first .0) (omega (arith, digits-run rest s))
 
 digits-taken : {n a v : ℕ} {t : List ℕ} → HexDigits n a t v → (s : List ℕ) → take n (t ++ s) ≡ t
 digits-taken stop s = refl
-digits-taken (more {c = c} x r) s = ap (c ∷_) (digits-taken r s)
+digits-taken (more {c = c} first rest) s = ap (c ∷_) (digits-taken rest s)
 
 digits-value : {n a v : ℕ} {t : List ℕ} → HexDigits n a t v → v ≡ hexFrom a t
 unfolding hexFrom
 digits-value stop = refl
-digits-value (more x r) = rw (digit-at x .1) (digits-value r)
+digits-value (more first rest) = rw (digit-at first .1) (digits-value rest)
 
 digits-long : {n a v : ℕ} {t : List ℕ} → HexDigits n a t v → length t ≡ n
 digits-long stop = refl
-digits-long (more x r) = ap suc (digits-long r)
+digits-long (more first rest) = ap suc (digits-long rest)
 
 digits-of : (n a : ℕ) (s : List ℕ) → n ≤ run hexdig s → HexDigits n a (take n s) (hexFrom a (take n s))
 unfolding run hexFrom
 digits-of zero a s h = stop
 digits-of (suc n) a [] h = absurd (omega arith)
-digits-of (suc n) a (b ∷ s) h = go (hexdig b) refl h (digits-of n (a * 16 + hexValue b) s)
+digits-of (suc n) a (b ∷ s) enough = by-test (hexdig b) refl enough (digits-of n (a * 16 + hexValue b) s)
   where
-    go : (x : Bool) → hexdig b ≡ x → suc n ≤ cond x (suc (run hexdig s)) 0
+    by-test : (test : Bool) → hexdig b ≡ test → suc n ≤ cond test (suc (run hexdig s)) 0
         → (n ≤ run hexdig s → HexDigits n (a * 16 + hexValue b) (take n s) (hexFrom (a * 16 + hexValue b) (take n s)))
         → HexDigits (suc n) a (b ∷ take n s) (hexFrom (a * 16 + hexValue b) (take n s))
-    go true e l ih = more (digit-is b e) (ih (omega arith))
-    go false e l ih = absurd (omega arith)
+    by-test true is more-left rest-digits = more (digit-is b is) (rest-digits (omega arith))
+    by-test false is more-left rest-digits = absurd (omega arith)
 
 -- what two digits name is a scalar value
 digit-small : {c d : ℕ} → HexDig c d → d < 16
@@ -69,7 +69,7 @@ digit-small {c} {d} (HexDig.upper e h k) = omega arith
 digit-small {c} {d} (HexDig.lower e h k) = omega arith
 
 pub two-scalar : {t : List ℕ} {v : ℕ} → HexDigits 2 0 t v → Scalar v
-two-scalar (more {d = d} x (more {d = e} y stop)) = inl (omega (arith, digit-small x, digit-small y))
+two-scalar (more {d = d} first (more {d = e} second stop)) = inl (omega (arith, digit-small first, digit-small second))
 
 -- ---- the shape of an escape: a visible byte, and then hex digits
 
@@ -87,15 +87,15 @@ pub record Shape (t : List ℕ) : Type 0 where
 
 digits-harmless : {n a v : ℕ} {t : List ℕ} → HexDigits n a t v → All Harmless t
 digits-harmless stop = tt
-digits-harmless (more x r) = (digit-harmless x, digits-harmless r)
+digits-harmless (more first rest) = (digit-harmless first, digits-harmless rest)
   where
     digit-harmless : {c d : ℕ} → HexDig c d → Harmless c
-    digit-harmless {c} {d} (HexDig.digit e h) = (omega arith, omega arith, λ z. omega arith)
-    digit-harmless {c} {d} (HexDig.upper e h k) = (omega arith, omega arith, λ z. omega arith)
-    digit-harmless {c} {d} (HexDig.lower e h k) = (omega arith, omega arith, λ z. omega arith)
+    digit-harmless {c} {d} (HexDig.digit code least) = (omega arith, omega arith, λ is-slash. omega arith)
+    digit-harmless {c} {d} (HexDig.upper code least most) = (omega arith, omega arith, λ is-slash. omega arith)
+    digit-harmless {c} {d} (HexDig.lower code least most) = (omega arith, omega arith, λ is-slash. omega arith)
 
 one-shape : (b : ℕ) → 0x22 ≤ b → b < 0x80 → Shape (b ∷ [])
-one-shape b h l = record { b = b; r = []; is = refl; visible = h; low = l; each = tt }
+one-shape b least most = record { b = b; r = []; is = refl; visible = least; low = most; each = tt }
 
 pub shape : {ed : Edition} {t : List ℕ} {v : ℕ} → EscapeSeqChar ed t v → Shape t
 shape x22 = one-shape 0x22 (omega arith) (omega arith)
@@ -111,21 +111,23 @@ shape x65 = one-shape 0x65 (omega arith) (omega arith)
 shape (x78 {t = t} d) = record { b = 0x78; r = t; is = refl; visible = omega arith; low = omega arith; each = digits-harmless d }
 
 pub escape-ascii : {ed : Edition} {t : List ℕ} {v : ℕ} → EscapeSeqChar ed t v → AllAscii t
-escape-ascii e = let s = shape e in subst AllAscii (sym (s .is)) (s .low, all-weaken (λ c h. h .1) (s .r) (s .each))
+escape-ascii char =
+    let form = shape char in
+    subst AllAscii (sym (form .is)) (form .low, all-weaken (λ c harmless. harmless .1) (form .r) (form .each))
 
 -- ---- an escape is one piece that gives its character
 
 simple-at : (ed : Edition) (b c : ℕ) → letterOf ed b ≡ Stands c → (at : ℕ) (s : List ℕ)
     → escapePiece ed at (b ∷ s) ≡ charPiece 2 c
-simple-at ed b c e at s = sym (escape-simple ed at (b ∷ s) c e)
+simple-at ed b c letter at s = sym (escape-simple ed at (b ∷ s) c letter)
 
 hex-at : (ed : Edition) (b n v : ℕ) (t : List ℕ) → letterOf ed b ≡ Asks n → HexDigits n 0 t v → Scalar v
     → (at : ℕ) (s : List ℕ) → escapePiece ed at (b ∷ (t ++ s)) ≡ charPiece (suc (length (b ∷ t))) v
-hex-at ed b n v t e d sc at s =
-    let value : v ≡ hexFrom 0 (take n (t ++ s)) = digits-value d ∙ ap (hexFrom 0) (sym (digits-taken d s)) in
-    sym (escape-hex ed at (b ∷ (t ++ s)) n e)
-    ∙ (sym (hex-char n at (t ++ s) v (digits-run d s) value (scalar-true v sc))
-    ∙ ap (λ (i : ℕ). charPiece i v) (omega (arith, digits-long d)))
+hex-at ed b n v t letter digits scalar at s =
+    let value : v ≡ hexFrom 0 (take n (t ++ s)) = digits-value digits ∙ ap (hexFrom 0) (sym (digits-taken digits s)) in
+    sym (escape-hex ed at (b ∷ (t ++ s)) n letter)
+    ∙ (sym (hex-char n at (t ++ s) v (digits-run digits s) value (scalar-true v scalar))
+    ∙ ap (λ (i : ℕ). charPiece i v) (omega (arith, digits-long digits)))
 
 pub escape-at : {ed : Edition} {t : List ℕ} {v : ℕ} (e : EscapeSeqChar ed t v) → Names e → (at : ℕ) (s : List ℕ)
     → escapePiece ed at (t ++ s) ≡ charPiece (suc (length t)) v
@@ -137,16 +139,18 @@ escape-at {ed} x66 h = simple-at ed 0x66 0x0C refl
 escape-at {ed} x6E h = simple-at ed 0x6E 0x0A refl
 escape-at {ed} x72 h = simple-at ed 0x72 0x0D refl
 escape-at {ed} x74 h = simple-at ed 0x74 0x09 refl
-escape-at {ed} (x75 {t = t} {v = v} d) h = hex-at ed 0x75 4 v t refl d h
-escape-at {ed} (x55 {t = t} {v = v} d) h = hex-at ed 0x55 8 v t refl d h
+escape-at {ed} (x75 {t = t} {v = v} digits) names = hex-at ed 0x75 4 v t refl digits names
+escape-at {ed} (x55 {t = t} {v = v} digits) names = hex-at ed 0x55 8 v t refl digits names
 escape-at x65 h = simple-at Toml11 0x65 0x1B refl
-escape-at (x78 {t = t} {v = v} d) h = hex-at Toml11 0x78 2 v t refl d (two-scalar d)
+escape-at (x78 {t = t} {v = v} digits) names = hex-at Toml11 0x78 2 v t refl digits (two-scalar digits)
 
 -- so it is read, where it is a piece behind a backslash
-pub escape-reads : (P : Pieces) {ed : Edition} {t : List ℕ} {v : ℕ} (e : EscapeSeqChar ed t v) → Names e → (at : ℕ) (s : List ℕ)
-    → P false at (0x5C ∷ (t ++ s)) ≡ escapePiece ed at (t ++ s) → Reads P false at ((0x5C ∷ t) ++ s) (encodeScalar v) false s
-escape-reads P {t = t} {v = v} e n at s slash =
-    reads-for P false at (0x5C ∷ t) s v (slash ∙ escape-at e n at s) (omega arith)
+pub escape-reads : (pieces : Pieces) {ed : Edition} {t : List ℕ} {v : ℕ} (char : EscapeSeqChar ed t v) → Names char
+    → (at : ℕ) (s : List ℕ)
+    → pieces false at (0x5C ∷ (t ++ s)) ≡ escapePiece ed at (t ++ s)
+    → Reads pieces false at ((0x5C ∷ t) ++ s) (encodeScalar v) false s
+escape-reads pieces {t = t} {v = v} char names at s slash =
+    reads-for pieces false at (0x5C ∷ t) s v (slash ∙ escape-at char names at s) (omega arith)
 
 -- ---- an escape without error stands in front
 
@@ -171,12 +175,12 @@ Right ed b Neither = Unit {0}
 -- a letter k of the table
 right-stands : (ed : Edition) (k v : ℕ) → Named ed (k ∷ []) v → (b : ℕ) → b ≡ k → Right ed b (Stands v)
 unfolding Right
-right-stands ed k v x b e = subst (λ (c : ℕ). Named ed (c ∷ []) v) (sym e) x
+right-stands ed k v named b same = subst (λ (c : ℕ). Named ed (c ∷ []) v) (sym same) named
 
 right-asks : (ed : Edition) (k n : ℕ) → ((t : List ℕ) (v : ℕ) → HexDigits n 0 t v → Scalar v → Named ed (k ∷ t) v)
     → (b : ℕ) → b ≡ k → Right ed b (Asks n)
 unfolding Right
-right-asks ed k n f b e t v d sc = subst (λ (c : ℕ). Named ed (c ∷ t) v) (sym e) (f t v d sc)
+right-asks ed k n named b same t v digits scalar = subst (λ (c : ℕ). Named ed (c ∷ t) v) (sym same) (named t v digits scalar)
 
 right-neither : (ed : Edition) (b : ℕ) → Right ed b Neither
 unfolding Right
@@ -186,7 +190,8 @@ new-right : (ed : Edition) (b : ℕ) → Right ed b (newLetter ed b)
 new-right Toml10 b = right-neither Toml10 b
 new-right Toml11 b =
     by-eq (Right Toml11 b) b 0x65 (right-stands Toml11 0x65 0x1B (x65, tt) b)
-    λ _. by-eq (Right Toml11 b) b 0x78 (right-asks Toml11 0x78 2 (λ t v d sc. (x78 d, tt)) b) (λ _. right-neither Toml11 b)
+    λ _. by-eq (Right Toml11 b) b 0x78 (right-asks Toml11 0x78 2 (λ t v digits scalar. (x78 digits, tt)) b)
+    (λ _. right-neither Toml11 b)
 
 letter-right : (ed : Edition) (b : ℕ) → Right ed b (letterOf ed b)
 unfolding letterOf
@@ -198,41 +203,43 @@ letter-right ed b =
     λ _. by-eq (Right ed b) b 0x6E (right-stands ed 0x6E 0x0A (x6E, tt) b)
     λ _. by-eq (Right ed b) b 0x72 (right-stands ed 0x72 0x0D (x72, tt) b)
     λ _. by-eq (Right ed b) b 0x74 (right-stands ed 0x74 0x09 (x74, tt) b)
-    λ _. by-eq (Right ed b) b 0x75 (right-asks ed 0x75 4 (λ t v d sc. (x75 d, sc)) b)
-    λ _. by-eq (Right ed b) b 0x55 (right-asks ed 0x55 8 (λ t v d sc. (x55 d, sc)) b) (λ _. new-right ed b)
+    λ _. by-eq (Right ed b) b 0x75 (right-asks ed 0x75 4 (λ t v digits scalar. (x75 digits, scalar)) b)
+    λ _. by-eq (Right ed b) b 0x55 (right-asks ed 0x55 8 (λ t v digits scalar. (x55 digits, scalar)) b) (λ _. new-right ed b)
 
 hex-clean : (n at : ℕ) (s : List ℕ) → hexPiece n at s .verdict ≡ Clean → (n ≤ run hexdig s) × Scalar (hexFrom 0 (take n s))
 unfolding hexPiece
 hex-clean n at s =
     let v = hexFrom 0 (take n s) in
-    let P : Piece → Type 0 = IfClean ((n ≤ run hexdig s) × Scalar v) in
-    by-lt P (run hexdig s) n (λ h e. absurd (wrong≢clean e))
-    λ h. cond-case P (isScalar v) (λ is e. (h, true-scalar _ is)) (λ is e. absurd (wrong≢clean e))
+    let Claim : Piece → Type 0 = IfClean ((n ≤ run hexdig s) × Scalar v) in
+    by-lt Claim (run hexdig s) n (λ too-few clean. absurd (wrong≢clean clean))
+    λ enough. cond-case Claim (isScalar v) (λ scalar clean. (enough, true-scalar _ scalar))
+    (λ not-scalar clean. absurd (wrong≢clean clean))
 
-hex-front : (ed : Edition) (b n at : ℕ) (s : List ℕ) → Right ed b (Asks n) → hexPiece n at s .verdict ≡ Clean → EscapedAt ed (b ∷ s)
+hex-front : (ed : Edition) (b n at : ℕ) (s : List ℕ) → Right ed b (Asks n) → hexPiece n at s .verdict ≡ Clean
+    → EscapedAt ed (b ∷ s)
 unfolding Right
-hex-front ed b n at s f e =
-    let w = hex-clean n at s e in
-    let x = f (take n s) (hexFrom 0 (take n s)) (digits-of n 0 s (w .0)) (w .1) in
+hex-front ed b n at s named clean =
+    let digits = hex-clean n at s clean in
+    let escape = named (take n s) (hexFrom 0 (take n s)) (digits-of n 0 s (digits .0)) (digits .1) in
     record {
       t = b ∷ take n s;
       rest = drop n s;
       v = hexFrom 0 (take n s);
       split = ap (b ∷_) (sym (take-append-drop n s));
-      char = x .0;
-      names = x .1;
+      char = escape .0;
+      names = escape .1;
     }
 
 simple-front : (ed : Edition) (b v : ℕ) (s : List ℕ) → Right ed b (Stands v) → EscapedAt ed (b ∷ s)
 unfolding Right
-simple-front ed b v s x = record { t = b ∷ []; rest = s; v = v; split = refl; char = x .0; names = x .1 }
+simple-front ed b v s escape = record { t = b ∷ []; rest = s; v = v; split = refl; char = escape .0; names = escape .1 }
 
 pub escape-inv : (ed : Edition) (at : ℕ) (s : List ℕ) → escapePiece ed at s .verdict ≡ Clean → EscapedAt ed s
 unfolding escapePiece
-escape-inv ed at [] = λ e. absurd (wrong≢clean e)
-escape-inv ed at (b ∷ s) = go (letterOf ed b) (letter-right ed b)
+escape-inv ed at [] = λ clean. absurd (wrong≢clean clean)
+escape-inv ed at (b ∷ s) = by-letter (letterOf ed b) (letter-right ed b)
   where
-    go : (l : Letter) → Right ed b l → escapeBy l at s .verdict ≡ Clean → EscapedAt ed (b ∷ s)
-    go (Stands v) x e = simple-front ed b v s x
-    go (Asks n) x e = hex-front ed b n at s x e
-    go Neither x e = absurd (wrong≢clean e)
+    by-letter : (letter : Letter) → Right ed b letter → escapeBy letter at s .verdict ≡ Clean → EscapedAt ed (b ∷ s)
+    by-letter (Stands v) right clean = simple-front ed b v s right
+    by-letter (Asks n) right clean = hex-front ed b n at s right clean
+    by-letter Neither right clean = absurd (wrong≢clean clean)

@@ -31,7 +31,7 @@ IsToken k t rest = (kindOf (t ++ rest) ≡ k) × (tokenLen (t ++ rest) ≡ lengt
 
 token-of : (k : TokenKind) (t rest : List ℕ) → kindOf (t ++ rest) ≡ k → extent k (t ++ rest) ≡ length t → IsToken k t rest
 unfolding tokenLen
-token-of k t rest e h = (e, ap (λ (x : TokenKind). extent x (t ++ rest)) e ∙ h)
+token-of k t rest kind long = (kind, ap (λ (x : TokenKind). extent x (t ++ rest)) kind ∙ long)
 
 -- ---- the kind, by the marks at the front
 
@@ -62,13 +62,13 @@ encoded-long q h s = ap length (encodes-marked q h s) ∙ marked-long q (encodes
 -- no three marks, where the first byte behind the opening is none or the closing
 triple-line : (q : ℕ) (x : List ℕ) → All (InLine q) x → (rest : List ℕ) → Apart q rest → triple q (q ∷ (x ++ (q ∷ rest))) ≡ false
 triple-line q [] h rest a = triple-two q rest a
-triple-line q (b ∷ x) h rest a = triple-no q b (x ++ (q ∷ rest)) (h .0 .0 .0)
+triple-line q (b ∷ bytes) inside rest apart = triple-no q b (bytes ++ (q ∷ rest)) (inside .0 .0 .0)
 
 -- ---- literal
 
 literals-in : {s : List ℕ} → LiteralChars s → All (InLine 39) s
 literals-in LiteralChars.stop = tt
-literals-in (LiteralChars.more x r) = (literal-in x, literals-in r)
+literals-in (LiteralChars.more class rest) = (literal-in class, literals-in rest)
 
 literal-bytes : {s : List ℕ} → LiteralChars s → All (InLine 39) (encodes s)
 literal-bytes {s} d = chars-bytes (line-high apostrophes) s (literals-in d)
@@ -76,64 +76,65 @@ literal-bytes {s} d = chars-bytes (line-high apostrophes) s (literals-in d)
 literal-token : {cs v : List ℕ} → LiteralString cs v → (rest : List ℕ) → Apart 39 rest
     → IsToken (tokenKind literal) (encodes cs) rest
 unfolding extent
-literal-token (literal-string {s} d) rest h =
-    let e = marked-rest 39 (omega arith) s rest in
-    let p = pass-all (lineTail 39 false) (InLine 39) (line-pass 39) (encodes s) (literal-bytes d) (39 ∷ rest) in
+literal-token (literal-string {s} chars) rest apart =
+    let text = marked-rest 39 (omega arith) s rest in
+    let passed = pass-all (lineTail 39 false) (InLine 39) (line-pass 39) (encodes s) (literal-bytes chars) (39 ∷ rest) in
     token-of (tokenKind literal) (encodes (marked 39 s)) rest
-    (ap kindOf e ∙ kind-apostrophe (encodes s ++ (39 ∷ rest)) (triple-line 39 (encodes s) (literal-bytes d) rest h))
-    (ap (λ x. suc (lineTail 39 false (drop 1 x))) e ∙ omega (arith, line-close 39 rest, encoded-long 39 (omega arith) s))
+    (ap kindOf text ∙ kind-apostrophe (encodes s ++ (39 ∷ rest)) (triple-line 39 (encodes s) (literal-bytes chars) rest apart))
+    (ap (λ x. suc (lineTail 39 false (drop 1 x))) text ∙ omega (arith, line-close 39 rest, encoded-long 39 (omega arith) s))
 
 -- ---- basic
 
 char-in : {c : ℕ} → BasicUnescaped c → All (InLine 34) (encodeScalar c)
-char-in {c} x = char-bytes (line-high quotation) c (basic-in x)
+char-in {c} class = char-bytes (line-high quotation) c (basic-in class)
 
 -- in one edition of TOML
 module _ (ed : Edition) where
   slashed : {t : List ℕ} {v : ℕ} → EscapeSeqChar ed t v → (r : List ℕ) → encodes ((0x5C ∷ t) ++ r) ≡ 0x5C ∷ (t ++ encodes r)
-  slashed {t} e r = encodes-ascii (0x5C ∷ t) r (omega arith, escape-ascii e)
+  slashed {t} char r = encodes-ascii (0x5C ∷ t) r (omega arith, escape-ascii char)
 
   escape-line : {t : List ℕ} {v : ℕ} → EscapeSeqChar ed t v → (s : List ℕ)
       → lineTail 34 false (92 ∷ (t ++ s)) ≡ suc (length t) + lineTail 34 false s
-  escape-line {t} e s =
-      let w = shape e in
-      let digits = all-weaken digit-in (w .r) (w .each) in
-      let a = line-hidden (w .b) (w .r ++ s) (λ z. omega (arith, w .visible)) in
-      let b = pass-all (lineTail 34 false) (InLine 34) (line-pass 34) (w .r) digits s in
-      ap (λ x. lineTail 34 false (92 ∷ (x ++ s))) (w .is) ∙ omega (arith, ap length (w .is))
+  escape-line {t} char s =
+      let form = shape char in
+      let digits = all-weaken digit-in (form .r) (form .each) in
+      let hidden = line-hidden (form .b) (form .r ++ s) (λ is-lf. omega (arith, form .visible)) in
+      let others = pass-all (lineTail 34 false) (InLine 34) (line-pass 34) (form .r) digits s in
+      ap (λ x. lineTail 34 false (92 ∷ (x ++ s))) (form .is) ∙ omega (arith, ap length (form .is))
 
   basic-tail : {s v : List ℕ} → BasicChars ed s v → (rest : List ℕ)
       → lineTail 34 false (encodes s ++ (34 ∷ rest)) ≡ suc (length (encodes s))
   basic-tail BasicChars.stop rest = line-close 34 rest
-  basic-tail (BasicChars.more {r = r} (basic-unescaped {c} x) d) rest =
-      let p = pass-all (lineTail 34 false) (InLine 34) (line-pass 34) (encodeScalar c) (char-in x) (encodes r ++ (34 ∷ rest)) in
+  basic-tail (BasicChars.more {r = r} (basic-unescaped {c} class) chars) rest =
+      let passed =
+      pass-all (lineTail 34 false) (InLine 34) (line-pass 34) (encodeScalar c) (char-in class) (encodes r ++ (34 ∷ rest)) in
       rw (append-assoc (encodeScalar c) (encodes r) (34 ∷ rest), length-append (encodeScalar c) (encodes r))
-      (omega (arith, basic-tail d rest))
-  basic-tail (BasicChars.more {r = r} (escaped-char (escaped {t} x)) d) rest =
-      rw (slashed x r, append-assoc t (encodes r) (34 ∷ rest), length-append t (encodes r))
-      (omega (arith, escape-line x (encodes r ++ (34 ∷ rest)), basic-tail d rest))
+      (omega (arith, basic-tail chars rest))
+  basic-tail (BasicChars.more {r = r} (escaped-char (escaped {t} char)) chars) rest =
+      rw (slashed char r, append-assoc t (encodes r) (34 ∷ rest), length-append t (encodes r))
+      (omega (arith, escape-line char (encodes r ++ (34 ∷ rest)), basic-tail chars rest))
 
   basic-triple : {s v : List ℕ} → BasicChars ed s v → (rest : List ℕ) → Apart 34 rest
       → triple 34 (34 ∷ (encodes s ++ (34 ∷ rest))) ≡ false
-  basic-triple BasicChars.stop rest h = triple-two 34 rest h
-  basic-triple (BasicChars.more {r = r} (basic-unescaped {c} x) d) rest h =
+  basic-triple BasicChars.stop rest apart = triple-two 34 rest apart
+  basic-triple (BasicChars.more {r = r} (basic-unescaped {c} x) chars) rest apart =
       rw (append-assoc (encodeScalar c) (encodes r) (34 ∷ rest))
       (first (encodeScalar c) (encodes r ++ (34 ∷ rest)) (char-in x) (encode-length c .0))
     where
       first : (x s : List ℕ) → All (InLine 34) x → 0 < length x → triple 34 (34 ∷ (x ++ s)) ≡ false
-      first [] s k l = absurd (omega arith)
-      first (b ∷ x) s k l = triple-no 34 b (x ++ s) (k .0 .0 .0)
-  basic-triple (BasicChars.more {r = r} (escaped-char (escaped {t} x)) d) rest h =
-      rw (slashed x r) (triple-no 34 0x5C ((t ++ encodes r) ++ (34 ∷ rest)) (λ e. omega arith))
+      first [] s inside some = absurd (omega arith)
+      first (b ∷ x) s inside some = triple-no 34 b (x ++ s) (inside .0 .0 .0)
+  basic-triple (BasicChars.more {r = r} (escaped-char (escaped {t} char)) chars) rest apart =
+      rw (slashed char r) (triple-no 34 0x5C ((t ++ encodes r) ++ (34 ∷ rest)) (λ e. omega arith))
 
   basic-token : {cs v : List ℕ} → BasicString ed cs v → (rest : List ℕ) → Apart 34 rest
       → IsToken (tokenKind basic) (encodes cs) rest
   unfolding extent
-  basic-token (basic-string {t} d) rest h =
-      let e = marked-rest 34 (omega arith) t rest in
+  basic-token (basic-string {t} chars) rest apart =
+      let text = marked-rest 34 (omega arith) t rest in
       token-of (tokenKind basic) (encodes (marked 34 t)) rest
-      (ap kindOf e ∙ kind-quote (encodes t ++ (34 ∷ rest)) (basic-triple d rest h))
-      (ap (λ x. suc (lineTail 34 false (drop 1 x))) e ∙ omega (arith, basic-tail d rest, encoded-long 34 (omega arith) t))
+      (ap kindOf text ∙ kind-quote (encodes t ++ (34 ∷ rest)) (basic-triple chars rest apart))
+      (ap (λ x. suc (lineTail 34 false (drop 1 x))) text ∙ omega (arith, basic-tail chars rest, encoded-long 34 (omega arith) t))
 
   -- ---- the multi-line kinds
 
@@ -150,10 +151,10 @@ module _ (ed : Edition) where
   pub derived-token : (s : StringKind) (cs v rest : List ℕ) → Derived ed s cs v → Apart (mark s) rest
       → IsToken (tokenKind s) (encodes cs) rest
   unfolding extent
-  derived-token literal cs v rest d h = literal-token d rest h
-  derived-token basic cs v rest (d, k) h = basic-token d rest h
-  derived-token ml-literal cs v rest d h =
-      token-of (tokenKind ml-literal) (encodes cs) rest (ml-literal-kind d rest) (ml-literal-lexed d rest h)
-  derived-token ml-basic cs v rest (d, k) h =
+  derived-token literal cs v rest d apart = literal-token d rest apart
+  derived-token basic cs v rest (d, scalars) apart = basic-token d rest apart
+  derived-token ml-literal cs v rest d apart =
+      token-of (tokenKind ml-literal) (encodes cs) rest (ml-literal-kind d rest) (ml-literal-lexed d rest apart)
+  derived-token ml-basic cs v rest (d, scalars) apart =
       token-of (tokenKind ml-basic) (encodes cs) rest (ml-basic-kind d rest)
-      (ml-basic-lexed ed d (ml-basic-names d k) rest h)
+      (ml-basic-lexed ed d (ml-basic-names d scalars) rest apart)

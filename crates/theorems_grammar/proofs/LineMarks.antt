@@ -32,16 +32,16 @@ use Rattle.theorems_grammar.proofs.Reading.{ErrorFree}
 
 -- no error about a mark: it is there
 missing-none : (b : Bool) (e : DecodeError) (at : ℕ) → missing b e at ≡ [] → b ≡ true
-missing-none true e at h = refl
-missing-none false e at h = absurd (cons≢nil h)
+missing-none true e at nothing = refl
+missing-none false e at nothing = absurd (cons≢nil nothing)
 
 -- a text without error has both its marks
 pub both-marks : (e : Encoding) (t : List ℕ) → errorsOf e t ≡ [] → (endsOf e t .opened ≡ true) × (endsOf e t .closed ≡ true)
 unfolding errorsOf
-both-marks e t h =
-    let a = append-eq-nil-iff {p = missing (endsOf e t .opened) (markError e) 0} .0 h in
-    let b = append-eq-nil-iff {p = missing (endsOf e t .closed) (markError e) (length t)} .0 (a .1) in
-    (missing-none _ _ _ (a .0), missing-none _ _ _ (b .0))
+both-marks e t clean =
+    let opening = append-eq-nil-iff {p = missing (endsOf e t .opened) (markError e) 0} .0 clean in
+    let closing = append-eq-nil-iff {p = missing (endsOf e t .closed) (markError e) (length t)} .0 (opening .1) in
+    (missing-none _ _ _ (opening .0), missing-none _ _ _ (closing .0))
 
 -- ---- the text
 
@@ -57,32 +57,32 @@ marked-ends-at t = record { opened = true; closed = true; start = 1; end = lengt
 
 line-at : (q : ℕ) (m : List ℕ) → marked-ends-at (marked q m) ≡ lineEnds q (marked q m)
 line-at q m =
-    let l = marked-long q m in
+    let lengths = marked-long q m in
     let last : getD (marked q m) (suc (length m)) 0 ≡ q =
     ap (λ (i : ℕ). getD (m ++ (q ∷ [])) i 0) (sym (add-zero (length m))) ∙ getD-append-add m (q ∷ []) 0 0 in
-    let z : length (marked q m) - 1 ≡ suc (length m) = omega arith in
-    line-both q (marked q m) (omega arith) refl (ap (λ (i : ℕ). getD (marked q m) i 0) z ∙ last)
+    let last-place : length (marked q m) - 1 ≡ suc (length m) = omega arith in
+    line-both q (marked q m) (omega arith) refl (ap (λ (i : ℕ). getD (marked q m) i 0) last-place ∙ last)
 
 marked-body : (q : ℕ) (m : List ℕ) → bodyOf (marked-ends-at (marked q m)) (marked q m) ≡ m
-marked-body q m = let l = marked-long q m in take-at m (q ∷ []) (length (marked q m) - 1 - 1) (omega arith)
+marked-body q m = let lengths = marked-long q m in take-at m (q ∷ []) (length (marked q m) - 1 - 1) (omega arith)
 
 -- a text whose marks are there
 line-inv : (q : ℕ) (t : List ℕ) → lineEnds q t .opened ≡ true → lineEnds q t .closed ≡ true → (m : List ℕ) × (t ≡ marked q m)
 unfolding lineEnds
-line-inv q t o c =
-    let c₂ : lineClosed 1 q t ≡ true = rw o at c in
-    let first = eqb-true (getD t 0 0) q (both-right (ltb 0 (length t)) _ o) in
-    let long = ltb-true 1 (length t) (both-left (ltb 1 (length t)) _ c₂) in
-    go t first long (eqb-true (getD t (length t - 1) 0) q (both-right (ltb 1 (length t)) _ c₂))
+line-inv q t opened closed =
+    let closed-there : lineClosed 1 q t ≡ true = rw opened at closed in
+    let first = eqb-true (getD t 0 0) q (both-right (ltb 0 (length t)) _ opened) in
+    let long = ltb-true 1 (length t) (both-left (ltb 1 (length t)) _ closed-there) in
+    by-length t first long (eqb-true (getD t (length t - 1) 0) q (both-right (ltb 1 (length t)) _ closed-there))
   where
-    go : (t : List ℕ) → getD t 0 0 ≡ q → 1 < length t → getD t (length t - 1) 0 ≡ q → (m : List ℕ) × (t ≡ marked q m)
-    go [] a l z = absurd (omega arith)
-    go (b ∷ []) a l z = absurd (omega arith)
-    go (b ∷ (c ∷ s)) a l z =
-        let e : c ∷ s ≡ take (length s) (c ∷ s) ++ (getD (c ∷ s) (length s) 0 ∷ []) = last-split (c ∷ s) (length s) refl in
-        let n : suc (length s) ≡ length (b ∷ (c ∷ s)) - 1 = omega arith in
-        let z₂ : getD (c ∷ s) (length s) 0 ≡ q = ap (λ i. getD (b ∷ (c ∷ s)) i 0) n ∙ z in
-        (take (length s) (c ∷ s), rw a (ap (q ∷_) (e ∙ ap (λ x. take (length s) (c ∷ s) ++ (x ∷ [])) z₂)))
+    by-length : (t : List ℕ) → getD t 0 0 ≡ q → 1 < length t → getD t (length t - 1) 0 ≡ q → (m : List ℕ) × (t ≡ marked q m)
+    by-length [] first long last = absurd (omega arith)
+    by-length (b ∷ []) first long last = absurd (omega arith)
+    by-length (b ∷ (c ∷ s)) first long last =
+        let parts : c ∷ s ≡ take (length s) (c ∷ s) ++ (getD (c ∷ s) (length s) 0 ∷ []) = last-split (c ∷ s) (length s) refl in
+        let place : suc (length s) ≡ length (b ∷ (c ∷ s)) - 1 = omega arith in
+        let closing : getD (c ∷ s) (length s) 0 ≡ q = ap (λ i. getD (b ∷ (c ∷ s)) i 0) place ∙ last in
+        (take (length s) (c ∷ s), rw first (ap (q ∷_) (parts ∙ ap (λ x. take (length s) (c ∷ s) ++ (x ∷ [])) closing)))
 
 -- ---- its code points
 
@@ -115,13 +115,13 @@ module _ (e : Encoding) (q : ℕ) (low : q < 0x80) (ends : (t : List ℕ) → en
     pub clean : ErrorFree (pieceOf e) false 1 (encodes body)
 
   pub line-text : (cs : List ℕ) → All Scalar cs → errorsOf e (encodes cs) ≡ [] → LineText cs
-  line-text cs sc h =
-      let b = both-marks e (encodes cs) h in
-      let m = line-inv q (encodes cs) (rw (ends (encodes cs)) at (b .0)) (rw (ends (encodes cs)) at (b .1)) in
-      let i = between (q ∷ []) (q ∷ []) cs (m .0) (low, tt) (low, tt) sc (m .1) in
+  line-text cs scalars clean =
+      let marks = both-marks e (encodes cs) clean in
+      let body = line-inv q (encodes cs) (rw (ends (encodes cs)) at (marks .0)) (rw (ends (encodes cs)) at (marks .1)) in
+      let inside = between (q ∷ []) (q ∷ []) cs (body .0) (low, tt) (low, tt) scalars (body .1) in
       record {
-        body = i .inner;
-        text = i .text;
-        each = i .each;
-        clean = sym (line-errors (i .inner)) ∙ (ap (λ x. errorsOf e (encodes x)) (sym (i .text)) ∙ h);
+        body = inside .inner;
+        text = inside .text;
+        each = inside .each;
+        clean = sym (line-errors (inside .inner)) ∙ (ap (λ x. errorsOf e (encodes x)) (sym (inside .text)) ∙ clean);
       }

@@ -10,20 +10,22 @@ use Rattle.text.specs.Utf8.{All}
 
 pub all-weaken : {P Q : ℕ → Type 0} → ((c : ℕ) → P c → Q c) → (t : List ℕ) → All P t → All Q t
 all-weaken f [] h = tt
-all-weaken f (c ∷ t) h = (f c (h .0), all-weaken f t (h .1))
+all-weaken f (c ∷ t) each = (f c (each .0), all-weaken f t (each .1))
 
 -- the last element, and what stands before it
 pub last-split : (s : List ℕ) (n : ℕ) → length s ≡ suc n → s ≡ take n s ++ (getD s n 0 ∷ [])
-last-split s n h =
-    let e : drop n s ≡ getD s n 0 ∷ [] =
+last-split s n long =
+    let last : drop n s ≡ getD s n 0 ∷ [] =
     drop-cons s n 0 (omega arith) ∙ ap (λ x. getD s n 0 ∷ x) (drop-of-length-le s {i = suc n} (omega arith)) in
-    sym (take-append-drop n s) ∙ ap (λ x. take n s ++ x) e
+    sym (take-append-drop n s) ∙ ap (λ x. take n s ++ x) last
 
 -- a byte that is not 0 and that `getD` gives stands in front of the rest
 pub first-splits : (s : List ℕ) (b : ℕ) → 0 < b → getD s 0 0 ≡ b → (r : List ℕ) × (s ≡ b ∷ r)
-first-splits [] b h e = absurd (omega arith)
-first-splits (x ∷ s) b h e = (s, rw e)
+first-splits [] b some is = absurd (omega arith)
+first-splits (x ∷ s) b some is = (s, rw is)
 
 pub two-split : (s : List ℕ) (b c : ℕ) → 0 < b → 0 < c → getD s 0 0 ≡ b → getD s 1 0 ≡ c → (r : List ℕ) × (s ≡ b ∷ (c ∷ r))
-two-split [] b c h k e f = absurd (omega arith)
-two-split (x ∷ s) b c h k e f = let w = first-splits s c k f in (w .0, rw e (ap (b ∷_) (w .1)))
+two-split [] b c first-some second-some first second = absurd (omega arith)
+two-split (x ∷ s) b c first-some second-some first second =
+    let rest = first-splits s c second-some second in
+    (rest .0, rw first (ap (b ∷_) (rest .1)))

@@ -22,57 +22,61 @@ use Rattle.theorems_grammar.proofs.Reading.{IfClean, CopiesRuns, ErrorF
 use Rattle.theorems_grammar.proofs.ClassLaws.{literal-at, literal-is, literal-high}
 use Rattle.theorems_grammar.proofs.LineMarks.{line-errors, line-bytes, line-text}
 
-abbrev P : Pieces
-P = pieceOf LiteralText
+abbrev pieces : Pieces
+pieces = pieceOf LiteralText
 
 -- ---- the pieces, on bytes
 
-plain : CopiesRuns P literalChar
+plain : CopiesRuns pieces literalChar
 unfolding literalPiece run
-plain at b s e = rw e
+plain at b s class = rw class
 
-clean : (at b : ℕ) (r : List ℕ) → P false at (b ∷ r) .verdict ≡ Clean → literalChar b ≡ true
+clean : (at b : ℕ) (r : List ℕ) → pieces false at (b ∷ r) .verdict ≡ Clean → literalChar b ≡ true
 unfolding literalPiece
-clean at b r = cond-case (IfClean (literalChar b ≡ true)) (literalChar b) (λ h e. h) (λ h e. absurd (wrong≢clean e))
+clean at b r =
+    cond-case (IfClean (literalChar b ≡ true)) (literalChar b) (λ test clean-piece. test)
+    (λ test clean-piece. absurd (wrong≢clean clean-piece))
 
-char-reads : ReadsChars P literalChar
-char-reads = reads-char P literalChar plain literal-high
+char-reads : ReadsChars pieces literalChar
+char-reads = reads-char pieces literalChar plain literal-high
 
 -- a code point that is read without error is of the class
-char-clean : (c at : ℕ) (s : List ℕ) → ErrorFree P false at (encodeScalar c ++ s) → literalChar c ≡ true
-char-clean c at s e = elim (side c) [
-  | ascii l ↦ clean at c s (first-clean P false at c s (rw (encode-1 c l) at e))
-  | beyond l ↦ literal-high c l
+char-clean : (c at : ℕ) (s : List ℕ) → ErrorFree pieces false at (encodeScalar c ++ s) → literalChar c ≡ true
+char-clean c at s clean-text = elim (side c) [
+  | ascii size ↦ clean at c s (first-clean pieces false at c s (rw (encode-1 c size) at clean-text))
+  | beyond size ↦ literal-high c size
 ]
 
 -- ---- from the grammar, and to it
 
-chars-read : {cs : List ℕ} → LiteralChars cs → ReadsAs P cs cs
-chars-read stop at = reads-none P false at []
-chars-read (more {c} {s} x r) at = let a = char-reads c at (encodes s) (literal-at x) in reads-then P a (chars-read r (a .to))
+chars-read : {cs : List ℕ} → LiteralChars cs → ReadsAs pieces cs cs
+chars-read stop at = reads-none pieces false at []
+chars-read (more {c} {s} class rest) at =
+    let first = char-reads c at (encodes s) (literal-at class) in
+    reads-then pieces first (chars-read rest (first .to))
 
-chars-clean : (cs : List ℕ) → All Scalar cs → (at : ℕ) → ErrorFree P false at (encodes cs) → LiteralChars cs
-chars-clean [] sc at e = stop
-chars-clean (c ∷ cs) sc at e =
-    let h = char-clean c at (encodes cs) e in
-    let a = char-reads c at (encodes cs) h in
-    more (literal-is c (sc .0) h) (chars-clean cs (sc .1) (a .to) (sym (a .quiet) ∙ e))
+chars-clean : (cs : List ℕ) → All Scalar cs → (at : ℕ) → ErrorFree pieces false at (encodes cs) → LiteralChars cs
+chars-clean [] scalars at clean-text = stop
+chars-clean (c ∷ cs) scalars at clean-text =
+    let class = char-clean c at (encodes cs) clean-text in
+    let first = char-reads c at (encodes cs) class in
+    more (literal-is c (scalars .0) class) (chars-clean cs (scalars .1) (first .to) (sym (first .quiet) ∙ clean-text))
 
 -- ---- the text
 
 -- a derived text has no error, and its bytes are its value's
 pub literal-complete : {cs v : List ℕ} → LiteralString cs v
     → (errorsOf LiteralText (encodes cs) ≡ []) × (bytesOf LiteralText (encodes cs) ≡ encodes v)
-literal-complete (literal-string {s} d) =
-    let r = chars-read d 1 in
+literal-complete (literal-string {s} chars) =
+    let reading = chars-read chars 1 in
     let low : 0x27 < 0x80 = omega arith in (
-      line-errors LiteralText 0x27 low (λ t. refl) s ∙ r .quiet,
-      line-bytes LiteralText 0x27 low (λ t. refl) s ∙ (r .bytes ∙ append-nil (encodes s)),
+      line-errors LiteralText 0x27 low (λ t. refl) s ∙ reading .quiet,
+      line-bytes LiteralText 0x27 low (λ t. refl) s ∙ (reading .bytes ∙ append-nil (encodes s)),
     )
 
 -- a text without error is derived
 pub literal-sound : (cs : List ℕ) → All Scalar cs → errorsOf LiteralText (encodes cs) ≡ [] → (v : List ℕ) × LiteralString cs v
-literal-sound cs sc e =
-    let o = line-text LiteralText 0x27 (omega arith) (λ t. refl) cs sc e in
-    let d = chars-clean (o .body) (o .each) 1 (o .clean) in
-    (o .body, subst (λ x. LiteralString x (o .body)) (sym (o .text)) (literal-string d))
+literal-sound cs scalars clean-text =
+    let parts = line-text LiteralText 0x27 (omega arith) (λ t. refl) cs scalars clean-text in
+    let chars = chars-clean (parts .body) (parts .each) 1 (parts .clean) in
+    (parts .body, subst (λ x. LiteralString x (parts .body)) (sym (parts .text)) (literal-string chars))

@@ -37,7 +37,7 @@ use Rattle.theorems_grammar.proofs.Escapes.{shape, EscapedAt, escape-in
 
 pub char-plain : {c : ℕ} → MlbUnescaped c → mlbPlain c ≡ true
 unfolding mlbPlain
-char-plain {c} x = or-left (mlbUnescaped c) _ (mlb-same c ∙ basic-at (mlb-basic .0 x))
+char-plain {c} class = or-left (mlbUnescaped c) _ (mlb-same c ∙ basic-at (mlb-basic .0 class))
 
 lf-plain : mlbPlain 0x0A ≡ true
 unfolding mlbPlain mlbUnescaped
@@ -76,11 +76,11 @@ line-front (Ws.more x09 w) n s = refl
 line-at : (at : ℕ) {w n : List ℕ} → Ws w → Newline n → (s : List ℕ)
     → escapedNl at (w ++ (n ++ s)) ≡ dropPiece (1 + (length w + length n))
 unfolding escapedNl
-line-at at {w} {n} x y s = rw (ws-run x y s, drop-at w (n ++ s) (length w) refl) (go y)
+line-at at {w} {n} blanks line s = rw (ws-run blanks line s, drop-at w (n ++ s) (length w) refl) (by-line line)
   where
-    go : {n : List ℕ} → Newline n → escapedLine at (length w) (n ++ s) ≡ dropPiece (1 + (length w + length n))
-    go x0A = ap dropPiece (omega arith)
-    go x0D-0A = ap dropPiece (omega arith)
+    by-line : {n : List ℕ} → Newline n → escapedLine at (length w) (n ++ s) ≡ dropPiece (1 + (length w + length n))
+    by-line x0A = ap dropPiece (omega arith)
+    by-line x0D-0A = ap dropPiece (omega arith)
 
 -- one stands before r
 pub record Ended (r : List ℕ) : Type 0 where
@@ -94,43 +94,43 @@ pub record Ended (r : List ℕ) : Type 0 where
 ws-taken : (r : List ℕ) → Ws (take (run wschar r) r)
 unfolding run
 ws-taken [] = Ws.stop
-ws-taken (b ∷ r) = go (wschar b) refl (ws-taken r)
+ws-taken (b ∷ r) = by-test (wschar b) refl (ws-taken r)
   where
-    go : (x : Bool) → wschar b ≡ x → Ws (take (run wschar r) r) → Ws (take (cond x (suc (run wschar r)) 0) (b ∷ r))
-    go true e i = Ws.more (wschar-is b e) i
-    go false e i = Ws.stop
+    by-test : (test : Bool) → wschar b ≡ test → Ws (take (run wschar r) r) → Ws (take (cond test (suc (run wschar r)) 0) (b ∷ r))
+    by-test true is rest = Ws.more (wschar-is b is) rest
+    by-test false is rest = Ws.stop
 
 ended : (at : ℕ) (r : List ℕ) → escapedNl at r .verdict ≡ Clean → Ended r
 ended at r =
     rw escaped-nl-is
-    (by-eq (IfClean (Ended r)) (getD r k 0) 0x0A
-    (λ e h. let w = first-splits s 0x0A (omega arith) (zeroth ∙ e) in fin (0x0A ∷ []) (w .0) x0A (w .1))
-    λ _. by-eq (IfClean (Ended r)) (getD r k 0) 0x0D
-    (λ e. by-eq (IfClean (Ended r)) (getD r (k + 1) 0) 0x0A
-    (λ l h.
-    let w = two-split s 0x0D 0x0A (omega arith) (omega arith) (zeroth ∙ e) (getD-drop k r 1 0 ∙ l) in
-    fin (0x0D ∷ (0x0A ∷ [])) (w .0) x0D-0A (w .1))
-    (λ l h. absurd (wrong≢clean h)))
-    (λ e h. absurd (wrong≢clean h)))
+    (by-eq (IfClean (Ended r)) (getD r blanks 0) 0x0A
+    (λ is clean. let split = first-splits onward 0x0A (omega arith) (zeroth ∙ is) in found (0x0A ∷ []) (split .0) x0A (split .1))
+    λ _. by-eq (IfClean (Ended r)) (getD r blanks 0) 0x0D
+    (λ is. by-eq (IfClean (Ended r)) (getD r (blanks + 1) 0) 0x0A
+    (λ lf clean.
+    let split = two-split onward 0x0D 0x0A (omega arith) (omega arith) (zeroth ∙ is) (getD-drop blanks r 1 0 ∙ lf) in
+    found (0x0D ∷ (0x0A ∷ [])) (split .0) x0D-0A (split .1))
+    (λ not-lf clean. absurd (wrong≢clean clean)))
+    (λ not-cr clean. absurd (wrong≢clean clean)))
   where
-    k : ℕ
-    k = run wschar r
+    blanks : ℕ
+    blanks = run wschar r
 
-    s : List ℕ
-    s = drop k r
+    onward : List ℕ
+    onward = drop blanks r
 
-    zeroth : getD s 0 0 ≡ getD r k 0
-    zeroth = getD-drop k r 0 0 ∙ ap (λ (i : ℕ). getD r i 0) (add-zero k)
+    zeroth : getD onward 0 0 ≡ getD r blanks 0
+    zeroth = getD-drop blanks r 0 0 ∙ ap (λ (i : ℕ). getD r i 0) (add-zero blanks)
 
-    fin : (n rest : List ℕ) → Newline n → s ≡ n ++ rest → Ended r
-    fin n rest y p =
+    found : (n rest : List ℕ) → Newline n → onward ≡ n ++ rest → Ended r
+    found n rest line splits =
         record {
-          w = take k r;
+          w = take blanks r;
           n = n;
           rest = rest;
-          split = sym (take-append-drop k r) ∙ ap (λ z. take k r ++ z) p;
+          split = sym (take-append-drop blanks r) ∙ ap (λ text. take blanks r ++ text) splits;
           ws = ws-taken r;
-          nl = y;
+          nl = line;
         }
 
 -- ---- what it drops
@@ -148,80 +148,83 @@ pub data Skipped (b : ℕ) (r : List ℕ) : Type 0 where
 
 skip-is : (b : ℕ) → skips b ≡ true → (b ≡ 0x0D → ⊥) → WscharNewline (b ∷ [])
 unfolding skips
-skip-is b h n =
-    or-inv (wschar b) _ h (λ e. WscharNewline.wschar (wschar-is b e))
-    (λ t. or-inv (eqb b 0x0A) (eqb b 0x0D) t (λ e. subst (λ y. WscharNewline (y ∷ [])) (sym (eqb-true b 0x0A e)) (newline x0A))
-    (λ e. absurd (n (eqb-true b 0x0D e))))
+skip-is b skipped not-cr =
+    or-inv (wschar b) _ skipped (λ is. WscharNewline.wschar (wschar-is b is))
+    (λ test. or-inv (eqb b 0x0A) (eqb b 0x0D) test
+    (λ is. subst (λ y. WscharNewline (y ∷ [])) (sym (eqb-true b 0x0A is)) (newline x0A))
+    (λ is. absurd (not-cr (eqb-true b 0x0D is))))
 
 -- in one edition of TOML
 module _ (ed : Edition) where
-  abbrev pub P : Pieces
-  P = pieceOf (MlBasicText ed)
+  abbrev pub pieces : Pieces
+  pieces = pieceOf (MlBasicText ed)
 
   -- ---- plain bytes, newlines and escapes are read
 
-  plain : CopiesRuns P mlbPlain
+  plain : CopiesRuns pieces mlbPlain
   unfolding mlBasicPiece mlbContent run
-  plain at b s e = rw e
+  plain at b s is = rw is
 
-  pub char-reads : ReadsChars P mlbPlain
-  char-reads = reads-char P mlbPlain plain mlb-high
+  pub char-reads : ReadsChars pieces mlbPlain
+  char-reads = reads-char pieces mlbPlain plain mlb-high
 
-  crlf-piece : (at : ℕ) (s : List ℕ) → P false at (0x0D ∷ (0x0A ∷ s)) ≡ copyPiece 2
+  crlf-piece : (at : ℕ) (s : List ℕ) → pieces false at (0x0D ∷ (0x0A ∷ s)) ≡ copyPiece 2
   unfolding mlBasicPiece mlbContent mlbPlain mlbUnescaped
   crlf-piece at s = refl
 
-  pub newline-reads : ReadsNewlines P
-  newline-reads n x0A at s = reads-plain P mlbPlain plain at 0x0A s lf-plain
-  newline-reads n x0D-0A at s = reads-copy P false at (0x0D ∷ (0x0A ∷ [])) s (crlf-piece at s) (omega arith)
+  pub newline-reads : ReadsNewlines pieces
+  newline-reads n x0A at s = reads-plain pieces mlbPlain plain at 0x0A s lf-plain
+  newline-reads n x0D-0A at s = reads-copy pieces false at (0x0D ∷ (0x0A ∷ [])) s (crlf-piece at s) (omega arith)
 
-  slash-piece : (at : ℕ) (r : List ℕ) → P false at (0x5C ∷ r) ≡ cond (firstIs skips r) (escapedNl at r) (escapePiece ed at r)
+  slash-piece : (at : ℕ) (r : List ℕ) → pieces false at (0x5C ∷ r) ≡ cond (firstIs skips r) (escapedNl at r) (escapePiece ed at r)
   unfolding mlBasicPiece mlbContent mlbPlain mlbUnescaped
   slash-piece at r = refl
 
   pub escape-piece : {t : List ℕ} {v : ℕ} → EscapeSeqChar ed t v → (at : ℕ) (s : List ℕ)
-      → P false at (0x5C ∷ (t ++ s)) ≡ escapePiece ed at (t ++ s)
-  escape-piece {t} e at s =
-      let w = shape e in
+      → pieces false at (0x5C ∷ (t ++ s)) ≡ escapePiece ed at (t ++ s)
+  escape-piece {t} char at s =
+      let form = shape char in
       let out : firstIs skips (t ++ s) ≡ false =
-      ap (λ x. firstIs skips (x ++ s)) (w .is) ∙ visible-out (w .b) (omega (arith, w .visible)) in
+      ap (λ x. firstIs skips (x ++ s)) (form .is) ∙ visible-out (form .b) (omega (arith, form .visible)) in
       slash-piece at (t ++ s) ∙ rw out
 
   -- ---- a line-ending backslash is read, and what it drops
 
-  pub line-reads : {w n : List ℕ} → Ws w → Newline n → (at : ℕ) (s : List ℕ) → Reads P false at ((0x5C ∷ (w ++ n)) ++ s) [] true s
-  line-reads {w} {n} x y at s =
+  pub line-reads : {w n : List ℕ} → Ws w → Newline n → (at : ℕ) (s : List ℕ)
+      → Reads pieces false at ((0x5C ∷ (w ++ n)) ++ s) [] true s
+  line-reads {w} {n} blanks line at s =
       let long : length (0x5C ∷ (w ++ n)) ≡ 1 + (length w + length n) = ap suc (length-append w n) ∙ omega arith in
-      let piece : P false at ((0x5C ∷ (w ++ n)) ++ s) ≡ dropPiece (1 + (length w + length n)) =
-      rw (append-assoc w n s) (slash-piece at (w ++ (n ++ s)) ∙ rw (line-front x y s) (line-at at x y s)) in
-      reads-drop P false at (0x5C ∷ (w ++ n)) s (piece ∙ ap dropPiece (sym long)) (omega arith)
+      let piece : pieces false at ((0x5C ∷ (w ++ n)) ++ s) ≡ dropPiece (1 + (length w + length n)) =
+      rw (append-assoc w n s) (slash-piece at (w ++ (n ++ s)) ∙ rw (line-front blanks line s) (line-at at blanks line s)) in
+      reads-drop pieces false at (0x5C ∷ (w ++ n)) s (piece ∙ ap dropPiece (sym long)) (omega arith)
 
-  skip-piece : (at : ℕ) (s : List ℕ) {t : List ℕ} → WscharNewline t → P true at (t ++ s) ≡ dropPiece (length t)
+  skip-piece : (at : ℕ) (s : List ℕ) {t : List ℕ} → WscharNewline t → pieces true at (t ++ s) ≡ dropPiece (length t)
   unfolding mlBasicPiece skips wschar escapedMore
   skip-piece at s (WscharNewline.wschar x20) = refl
   skip-piece at s (WscharNewline.wschar x09) = refl
   skip-piece at s (newline x0A) = refl
   skip-piece at s (newline x0D-0A) = refl
 
-  pub skip-reads : {t : List ℕ} → WscharNewline t → (at : ℕ) (s : List ℕ) → Reads P true at (t ++ s) [] true s
-  skip-reads {t} w at s = reads-drop P true at t s (skip-piece at s w) (skip-some w)
+  pub skip-reads : {t : List ℕ} → WscharNewline t → (at : ℕ) (s : List ℕ) → Reads pieces true at (t ++ s) [] true s
+  skip-reads {t} skip at s = reads-drop pieces true at t s (skip-piece at s skip) (skip-some skip)
 
   -- what is no blank and no newline ends it
-  same-piece : (at b : ℕ) (s : List ℕ) → skips b ≡ false → P true at (b ∷ s) ≡ P false at (b ∷ s)
+  same-piece : (at b : ℕ) (s : List ℕ) → skips b ≡ false → pieces true at (b ∷ s) ≡ pieces false at (b ∷ s)
   unfolding mlBasicPiece
-  same-piece at b s h = rw h
+  same-piece at b s out = rw out
 
-  pub out-reads : (at b : ℕ) (s : List ℕ) → skips b ≡ false → Reads P true at (b ∷ s) [] false (b ∷ s)
-  out-reads at b s h = record { to = at; place = refl; quiet = rw (same-piece at b s h); bytes = rw (same-piece at b s h) }
+  pub out-reads : (at b : ℕ) (s : List ℕ) → skips b ≡ false → Reads pieces true at (b ∷ s) [] false (b ∷ s)
+  out-reads at b s out = record { to = at; place = refl; quiet = rw (same-piece at b s out); bytes = rw (same-piece at b s out) }
 
-  pub char-out : (c at : ℕ) (s : List ℕ) → skips c ≡ false → Reads P true at (encodeScalar c ++ s) [] false (encodeScalar c ++ s)
-  char-out c at s h =
-      let p = parts c in
-      let out : skips (p .first) ≡ false = elim (side c) [
-        | ascii l ↦ ap skips (p .same l) ∙ h
-        | beyond l ↦ visible-out (p .first) (omega (arith, p .more l))
+  pub char-out : (c at : ℕ) (s : List ℕ) → skips c ≡ false
+      → Reads pieces true at (encodeScalar c ++ s) [] false (encodeScalar c ++ s)
+  char-out c at s visible =
+      let char = parts c in
+      let out : skips (char .first) ≡ false = elim (side c) [
+        | ascii size ↦ ap skips (char .same size) ∙ visible
+        | beyond size ↦ visible-out (char .first) (omega (arith, char .more size))
       ] in
-      rw (p .whole) (out-reads at (p .first) (p .tails ++ s) out)
+      rw (char .whole) (out-reads at (char .first) (char .tails ++ s) out)
 
   -- ---- a piece without error
 
@@ -231,26 +234,29 @@ module _ (ed : Edition) where
     is-escape : b ≡ 0x5C → EscapedAt ed r → Content b r
     is-ended : b ≡ 0x5C → Ended r → Content b r
 
-  pub content-inv : (at b : ℕ) (r : List ℕ) → P false at (b ∷ r) .verdict ≡ Clean → Content b r
+  pub content-inv : (at b : ℕ) (r : List ℕ) → pieces false at (b ∷ r) .verdict ≡ Clean → Content b r
   content-inv at b r =
-      let Q : Piece → Type 0 = IfClean (Content b r) in
+      let Claim : Piece → Type 0 = IfClean (Content b r) in
       rw (ml-basic-piece-is, content-is)
-      (cond-case Q (mlbPlain b) (λ h e. is-plain h)
-      λ _. by-eq Q b 0x5C
-      (λ p. cond-case Q (skips (getD r 0 0)) (λ h e. is-ended p (ended at r e)) (λ h e. is-escape p (escape-inv ed at r e)))
-      λ _. by-eq Q b 0x0D
-      (λ p. by-eq Q (getD r 0 0) 0x0A
-      (λ l e. let w = first-splits r 0x0A (omega arith) l in is-crlf (w .0) p (w .1)) (λ l e. absurd (wrong≢clean e)))
-      (λ p e. absurd (wrong≢clean e)))
+      (cond-case Claim (mlbPlain b) (λ plain clean. is-plain plain)
+      λ _. by-eq Claim b 0x5C
+      (λ is. cond-case Claim (skips (getD r 0 0)) (λ skip clean. is-ended is (ended at r clean))
+      (λ no-skip clean. is-escape is (escape-inv ed at r clean)))
+      λ _. by-eq Claim b 0x0D
+      (λ is. by-eq Claim (getD r 0 0) 0x0A
+      (λ lf clean. let split = first-splits r 0x0A (omega arith) lf in is-crlf (split .0) is (split .1))
+      (λ not-lf clean. absurd (wrong≢clean clean)))
+      (λ not-cr clean. absurd (wrong≢clean clean)))
 
   -- within a line-ending escape
-  pub skip-inv : (at b : ℕ) (r : List ℕ) → P true at (b ∷ r) .verdict ≡ Clean → Skipped b r
+  pub skip-inv : (at b : ℕ) (r : List ℕ) → pieces true at (b ∷ r) .verdict ≡ Clean → Skipped b r
   skip-inv at b r =
-      let Q : Piece → Type 0 = IfClean (Skipped b r) in
+      let Claim : Piece → Type 0 = IfClean (Skipped b r) in
       rw (ml-basic-piece-is, escaped-more-is)
-      (cond-case Q (skips b)
-      (λ h. by-eq Q b 0x0D
-      (λ p. by-eq Q (getD r 0 0) 0x0A
-      (λ l e. let w = first-splits r 0x0A (omega arith) l in is-two (w .0) p (w .1)) (λ l e. absurd (wrong≢clean e)))
-      (λ p e. is-one (skip-is b h p)))
-      (λ h e. is-out h))
+      (cond-case Claim (skips b)
+      (λ test. by-eq Claim b 0x0D
+      (λ is. by-eq Claim (getD r 0 0) 0x0A
+      (λ lf clean. let split = first-splits r 0x0A (omega arith) lf in is-two (split .0) is (split .1))
+      (λ not-lf clean. absurd (wrong≢clean clean)))
+      (λ not-cr clean. is-one (skip-is b test not-cr)))
+      (λ out clean. is-out out))

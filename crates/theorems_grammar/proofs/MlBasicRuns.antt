@@ -8,7 +8,7 @@ use Rattle.decoder_rules.specs.declared.Edition.{Edition}
 use Rattle.theorems_grammar.specs.Grammar.{MlbContent, MlbContents, MlbContents1, some-content, MlbQuotes, one, two, MlbGroups, OptMlbQuotes, MlBasicBody, ml-basic-body}
 use Rattle.theorems_grammar.specs.Scalars.{ContentNames, ContentsName, Contents1Name, GroupsName, BodyNames}
 use Rattle.theorems_grammar.specs.Prose.{Drops, ContentsDrop, Contents1Drop, GroupsDrop, BodyDrops}
-use Rattle.theorems_grammar.proofs.Passing.{Seen, k0, k1, k2}
+use Rattle.theorems_grammar.proofs.Passing.{Seen, seen0, seen1, seen2}
 use Rattle.theorems_grammar.proofs.MlRuns.{Flat, end, mark0, mark1, content, Bodies, flat-body}
 
 -- X, asked for only where strict
@@ -26,44 +26,52 @@ module _ (ed : Edition) where
 
   -- ---- from the grammar to a run
 
-  module _ (s : Bool) where
+  module _ (strict : Bool) where
     module _ (f v : List ℕ) where
       -- a content in front of the text u, which gives x
-      content-run : {t w : List ℕ} (c : MlbContent ed t w) → ContentNames c → (u x : List ℕ) → Need s (Drops c (u ++ f))
-          → (k : Seen) → Run s k0 (u ++ f) (x ++ v) → Run s k ((t ++ u) ++ f) ((w ++ x) ++ v)
-      content-run {t} {w} c h u x n k r = rw (append-assoc t u f, append-assoc w x v) (content (kept c h n) r)
+      content-run : {t w : List ℕ} (c : MlbContent ed t w) → ContentNames c → (more value : List ℕ)
+          → Need strict (Drops c (more ++ f))
+          → (k : Seen) → Run strict seen0 (more ++ f) (value ++ v) → Run strict k ((t ++ more) ++ f) ((w ++ value) ++ v)
+      content-run {t} {w} c names more value drops k run =
+          rw (append-assoc t more f, append-assoc w value v) (content (kept c names drops) run)
 
-      contents-run : {t w : List ℕ} (d : MlbContents ed t w) → ContentsName d → Need s (ContentsDrop d f) → Run s k0 f v
-          → Run s k0 (t ++ f) (w ++ v)
-      contents-run MlbContents.stop h n r = r
-      contents-run (MlbContents.more {r = u} {v = x} c cs) h n r =
-          content-run c (h .0) u x (λ e. (n e) .0) k0 (contents-run cs (h .1) (λ e. (n e) .1) r)
+      contents-run : {t w : List ℕ} (d : MlbContents ed t w) → ContentsName d → Need strict (ContentsDrop d f)
+          → Run strict seen0 f v
+          → Run strict seen0 (t ++ f) (w ++ v)
+      contents-run MlbContents.stop names drops run = run
+      contents-run (MlbContents.more {r = more} {v = value} c rest) names drops r =
+          content-run c (names .0) more value (λ asked. (drops asked) .0) seen0
+          (contents-run rest (names .1) (λ asked. (drops asked) .1) r)
 
-      contents1-run : {t w : List ℕ} (d : MlbContents1 ed t w) → Contents1Name d → Need s (Contents1Drop d f) → Run s k0 f v
-          → (k : Seen) → Run s k (t ++ f) (w ++ v)
-      contents1-run (some-content {r = u} {v = x} c cs) h n r k =
-          content-run c (h .0) u x (λ e. (n e) .0) k (contents-run cs (h .1) (λ e. (n e) .1) r)
+      contents1-run : {t w : List ℕ} (d : MlbContents1 ed t w) → Contents1Name d → Need strict (Contents1Drop d f)
+          → Run strict seen0 f v
+          → (k : Seen) → Run strict k (t ++ f) (w ++ v)
+      contents1-run (some-content {r = more} {v = value} c rest) names drops r k =
+          content-run c (names .0) more value (λ asked. (drops asked) .0) k
+          (contents-run rest (names .1) (λ asked. (drops asked) .1) r)
 
-    quotes-run : {q t v : List ℕ} → MlbQuotes q → ((k : Seen) → Run s k t v) → Run s k0 (q ++ t) (q ++ v)
-    quotes-run one r = mark0 (r k1)
-    quotes-run two r = mark0 (mark1 (r k2))
+    quotes-run : {q t v : List ℕ} → MlbQuotes q → ((k : Seen) → Run strict k t v) → Run strict seen0 (q ++ t) (q ++ v)
+    quotes-run one run = mark0 (run seen1)
+    quotes-run two run = mark0 (mark1 (run seen2))
 
-    groups-run : (f v : List ℕ) {t w : List ℕ} (d : MlbGroups ed t w) → GroupsName d → Need s (GroupsDrop d f) → Run s k0 f v
-        → Run s k0 (t ++ f) (w ++ v)
-    groups-run f v MlbGroups.stop h n r = r
-    groups-run f v (MlbGroups.more {q} {t} {r = u} {w} {v = x} qs c gs) h n r =
-        let rest = groups-run f v gs (h .1) (λ e. (n e) .1) r in
-        rw (append-assoc q (t ++ u) f, append-assoc t u f, append-assoc q (w ++ x) v, append-assoc w x v)
-        (quotes-run qs (contents1-run (u ++ f) (x ++ v) c (h .0) (λ e. (n e) .0) rest))
+    groups-run : (f v : List ℕ) {t w : List ℕ} (d : MlbGroups ed t w) → GroupsName d → Need strict (GroupsDrop d f)
+        → Run strict seen0 f v
+        → Run strict seen0 (t ++ f) (w ++ v)
+    groups-run f v MlbGroups.stop names drops run = run
+    groups-run f v (MlbGroups.more {q} {t} {r = more} {w} {v = value} qs c gs) names drops r =
+        let run = groups-run f v gs (names .1) (λ asked. (drops asked) .1) r in
+        rw (append-assoc q (t ++ more) f, append-assoc t more f, append-assoc q (w ++ value) v, append-assoc w value v)
+        (quotes-run qs (contents1-run (more ++ f) (value ++ v) c (names .0) (λ asked. (drops asked) .0) run))
 
-    option-run : {q : List ℕ} → OptMlbQuotes q → Run s k0 q q
+    option-run : {q : List ℕ} → OptMlbQuotes q → Run strict seen0 q q
     option-run OptMlbQuotes.absent = end
     option-run (OptMlbQuotes.present one) = mark0 end
     option-run (OptMlbQuotes.present two) = mark0 (mark1 end)
 
-    pub body-run : {t v : List ℕ} (d : MlBasicBody ed t v) → BodyNames d → Need s (BodyDrops d) → Run s k0 t v
-    body-run (ml-basic-body {a} {g} {q} {w} {v} cs gs o) h n =
-        contents-run (g ++ q) (v ++ q) cs (h .0) (λ e. (n e) .0) (groups-run q q gs (h .1) (λ e. (n e) .1) (option-run o))
+    pub body-run : {t v : List ℕ} (d : MlBasicBody ed t v) → BodyNames d → Need strict (BodyDrops d) → Run strict seen0 t v
+    body-run (ml-basic-body {a} {g} {q} {w} {v} cs gs o) names drops =
+        contents-run (g ++ q) (v ++ q) cs (names .0) (λ asked. (drops asked) .0)
+        (groups-run q q gs (names .1) (λ asked. (drops asked) .1) (option-run o))
 
   -- ---- from a run to the grammar
 
@@ -72,37 +80,38 @@ module _ (ed : Edition) where
 
   -- what may follow marks: nothing, or contents
   data Cont : List ℕ → List ℕ → Type 0 where
-    fin : Cont [] []
+    nothing : Cont [] []
     run-on : {t w g u q : List ℕ} (c : MlbContents1 ed t w) (gs : MlbGroups ed g u) (o : OptMlbQuotes q)
         → Contents1Name c → GroupsName gs → Contents1Drop c (g ++ q) → GroupsDrop gs q → Cont (t ++ (g ++ q)) (w ++ (u ++ q))
 
   quotes-body : {p t v : List ℕ} → MlbQuotes p → Cont t v → MeantBody (p ++ t) (p ++ v)
-  quotes-body {p} qs fin =
+  quotes-body {p} qs nothing =
       rw (append-nil p) (meant (ml-basic-body MlbContents.stop MlbGroups.stop (OptMlbQuotes.present qs)) (tt, tt) (tt, tt))
-  quotes-body {p} qs (run-on {t} {w} {g} {u} {q} c gs o n₁ n₂ d₁ d₂) =
+  quotes-body {p} qs (run-on {t} {w} {g} {u} {q} c gs o names group-names drops group-drops) =
       rw (← append-assoc t g q, ← append-assoc w u q, ← append-assoc p (t ++ g) q, ← append-assoc p (w ++ u) q)
-      (meant (ml-basic-body MlbContents.stop (MlbGroups.more qs c gs) o) (tt, (n₁, n₂)) (tt, (d₁, d₂)))
+      (meant (ml-basic-body MlbContents.stop (MlbGroups.more qs c gs) o) (tt, (names, group-names)) (tt, (drops, group-drops)))
 
   content-cont : (t w r v : List ℕ) → Kept true t w r → MeantBody r v → Cont (t ++ r) (w ++ v)
-  content-cont t w r v (kept c n x) (meant (ml-basic-body {a} {g} {q} {w = y} {v = u} cs gs o) ns ds) =
-      rw (← append-assoc t a (g ++ q), ← append-assoc w y (u ++ q))
-      (run-on (some-content c cs) gs o (n, ns .0) (ns .1) (x refl, ds .0) (ds .1))
+  content-cont t w r v (kept c names drops) (meant (ml-basic-body {a} {g} {q} {w = value} {v = u} cs gs o) named dropped) =
+      rw (← append-assoc t a (g ++ q), ← append-assoc w value (u ++ q))
+      (run-on (some-content c cs) gs o (names, named .0) (named .1) (drops refl, dropped .0) (dropped .1))
 
   content-body : (t w r v : List ℕ) → Kept true t w r → MeantBody r v → MeantBody (t ++ r) (w ++ v)
-  content-body t w r v (kept c n x) (meant (ml-basic-body {a} {g} {q} {w = y} {v = u} cs gs o) ns ds) =
-      rw (← append-assoc t a (g ++ q), ← append-assoc w y (u ++ q))
-      (meant (ml-basic-body (MlbContents.more c cs) gs o) ((n, ns .0), ns .1) ((x refl, ds .0), ds .1))
+  content-body t w r v (kept c names drops) (meant (ml-basic-body {a} {g} {q} {w = value} {v = u} cs gs o) named dropped) =
+      rw (← append-assoc t a (g ++ q), ← append-assoc w value (u ++ q))
+      (meant (ml-basic-body (MlbContents.more c cs) gs o) ((names, named .0), named .1)
+      ((drops refl, dropped .0), dropped .1))
 
   bodies : Bodies 0x22 (Kept true) MeantBody Cont
   bodies =
       record {
         no-body = meant (ml-basic-body MlbContents.stop MlbGroups.stop OptMlbQuotes.absent) (tt, tt) (tt, tt);
-        no-cont = fin;
+        no-cont = nothing;
         one-mark = λ t v c. quotes-body one c;
         two-marks = λ t v c. quotes-body two c;
         put-body = content-body;
         put-cont = content-cont;
       }
 
-  pub run-body : {t v : List ℕ} → Run true k0 t v → MeantBody t v
-  run-body f = flat-body 0x22 (Kept true) MeantBody Cont bodies f
+  pub run-body : {t v : List ℕ} → Run true seen0 t v → MeantBody t v
+  run-body run = flat-body 0x22 (Kept true) MeantBody Cont bodies run

@@ -47,22 +47,22 @@ module _ {ed : Edition} where
 
   contents-name : {t w : List ℕ} (d : MlbContents ed t w) → All Scalar w → ContentsName d
   contents-name MlbContents.stop h = tt
-  contents-name (MlbContents.more {w = w} {v = v} c r) h =
-      let p = all-parts Scalar w v h in
-      (content-names c (p .0), contents-name r (p .1))
+  contents-name (MlbContents.more {w = w} {v = v} c rest) scalars =
+      let parts = all-parts Scalar w v scalars in
+      (content-names c (parts .0), contents-name rest (parts .1))
 
   contents1-name : {t w : List ℕ} (d : MlbContents1 ed t w) → All Scalar w → Contents1Name d
-  contents1-name (MlbContents1.some-content {w = w} {v = v} c r) h =
-      let p = all-parts Scalar w v h in
-      (content-names c (p .0), contents-name r (p .1))
+  contents1-name (MlbContents1.some-content {w = w} {v = v} c rest) scalars =
+      let parts = all-parts Scalar w v scalars in
+      (content-names c (parts .0), contents-name rest (parts .1))
 
   groups-name : {t w : List ℕ} (d : MlbGroups ed t w) → All Scalar w → GroupsName d
   groups-name MlbGroups.stop h = tt
-  groups-name (MlbGroups.more {q = q} {w = w} {v = v} m c g) h =
-      let p = all-parts Scalar w v (all-parts Scalar q (w ++ v) h .1) in
-      (contents1-name c (p .0), groups-name g (p .1))
+  groups-name (MlbGroups.more {q = q} {w = w} {v = v} quotes c groups) scalars =
+      let parts = all-parts Scalar w v (all-parts Scalar q (w ++ v) scalars .1) in
+      (contents1-name c (parts .0), groups-name groups (parts .1))
 
   pub ml-basic-names : {t v : List ℕ} (d : MlBasicString ed t v) → All Scalar v → MlBasicNames d
-  ml-basic-names (ml-basic-string n (ml-basic-body {q = q} {w = w} {v = v} a g o)) h =
-      let p = all-parts Scalar w (v ++ q) h in
-      (contents-name a (p .0), groups-name g (all-parts Scalar v q (p .1) .0))
+  ml-basic-names (ml-basic-string n (ml-basic-body {q = q} {w = w} {v = v} contents groups quotes)) scalars =
+      let parts = all-parts Scalar w (v ++ q) scalars in
+      (contents-name contents (parts .0), groups-name groups (all-parts Scalar v q (parts .1) .0))

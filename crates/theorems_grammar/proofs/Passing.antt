@@ -26,7 +26,7 @@ use Rattle.theorems_grammar.proofs.Escapes.{Harmless}
 pub pass-all : (f : List ℕ → ℕ) (Ok : ℕ → Type 0) → ((b : ℕ) → Ok b → (s : List ℕ) → f (b ∷ s) ≡ suc (f s))
     → (t : List ℕ) → All Ok t → (s : List ℕ) → f (t ++ s) ≡ length t + f s
 pass-all f Ok pass [] h s = omega arith
-pass-all f Ok pass (b ∷ t) h s = omega (arith, pass b (h .0) (t ++ s), pass-all f Ok pass t (h .1) s)
+pass-all f Ok pass (b ∷ t) each s = omega (arith, pass b (each .0) (t ++ s), pass-all f Ok pass t (each .1) s)
 
 -- ---- three marks
 
@@ -72,7 +72,7 @@ never-hides false y e = refl
 
 -- only a backslash hides
 pub in-ml : (q b : ℕ) → (b ≡ q → ⊥) → (b ≡ 92 → ⊥) → InMl q b
-in-ml q b h k = (h, never-hides (eqb q 34) (eqb b 92) (ne-eqb b 92 k))
+in-ml q b not-mark not-slash = (not-mark, never-hides (eqb q 34) (eqb b 92) (ne-eqb b 92 not-slash))
 
 pub in-high : {q : ℕ} → Mark q → (b : ℕ) → 0x80 ≤ b → InMl q b
 in-high {q} m b h = in-ml q b (λ e. omega arith) (λ e. omega arith)
@@ -93,7 +93,7 @@ literal-in {c} (LiteralChar.x28-7E h k) = (((λ e. omega arith), refl), λ e. om
 literal-in {c} (LiteralChar.non-ascii n) = line-high apostrophes c (non-ascii-high n)
 
 in-basic : (c : ℕ) → (c ≡ 34 → ⊥) → (c ≡ 92 → ⊥) → (c ≡ 10 → ⊥) → InLine 34 c
-in-basic c h k l = (in-ml 34 c h k, l)
+in-basic c not-mark not-slash not-lf = (in-ml 34 c not-mark not-slash, not-lf)
 
 pub basic-in : {c : ℕ} → BasicUnescaped c → InLine 34 c
 basic-in (BasicUnescaped.wschar x20) = in-basic 0x20 (λ e. omega arith) (λ e. omega arith) (λ e. omega arith)
@@ -124,17 +124,17 @@ line-close q s = rw (eq-eqb q q refl)
 -- ---- on several lines: so many marks stand right before the place
 
 pub data Seen : Type 0 where
-  k0 k1 k2 : Seen
+  seen0 seen1 seen2 : Seen
 
 abbrev pub num : Seen → ℕ
-num k0 = 0
-num k1 = 1
-num k2 = 2
+num seen0 = 0
+num seen1 = 1
+num seen2 = 2
 
 abbrev pub marks : ℕ → Seen → List ℕ → List ℕ
-marks q k0 s = s
-marks q k1 s = q ∷ s
-marks q k2 s = q ∷ (q ∷ s)
+marks q seen0 s = s
+marks q seen1 s = q ∷ s
+marks q seen2 s = q ∷ (q ∷ s)
 
 two-le : (x y : Bool) → cond x (cond y 2 1) 0 ≤ 2
 two-le true true = omega arith
@@ -173,7 +173,7 @@ module _ {q : ℕ} (m : Mark q) where
   ml-step : (b : ℕ) (s : List ℕ) → triple q (b ∷ s) ≡ false → hides q false b ≡ false
       → mlTail q false (b ∷ s) ≡ suc (mlTail q false s)
   unfolding mlTail
-  ml-step b s t h = rw (t, h)
+  ml-step b s not-three hides-not = rw (not-three, hides-not)
 
   pub ml-pass : (b : ℕ) → InMl q b → (s : List ℕ) → mlTail q false (b ∷ s) ≡ suc (mlTail q false s)
   unfolding triple
@@ -182,9 +182,9 @@ module _ {q : ℕ} (m : Mark q) where
   -- marks that are not three are passed
   pub marks-pass : (k : Seen) (b : ℕ) (s : List ℕ) → (b ≡ q → ⊥)
       → mlTail q false (marks q k (b ∷ s)) ≡ num k + mlTail q false (b ∷ s)
-  marks-pass k0 b s h = omega arith
-  marks-pass k1 b s h = omega (arith, ml-step q (b ∷ s) (triple-no q b s h) (m .hides-none))
-  marks-pass k2 b s h =
+  marks-pass seen0 b s h = omega arith
+  marks-pass seen1 b s h = omega (arith, ml-step q (b ∷ s) (triple-no q b s h) (m .hides-none))
+  marks-pass seen2 b s h =
       let first = ml-step q (q ∷ (b ∷ s)) (triple-two q (b ∷ s) (ne-eqb b q h)) (m .hides-none) in
       omega (arith, ml-step q (b ∷ s) (triple-no q b s h) (m .hides-none))
 
@@ -195,42 +195,45 @@ module _ {q : ℕ} (m : Mark q) where
   bytes-pass : (k : Seen) (x : List ℕ) → 0 < length x → All (InMl q) x → (s : List ℕ)
       → mlTail q false (marks q k (x ++ s)) ≡ num k + (length x + mlTail q false s)
   bytes-pass k [] l h s = absurd (omega arith)
-  bytes-pass k (b ∷ x) l h s =
-      let rest = pass-all (mlTail q false) (InMl q) ml-pass x (h .1) s in
-      omega (arith, marks-pass k b (x ++ s) (h .0 .0), ml-pass b (h .0) (x ++ s))
+  bytes-pass k (b ∷ bytes) some inside s =
+      let rest = pass-all (mlTail q false) (InMl q) ml-pass bytes (inside .1) s in
+      omega (arith, marks-pass k b (bytes ++ s) (inside .0 .0), ml-pass b (inside .0) (bytes ++ s))
 
   -- one or more code points that neither close nor hide
   pub all-passed : (k : Seen) (t : List ℕ) → 0 < length t → All (InMl q) t → Passed q k t
   all-passed k [] l h s = absurd (omega arith)
-  all-passed k (c ∷ t) l h s =
-      let p = parts c in
-      let e : encodes (c ∷ t) ≡ p .first ∷ (p .tails ++ encodes t) = ap (λ (x : List ℕ). x ++ encodes t) (p .whole) in
-      bytes-pass k (encodes (c ∷ t)) (omega (arith, ap length e)) (chars-bytes (in-high m) (c ∷ t) h) s
+  all-passed k (c ∷ t) some inside s =
+      let char = parts c in
+      let bytes : encodes (c ∷ t) ≡ char .first ∷ (char .tails ++ encodes t) =
+      ap (λ (x : List ℕ). x ++ encodes t) (char .whole) in
+      bytes-pass k (encodes (c ∷ t)) (omega (arith, ap length bytes)) (chars-bytes (in-high m) (c ∷ t) inside) s
 
   -- ---- the mark itself, and the three at the end
   module _ (rest : List ℕ) where
     mark-bytes : (cs : List ℕ) → encodes (q ∷ cs) ≡ q ∷ encodes cs
     mark-bytes cs = rw (encode-1 q (m .low))
 
-    pub through-one : (cs : List ℕ) → Through q rest k0 (q ∷ cs) ↔ Through q rest k1 cs
-    through-one cs = ((λ h. let y = rw (mark-bytes cs) at h in omega arith), λ h. rw (mark-bytes cs) (omega arith))
+    pub through-one : (cs : List ℕ) → Through q rest seen0 (q ∷ cs) ↔ Through q rest seen1 cs
+    through-one cs =
+        ((λ through. let bytes = rw (mark-bytes cs) at through in omega arith), λ through. rw (mark-bytes cs) (omega arith))
 
-    pub through-two : (cs : List ℕ) → Through q rest k1 (q ∷ cs) ↔ Through q rest k2 cs
-    through-two cs = ((λ h. let y = rw (mark-bytes cs) at h in omega arith), λ h. rw (mark-bytes cs) (omega arith))
+    pub through-two : (cs : List ℕ) → Through q rest seen1 (q ∷ cs) ↔ Through q rest seen2 cs
+    through-two cs =
+        ((λ through. let bytes = rw (mark-bytes cs) at through in omega arith), λ through. rw (mark-bytes cs) (omega arith))
 
     -- there is no third mark within
-    pub through-three : (cs : List ℕ) → Through q rest k2 (q ∷ cs) → ⊥
-    through-three cs h =
-        let z : List ℕ = encodes cs ++ (q ∷ (q ∷ (q ∷ rest))) in
-        let y = rw (mark-bytes cs) at h in
-        omega (arith, ml-third z, up-le q z)
+    pub through-three : (cs : List ℕ) → Through q rest seen2 (q ∷ cs) → ⊥
+    through-three cs through =
+        let after : List ℕ = encodes cs ++ (q ∷ (q ∷ (q ∷ rest))) in
+        let bytes = rw (mark-bytes cs) at through in
+        omega (arith, ml-third after, up-le q after)
 
     pub through-end : Apart q rest → (k : Seen) → Through q rest k []
-    through-end h k0 = omega (arith, ml-third rest, up-none q rest h)
-    through-end h k1 = omega (arith, ml-third (q ∷ rest), up-one q rest h)
-    through-end h k2 = omega (arith, ml-third (q ∷ (q ∷ rest)), up-two q rest)
+    through-end h seen0 = omega (arith, ml-third rest, up-none q rest h)
+    through-end h seen1 = omega (arith, ml-third (q ∷ rest), up-one q rest h)
+    through-end h seen2 = omega (arith, ml-third (q ∷ (q ∷ rest)), up-two q rest)
 
-module _ (q : ℕ) (rest : List ℕ) (k : Seen) (t r : List ℕ) (p : Passed q k t) where
+module _ (q : ℕ) (rest : List ℕ) (k : Seen) (t r : List ℕ) (passed : Passed q k t) where
   abbrev closing : List ℕ
   closing = q ∷ (q ∷ (q ∷ rest))
 
@@ -240,11 +243,12 @@ module _ (q : ℕ) (rest : List ℕ) (k : Seen) (t r : List ℕ) (p : Passed q k
   parts-long : length (encodes (t ++ r)) ≡ length (encodes t) + length (encodes r)
   parts-long = ap length (encodes-append t r) ∙ length-append (encodes t) (encodes r)
 
-  pub through-after : Through q rest k0 r → Through q rest k (t ++ r)
-  through-after h = ap (λ x. mlTail q false (marks q k x)) parts-joined ∙ omega (arith, p (encodes r ++ closing), parts-long)
+  pub through-after : Through q rest seen0 r → Through q rest k (t ++ r)
+  through-after through =
+      ap (λ x. mlTail q false (marks q k x)) parts-joined ∙ omega (arith, passed (encodes r ++ closing), parts-long)
 
-  pub through-rest : Through q rest k (t ++ r) → Through q rest k0 r
-  through-rest l =
-      let l₂ : mlTail q false (marks q k (encodes t ++ (encodes r ++ closing))) ≡ num k + (length (encodes (t ++ r)) + 3) =
-      sym (ap (λ x. mlTail q false (marks q k x)) parts-joined) ∙ l in
-      omega (arith, p (encodes r ++ closing), parts-long)
+  pub through-rest : Through q rest k (t ++ r) → Through q rest seen0 r
+  through-rest through =
+      let joined : mlTail q false (marks q k (encodes t ++ (encodes r ++ closing))) ≡ num k + (length (encodes (t ++ r)) + 3) =
+      sym (ap (λ x. mlTail q false (marks q k x)) parts-joined) ∙ through in
+      omega (arith, passed (encodes r ++ closing), parts-long)

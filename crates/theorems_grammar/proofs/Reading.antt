@@ -23,65 +23,65 @@ IfClean X p = p .verdict ≡ Clean → X
 
 -- a byte of the class f and the run of that class behind it are one piece, which copies them
 abbrev pub CopiesRuns : Pieces → (ℕ → Bool) → Type 0
-CopiesRuns P f = (at b : ℕ) (s : List ℕ) → f b ≡ true → P false at (b ∷ s) ≡ copyPiece (suc (run f s))
+CopiesRuns pieces f = (at b : ℕ) (s : List ℕ) → f b ≡ true → pieces false at (b ∷ s) ≡ copyPiece (suc (run f s))
 
-module _ (P : Pieces) where
+module _ (pieces : Pieces) where
   -- s, from the place at on, has no error
   abbrev pub ErrorFree : Bool → ℕ → List ℕ → Type 0
-  ErrorFree d at s = collect P notesAt 0 d at s ≡ []
+  ErrorFree d at s = collect pieces notesAt 0 d at s ≡ []
 
   -- s gives o without error, and s′ is left; d and d′ say whether that is within a line-ending escape
   pub record Reads (d : Bool) (at : ℕ) (s o : List ℕ) (d′ : Bool) (s′ : List ℕ) : Type 0 where
     pub to : ℕ
     pub place : to + length s′ ≡ at + length s
-    pub quiet : collect P notesAt 0 d at s ≡ collect P notesAt 0 d′ to s′
-    pub bytes : collect P gives 0 d at s ≡ o ++ collect P gives 0 d′ to s′
+    pub quiet : collect pieces notesAt 0 d at s ≡ collect pieces notesAt 0 d′ to s′
+    pub bytes : collect pieces gives 0 d at s ≡ o ++ collect pieces gives 0 d′ to s′
 
   pub reads-none : (d : Bool) (at : ℕ) (s : List ℕ) → Reads d at s [] d s
   reads-none d at s = record { to = at; place = refl; quiet = refl; bytes = refl }
 
   pub reads-then : {d : Bool} {at : ℕ} {d₁ d₂ : Bool} {s o s₁ o₁ s₂ : List ℕ}
-      → (a : Reads d at s o d₁ s₁) → Reads d₁ (a .to) s₁ o₁ d₂ s₂ → Reads d at s (o ++ o₁) d₂ s₂
-  reads-then {o = o} {o₁ = o₁} a b =
+      → (first : Reads d at s o d₁ s₁) → Reads d₁ (first .to) s₁ o₁ d₂ s₂ → Reads d at s (o ++ o₁) d₂ s₂
+  reads-then {o = o} {o₁ = o₁} first second =
       record {
-        to = b .to;
-        place = b .place ∙ a .place;
-        quiet = a .quiet ∙ b .quiet;
-        bytes = a .bytes ∙ (ap (λ x. o ++ x) (b .bytes) ∙ sym (append-assoc o o₁ _));
+        to = second .to;
+        place = second .place ∙ first .place;
+        quiet = first .quiet ∙ second .quiet;
+        bytes = first .bytes ∙ (ap (λ x. o ++ x) (second .bytes) ∙ sym (append-assoc o o₁ _));
       }
 
   -- one piece that has no error
-  reads-piece : (d : Bool) (at : ℕ) (t s o : List ℕ) (p : Piece) → P d at (t ++ s) ≡ p → 0 < length t → p .take ≡ length t
+  reads-piece : (d : Bool) (at : ℕ) (t s o : List ℕ) (p : Piece) → pieces d at (t ++ s) ≡ p → 0 < length t → p .take ≡ length t
       → p .verdict ≡ Clean → gives p (t ++ s) ≡ o → Reads d at (t ++ s) o (p .dropping) s
-  reads-piece d at t s o p e l n h g =
+  reads-piece d at t s o p piece some-text taken clean given =
       let some : 0 < length (t ++ s) = omega (arith, length-append t s) in
-      let takes : 0 < P d at (t ++ s) .take = rw e (omega arith) in
-      let x : drop (p .take) (t ++ s) ≡ s = drop-at t s (p .take) (sym n) in
+      let takes : 0 < pieces d at (t ++ s) .take = rw piece (omega arith) in
+      let left : drop (p .take) (t ++ s) ≡ s = drop-at t s (p .take) (sym taken) in
       record {
         to = at + p .take;
         place = omega (arith, length-append t s);
-        quiet = collect-step P notesAt d at (t ++ s) some takes ∙ rw (e, notes-none p h, x);
-        bytes = collect-step P gives d at (t ++ s) some takes ∙ rw (e, g, x);
+        quiet = collect-step pieces notesAt d at (t ++ s) some takes ∙ rw (piece, notes-none p clean, left);
+        bytes = collect-step pieces gives d at (t ++ s) some takes ∙ rw (piece, given, left);
       }
 
   -- bytes as they are, a character, or nothing
-  pub reads-copy : (d : Bool) (at : ℕ) (t s : List ℕ) → P d at (t ++ s) ≡ copyPiece (length t) → 0 < length t
+  pub reads-copy : (d : Bool) (at : ℕ) (t s : List ℕ) → pieces d at (t ++ s) ≡ copyPiece (length t) → 0 < length t
       → Reads d at (t ++ s) t false s
-  reads-copy d at t s e l =
-      let p = copyPiece (length t) in
-      reads-piece d at t s t p e l refl refl (gives-copy p (t ++ s) refl ∙ take-at t s (length t) refl)
+  reads-copy d at t s piece some =
+      let copy = copyPiece (length t) in
+      reads-piece d at t s t copy piece some refl refl (gives-copy copy (t ++ s) refl ∙ take-at t s (length t) refl)
 
-  pub reads-for : (d : Bool) (at : ℕ) (t s : List ℕ) (v : ℕ) → P d at (t ++ s) ≡ charPiece (length t) v → 0 < length t
+  pub reads-for : (d : Bool) (at : ℕ) (t s : List ℕ) (v : ℕ) → pieces d at (t ++ s) ≡ charPiece (length t) v → 0 < length t
       → Reads d at (t ++ s) (encodeScalar v) false s
-  reads-for d at t s v e l =
-      let p = charPiece (length t) v in
-      reads-piece d at t s (encodeScalar v) p e l refl refl (gives-char p (t ++ s) v refl)
+  reads-for d at t s v piece some =
+      let char = charPiece (length t) v in
+      reads-piece d at t s (encodeScalar v) char piece some refl refl (gives-char char (t ++ s) v refl)
 
-  pub reads-drop : (d : Bool) (at : ℕ) (t s : List ℕ) → P d at (t ++ s) ≡ dropPiece (length t) → 0 < length t
+  pub reads-drop : (d : Bool) (at : ℕ) (t s : List ℕ) → pieces d at (t ++ s) ≡ dropPiece (length t) → 0 < length t
       → Reads d at (t ++ s) [] true s
-  reads-drop d at t s e l =
-      let p = dropPiece (length t) in
-      reads-piece d at t s [] p e l refl refl (gives-nothing p (t ++ s) refl)
+  reads-drop d at t s piece some =
+      let dropped = dropPiece (length t) in
+      reads-piece d at t s [] dropped piece some refl refl (gives-nothing dropped (t ++ s) refl)
 
   -- the code points cs give the value v, and nothing is left
   abbrev pub ReadsAs : List ℕ → List ℕ → Type 0
@@ -96,25 +96,25 @@ module _ (P : Pieces) where
   ReadsNewlines = (n : List ℕ) → Newline n → (at : ℕ) (s : List ℕ) → Reads false at (n ++ s) n false s
 
   -- the first piece of a body that is read without error has none
-  pub first-clean : (d : Bool) (at b : ℕ) (r : List ℕ) → ErrorFree d at (b ∷ r) → P d at (b ∷ r) .verdict ≡ Clean
-  first-clean d at b r e =
-      notes-clean (P d at (b ∷ r)) (ap length (append-eq-nil-iff {p = notes (P d at (b ∷ r))} .0 e .0))
+  pub first-clean : (d : Bool) (at b : ℕ) (r : List ℕ) → ErrorFree d at (b ∷ r) → pieces d at (b ∷ r) .verdict ≡ Clean
+  first-clean d at b r clean =
+      notes-clean (pieces d at (b ∷ r)) (ap length (append-eq-nil-iff {p = notes (pieces d at (b ∷ r))} .0 clean .0))
 
   -- a whole run of plain bytes is one piece, and yet they may be read one by one
-  module _ (f : ℕ → Bool) (plain : CopiesRuns P f) where
+  module _ (f : ℕ → Bool) (plain : CopiesRuns pieces f) where
     -- g says h n of a copy of n bytes: what it says of the rest of a run, it says of the bytes of that rest one by one
     module _ {A : Type 0} (g : Piece → List ℕ → List A) (h : ℕ → List ℕ → List A) (none : (s : List ℕ) → h 0 s ≡ [])
         (copied : (n : ℕ) (s : List ℕ) → g (copyPiece n) s ≡ h n s) where
-      rest-says : (at : ℕ) (s : List ℕ) → h (run f s) s ++ collect P g (run f s) false at s ≡ collect P g 0 false at s
+      rest-says : (at : ℕ) (s : List ℕ) → h (run f s) s ++ collect pieces g (run f s) false at s ≡ collect pieces g 0 false at s
       unfolding run
       rest-says at [] = rw (none [])
-      rest-says at (b ∷ s) = go (f b) refl
+      rest-says at (b ∷ s) = by-test (f b) refl
         where
-          go : (x : Bool) → f b ≡ x
-              → h (cond x (suc (run f s)) 0) (b ∷ s) ++ collect P g (cond x (suc (run f s)) 0) false at (b ∷ s)
-              ≡ collect P g 0 false at (b ∷ s)
-          go true e = rw (plain at b s e, copied (suc (run f s)) (b ∷ s))
-          go false e = rw (none (b ∷ s))
+          by-test : (test : Bool) → f b ≡ test
+              → h (cond test (suc (run f s)) 0) (b ∷ s) ++ collect pieces g (cond test (suc (run f s)) 0) false at (b ∷ s)
+              ≡ collect pieces g 0 false at (b ∷ s)
+          by-test true is = rw (plain at b s is, copied (suc (run f s)) (b ∷ s))
+          by-test false is = rw (none (b ∷ s))
 
     pub reads-plain : (at b : ℕ) (s : List ℕ) → f b ≡ true → Reads false at (b ∷ s) (b ∷ []) false s
     unfolding gives notes
@@ -126,9 +126,12 @@ module _ (P : Pieces) where
           bytes = rw (plain at b s e) (ap (b ∷_) (rest-says gives take (λ r. refl) (λ n r. refl) (suc at) s));
         }
 
-    reads-bytes : (x : List ℕ) → All (λ b. f b ≡ true) x → (at : ℕ) (s : List ℕ) → Reads false at (x ++ s) x false s
-    reads-bytes [] h at s = reads-none false at s
-    reads-bytes (b ∷ x) h at s = let a = reads-plain at b (x ++ s) (h .0) in reads-then a (reads-bytes x (h .1) (a .to) s)
+    reads-bytes : (bytes : List ℕ) → All (λ b. f b ≡ true) bytes → (at : ℕ) (s : List ℕ)
+        → Reads false at (bytes ++ s) bytes false s
+    reads-bytes [] class at s = reads-none false at s
+    reads-bytes (b ∷ bytes) class at s =
+        let first = reads-plain at b (bytes ++ s) (class .0) in
+        reads-then first (reads-bytes bytes (class .1) (first .to) s)
 
     pub reads-char : ((b : ℕ) → 0x80 ≤ b → f b ≡ true) → ReadsChars f
     reads-char high c at s e = reads-bytes (encodeScalar c) (char-bytes high c e) at s

@@ -155,7 +155,8 @@ module _ {ed : Edition} where
 
   ml-basic-points : {t v : List ℕ} → MlBasicString ed t v → Scalars t
   ml-basic-points (ml-basic-string n (ml-basic-body a g q)) =
-      join three (join (opt-newline-points n) (join (join (contents-points a) (join (groups-points g) (opt-quotes-points q))) three))
+      join three
+      (join (opt-newline-points n) (join (join (contents-points a) (join (groups-points g) (opt-quotes-points q))) three))
     where
       three : Scalars (0x22 ∷ 0x22 ∷ 0x22 ∷ [])
       three = next (low (omega arith)) (next (low (omega arith)) (one (omega arith)))
@@ -194,7 +195,9 @@ mll-groups-points (MllGroups.more q c g) = join (mll-quotes-points q) (join (mll
 
 ml-literal-points : {t v : List ℕ} → MlLiteralString t v → Scalars t
 ml-literal-points (ml-literal-string n (ml-literal-body a g q)) =
-    join three (join (opt-newline-points n) (join (join (mll-contents-points a) (join (mll-groups-points g) (opt-mll-quotes-points q))) three))
+    join three
+    (join (opt-newline-points n)
+    (join (join (mll-contents-points a) (join (mll-groups-points g) (opt-mll-quotes-points q))) three))
   where
     three : Scalars (0x27 ∷ 0x27 ∷ 0x27 ∷ [])
     three = next (low (omega arith)) (next (low (omega arith)) (one (omega arith)))

@@ -52,7 +52,7 @@ unlexed-long = refl
 
 pub unlexed-not-derived : (v : List ℕ) → Derived Toml10 ml-literal unlexed v → ⊥
 unlexed-not-derived v d =
-    let t = derived-token Toml10 ml-literal unlexed v [] d refl in omega (arith, t .1, unlexed-short, unlexed-long)
+    let token = derived-token Toml10 ml-literal unlexed v [] d refl in omega (arith, token .1, unlexed-short, unlexed-long)
 
 -- ---- "\q" has no derivation
 
@@ -64,30 +64,30 @@ unfolding basicUnescaped
 unescaped-slash = refl
 
 no-slash : {c : ℕ} → BasicUnescaped c → c ≡ 92 → ⊥
-no-slash u e = not-both (basic-at u) (ap basicUnescaped e ∙ unescaped-slash)
+no-slash class is-slash = not-both (basic-at class) (ap basicUnescaped is-slash ∙ unescaped-slash)
 
 first-q : {ed : Edition} {t : List ℕ} {v : ℕ} → EscapeSeqChar ed t v → (r s : List ℕ) → t ++ r ≡ 113 ∷ s → ⊥
-first-q EscapeSeqChar.x22 r s e = let z : _≡_ {A = ℕ} 0x22 113 = cc in omega arith
-first-q EscapeSeqChar.x5C r s e = let z : _≡_ {A = ℕ} 0x5C 113 = cc in omega arith
-first-q EscapeSeqChar.x62 r s e = let z : _≡_ {A = ℕ} 0x62 113 = cc in omega arith
-first-q EscapeSeqChar.x66 r s e = let z : _≡_ {A = ℕ} 0x66 113 = cc in omega arith
-first-q EscapeSeqChar.x6E r s e = let z : _≡_ {A = ℕ} 0x6E 113 = cc in omega arith
-first-q EscapeSeqChar.x72 r s e = let z : _≡_ {A = ℕ} 0x72 113 = cc in omega arith
-first-q EscapeSeqChar.x74 r s e = let z : _≡_ {A = ℕ} 0x74 113 = cc in omega arith
-first-q (EscapeSeqChar.x75 d) r s e = let z : _≡_ {A = ℕ} 0x75 113 = cc in omega arith
-first-q (EscapeSeqChar.x55 d) r s e = let z : _≡_ {A = ℕ} 0x55 113 = cc in omega arith
-first-q EscapeSeqChar.x65 r s e = let z : _≡_ {A = ℕ} 0x65 113 = cc in omega arith
-first-q (EscapeSeqChar.x78 d) r s e = let z : _≡_ {A = ℕ} 0x78 113 = cc in omega arith
+first-q EscapeSeqChar.x22 r s text = let same : _≡_ {A = ℕ} 0x22 113 = cc in omega arith
+first-q EscapeSeqChar.x5C r s text = let same : _≡_ {A = ℕ} 0x5C 113 = cc in omega arith
+first-q EscapeSeqChar.x62 r s text = let same : _≡_ {A = ℕ} 0x62 113 = cc in omega arith
+first-q EscapeSeqChar.x66 r s text = let same : _≡_ {A = ℕ} 0x66 113 = cc in omega arith
+first-q EscapeSeqChar.x6E r s text = let same : _≡_ {A = ℕ} 0x6E 113 = cc in omega arith
+first-q EscapeSeqChar.x72 r s text = let same : _≡_ {A = ℕ} 0x72 113 = cc in omega arith
+first-q EscapeSeqChar.x74 r s text = let same : _≡_ {A = ℕ} 0x74 113 = cc in omega arith
+first-q (EscapeSeqChar.x75 d) r s text = let same : _≡_ {A = ℕ} 0x75 113 = cc in omega arith
+first-q (EscapeSeqChar.x55 d) r s text = let same : _≡_ {A = ℕ} 0x55 113 = cc in omega arith
+first-q EscapeSeqChar.x65 r s text = let same : _≡_ {A = ℕ} 0x65 113 = cc in omega arith
+first-q (EscapeSeqChar.x78 d) r s text = let same : _≡_ {A = ℕ} 0x78 113 = cc in omega arith
 
 no-chars : {ed : Edition} {t v : List ℕ} → BasicChars ed t v → t ++ (34 ∷ []) ≡ 92 ∷ 113 ∷ 34 ∷ [] → ⊥
-no-chars BasicChars.stop e = let z : _≡_ {A = ℕ} 34 92 = cc in omega arith
-no-chars (BasicChars.more {r = r} (BasicChar.basic-unescaped {c} u) d) e = let z : c ≡ 92 = cc in no-slash u z
-no-chars (BasicChars.more {r = r} (BasicChar.escaped-char (escaped {t} x)) d) e =
-    let y : (t ++ r) ++ (34 ∷ []) ≡ 113 ∷ 34 ∷ [] = cc in
-    first-q x (r ++ (34 ∷ [])) (34 ∷ []) (sym (append-assoc t r (34 ∷ [])) ∙ y)
+no-chars BasicChars.stop text = let same : _≡_ {A = ℕ} 34 92 = cc in omega arith
+no-chars (BasicChars.more {r = r} (BasicChar.basic-unescaped {c} class) rest) text = let is-slash : c ≡ 92 = cc in no-slash class is-slash
+no-chars (BasicChars.more {r = r} (BasicChar.escaped-char (escaped {t} char)) rest) text =
+    let after-slash : (t ++ r) ++ (34 ∷ []) ≡ 113 ∷ 34 ∷ [] = cc in
+    first-q char (r ++ (34 ∷ [])) (34 ∷ []) (sym (append-assoc t r (34 ∷ [])) ∙ after-slash)
 
 pub unknown-not-derived : (ed : Edition) (cs v : List ℕ) → BasicString ed cs v → cs ≡ unknown-escape → ⊥
-unknown-not-derived ed cs v (basic-string {t} d) e = let y : t ++ (34 ∷ []) ≡ 92 ∷ 113 ∷ 34 ∷ [] = cc in no-chars d y
+unknown-not-derived ed cs v (basic-string {t} chars) text = let inside : t ++ (34 ∷ []) ≡ 92 ∷ 113 ∷ 34 ∷ [] = cc in no-chars chars inside
 
 -- ---- "\uD800" has a derivation, and none whose escapes name scalar values
 
@@ -115,14 +115,14 @@ abbrev two-ways : List ℕ
 two-ways = 39 ∷ 39 ∷ 39 ∷ 10 ∷ 97 ∷ 39 ∷ 39 ∷ 39 ∷ []
 
 mll : (c : ℕ) → 0x28 ≤ c → c ≤ 0x7E → MllContent (c ∷ [])
-mll c h k = MllContent.mll-char (MllChar.x28-7E h k)
+mll c least most = MllContent.mll-char (MllChar.x28-7E least most)
 
 pub two-readings : Derived Toml10 ml-literal two-ways (97 ∷ []) × Derived Toml10 ml-literal two-ways (10 ∷ 97 ∷ [])
 two-readings =
-    let a : MllContents (97 ∷ []) = MllContents.more (mll 97 (omega arith) (omega arith)) MllContents.stop in (
-      ml-literal-string (OptNewline.present Newline.x0A) (ml-literal-body a MllGroups.stop OptMllQuotes.absent),
+    let contents : MllContents (97 ∷ []) = MllContents.more (mll 97 (omega arith) (omega arith)) MllContents.stop in (
+      ml-literal-string (OptNewline.present Newline.x0A) (ml-literal-body contents MllGroups.stop OptMllQuotes.absent),
       ml-literal-string OptNewline.absent
-          (ml-literal-body (MllContents.more (MllContent.newline Newline.x0A) a) MllGroups.stop OptMllQuotes.absent),
+          (ml-literal-body (MllContents.more (MllContent.newline Newline.x0A) contents) MllGroups.stop OptMllQuotes.absent),
     )
 
 -- ---- a literal string: '\é' means \é
@@ -168,10 +168,10 @@ ml-literal-text = 39 ∷ 39 ∷ 39 ∷ 10 ∷ 97 ∷ 13 ∷ 10 ∷ 39 ∷ 39 ∷
 pub ml-literal-means : Means Toml10 ml-literal ml-literal-text (97 ∷ 13 ∷ 10 ∷ 39 ∷ 39 ∷ 98 ∷ [])
 ml-literal-means =
     let line : MllContents (13 ∷ 10 ∷ []) = MllContents.more (MllContent.newline Newline.x0D-0A) MllContents.stop in
-    let b : MllContents1 (98 ∷ []) = MllContents1.some-content (mll 98 (omega arith) (omega arith)) MllContents.stop in (
+    let contents : MllContents1 (98 ∷ []) = MllContents1.some-content (mll 98 (omega arith) (omega arith)) MllContents.stop in (
       ml-literal-string (OptNewline.present Newline.x0A) (ml-literal-body
           (MllContents.more (mll 97 (omega arith) (omega arith)) line)
-          (MllGroups.more MllQuotes.two b MllGroups.stop)
+          (MllGroups.more MllQuotes.two contents MllGroups.stop)
           OptMllQuotes.absent),
       tt,
     )
@@ -186,7 +186,7 @@ abbrev ml-basic-text : List ℕ
 ml-basic-text = 34 ∷ 34 ∷ 34 ∷ 97 ∷ 92 ∷ 32 ∷ 10 ∷ 32 ∷ 34 ∷ 98 ∷ 13 ∷ 10 ∷ 34 ∷ 34 ∷ 34 ∷ []
 
 mlb : (c : ℕ) → 0x5D ≤ c → c ≤ 0x7E → MlbContent Toml10 (c ∷ []) (c ∷ [])
-mlb c h k = MlbContent.mlb-char (MlbChar.mlb-unescaped (MlbUnescaped.x5D-7E h k))
+mlb c least most = MlbContent.mlb-char (MlbChar.mlb-unescaped (MlbUnescaped.x5D-7E least most))
 
 line-end : MlbContent Toml10 (92 ∷ 32 ∷ 10 ∷ 32 ∷ []) []
 line-end =

@@ -36,13 +36,13 @@ use Rattle.theorems_grammar.specs.Demand3.{Reached, start, next}
 
 token-of-fields : (r : Token) (k : TokenKind) (e l : ℕ) → r .kind ≡ k → r .span .end ≡ e → r .line ≡ l
     → r ≡ tokenOf k (r .span .start) e l
-token-of-fields r k e l p q x =
-    ap (λ (j : TokenKind). tokenOf j (r .span .start) (r .span .end) (r .line)) p
-    ∙ ap (λ (n : ℕ). tokenOf k (r .span .start) n (r .line)) q ∙ ap (tokenOf k (r .span .start) e) x
+token-of-fields r k e l same-kind same-end same-line =
+    ap (λ (j : TokenKind). tokenOf j (r .span .start) (r .span .end) (r .line)) same-kind
+    ∙ ap (λ (n : ℕ). tokenOf k (r .span .start) n (r .line)) same-end ∙ ap (tokenOf k (r .span .start) e) same-line
 
 pub listed-is : (doc : List ℕ) (r : Token) → List·Memᴰ r (tokensOf doc)
     → r ≡ tokenAt (r .span .start) (lineOf doc (r .span .start)) (drop (r .span .start) doc)
-listed-is doc r m = let x = by-rule doc r m in token-of-fields r _ _ _ (x .kind) (x .end) (x .line)
+listed-is doc r listed = let facts = by-rule doc r listed in token-of-fields r _ _ _ (facts .kind) (facts .end) (facts .line)
 
 -- ---- a token of a step is the token at the cursor's place
 
@@ -64,48 +64,50 @@ unfolding tokenLen kindOf extent
 eof-is at line = ap (λ (i : ℕ). tokenOf (kindOf []) at i line) (sym (add-zero at))
 
 end-not-given : {r : Token} {d : Cursor} {P : Type 0} → End ≡ Next r d → P
-end-not-given h = let z : _≡_ {A = ℕ} 0 1 = cc in absurd (omega arith)
+end-not-given given = let numbers : _≡_ {A = ℕ} 0 1 = cc in absurd (omega arith)
 
 module _ (doc : List ℕ) (c : Cursor) (r : Token) (d : Cursor) where
   abbrev Says : Step → Type 0
   Says x = x ≡ Next r d → StepGave doc c r d
 
   end-says : length doc ≤ limit → c .line ≤ c .place + 1 → c .place ≡ length doc
-      → (t : Token) (n : Cursor) → t ≡ eofAt (c .place) (c .line) → n .place ≡ c .place → Says (Next t n)
+      → (t : Token) (onward : Cursor) → t ≡ eofAt (c .place) (c .line) → onward .place ≡ c .place → Says (Next t onward)
   unfolding tokenLen kindOf extent
-  end-says l o p t n e f h =
-      let x : t ≡ r = cc in
-      let y : n ≡ d = cc in
-      let z : drop (c .place) doc ≡ [] = drop-of-length-le doc {i = c .place} (omega arith) in
+  end-says few near at-end t onward is-eof stays gives =
+      let same-token : t ≡ r = cc in
+      let same-cursor : onward ≡ d = cc in
+      let nothing : drop (c .place) doc ≡ [] = drop-of-length-le doc {i = c .place} (omega arith) in
       record {
-        few = l;
-        near = o;
-        is = sym x ∙ (e ∙ (eof-is (c .place) (c .line) ∙ ap (tokenAt (c .place) (c .line)) (sym z)));
-        on = ap (λ (i : Cursor). i .place) (sym y) ∙ (f ∙ rw z (sym (add-zero (c .place))));
+        few = few;
+        near = near;
+        is = sym same-token ∙ (is-eof ∙ (eof-is (c .place) (c .line) ∙ ap (tokenAt (c .place) (c .line)) (sym nothing)));
+        on = ap (λ (i : Cursor). i .place) (sym same-cursor) ∙ (stays ∙ rw nothing (sym (add-zero (c .place))));
       }
 
   pub step-gave : stepOf doc c ≡ Next r d → StepGave doc c r d
   unfolding stepOf
   step-gave =
-      by-lt Says limit (length doc) (λ l h. absurd (omega (arith, ap stepNumber h)))
-      λ l. cond-case Says (astray doc c) (λ k h. absurd (omega (arith, ap stepNumber h)))
-      λ k.
-      let o = ltb-false (c .place + 1) (c .line) (or-false (ltb (length doc) (c .place)) (ltb (c .place + 1) (c .line)) k .1) in
+      by-lt Says limit (length doc) (λ many gives. absurd (omega (arith, ap stepNumber gives)))
+      λ few. cond-case Says (astray doc c) (λ stray gives. absurd (omega (arith, ap stepNumber gives)))
+      λ placed.
+      let near =
+      ltb-false (c .place + 1) (c .line) (or-false (ltb (length doc) (c .place)) (ltb (c .place + 1) (c .line)) placed .1) in
       by-eq Says (c .place) (length doc)
-      (λ p. cond-case Says (c .ended) (λ e h. end-not-given h) (λ e h. end-says l o p _ _ refl refl h))
-      (λ p h.
-      let x : tokenHere doc c ≡ r = cc in
-      let y : cursorNext doc c ≡ d = cc in
-      record { few = l; near = o; is = sym x; on = ap (λ (i : Cursor). i .place) (sym y) })
+      (λ at-end. cond-case Says (c .ended) (λ ended gives. end-not-given gives)
+      (λ running gives. end-says few near at-end _ _ refl refl gives))
+      (λ before-end gives.
+      let same-token : tokenHere doc c ≡ r = cc in
+      let same-cursor : cursorNext doc c ≡ d = cc in
+      record { few = few; near = near; is = sym same-token; on = ap (λ (i : Cursor). i .place) (sym same-cursor) })
 
 -- a step before the end, by any cursor
 pub step-there : (doc : List ℕ) → length doc ≤ limit → (c : Cursor) → c .line ≤ c .place + 1 → c .place < length doc
     → stepOf doc c ≡ Next (tokenHere doc c) (cursorNext doc c)
 unfolding stepOf
-step-there doc l c o h =
+step-there doc few c near before-end =
     let within = le-ltb (length doc) (c .place) (omega arith) in
-    let before = ne-eqb (c .place) (length doc) (λ z. omega arith) in
-    rw (le-ltb limit (length doc) l, within, le-ltb (c .place + 1) (c .line) o, before)
+    let before = ne-eqb (c .place) (length doc) (λ at-end. omega arith) in
+    rw (le-ltb limit (length doc) few, within, le-ltb (c .place + 1) (c .line) near, before)
 
 -- ---- steps from the start
 
@@ -113,18 +115,19 @@ start-is : (doc : List ℕ) (c : Cursor) → startAnswer doc ≡ At c → cursor
 unfolding startAnswer
 start-is doc c =
     by-lt (λ (x : Start). x ≡ At c → cursorOf (startOf doc) 1 false ≡ c) limit (length doc)
-    (λ l h. let z : _≡_ {A = ℕ} 0 1 = cc in absurd (omega arith))
-    (λ l h. let y : cursorOf (startOf doc) 1 false ≡ c = cc in y)
+    (λ many starts. let numbers : _≡_ {A = ℕ} 0 1 = cc in absurd (omega arith))
+    (λ few starts. let same : cursorOf (startOf doc) 1 false ≡ c = cc in same)
 
 -- they cut no character
 pub reached-cut : (doc : List ℕ) → Utf8 doc → (c : Cursor) → Reached doc c → Utf8 (drop (c .place) doc)
-reached-cut doc u c (start e) = subst (λ (x : Cursor). Utf8 (drop (x .place) doc)) (start-is doc c e) (start-cut doc u)
-reached-cut doc u d (next {c} {r = r} k e) =
-    let x = step-gave doc c r d e in
+reached-cut doc utf8 c (start starts) =
+    subst (λ (x : Cursor). Utf8 (drop (x .place) doc)) (start-is doc c starts) (start-cut doc utf8)
+reached-cut doc utf8 d (next {c} {r = r} reached gives) =
+    let gave = step-gave doc c r d gives in
     let n = tokenLen (drop (c .place) doc) in
-    let p : drop n (drop (c .place) doc) ≡ drop (d .place) doc =
-    drop-drop n (c .place) doc ∙ ap (λ (i : ℕ). drop i doc) (sym (x .on)) in
-    subst Utf8 p (token-cut (drop (c .place) doc) (reached-cut doc u c k) .1)
+    let onward : drop n (drop (c .place) doc) ≡ drop (d .place) doc =
+    drop-drop n (c .place) doc ∙ ap (λ (i : ℕ). drop i doc) (sym (gave .on)) in
+    subst Utf8 onward (token-cut (drop (c .place) doc) (reached-cut doc utf8 c reached) .1)
 
 -- and what is left from a cursor on is left of whole lexing, until Eof was given
 abbrev AllListed : List ℕ → ℕ → ℕ → Type 0
@@ -136,60 +139,62 @@ data Going (doc : List ℕ) (c : Cursor) : Type 0 where
 
 all-listed : (doc : List ℕ) → AllListed doc (startOf doc) 1
 unfolding tokensOf
-all-listed doc r m = m
+all-listed doc r listed = listed
 
 cursor-by : (c : Cursor) (n : ℕ) (b : Bool) → c .place ≡ n → c .ended ≡ b → c ≡ cursorOf n (c .line) b
-cursor-by c n b p q = ap (λ (i : ℕ). cursorOf i (c .line) (c .ended)) p ∙ ap (cursorOf n (c .line)) q
+cursor-by c n b same-place same-end =
+    ap (λ (i : ℕ). cursorOf i (c .line) (c .ended)) same-place ∙ ap (cursorOf n (c .line)) same-end
 
-module _ (doc : List ℕ) (c : Cursor) (r : Token) (d : Cursor) (e : stepOf doc c ≡ Next r d) where
+module _ (doc : List ℕ) (c : Cursor) (r : Token) (d : Cursor) (gives : stepOf doc c ≡ Next r d) where
   no-step-over : c .ended ≡ true → c .place ≡ length doc → {P : Type 0} → P
-  no-step-over f p =
-      let s = step-gave doc c r d e in
-      let here = ap (stepOf doc) (sym (cursor-by c (length doc) true p f)) in
-      let h : End ≡ Next r d = sym (step-end doc (s .few) (c .line) (omega (arith, s .near))) ∙ (here ∙ e) in
-      end-not-given h
+  no-step-over ended at-end =
+      let gave = step-gave doc c r d gives in
+      let here = ap (stepOf doc) (sym (cursor-by c (length doc) true at-end ended)) in
+      let given : End ≡ Next r d = sym (step-end doc (gave .few) (c .line) (omega (arith, gave .near))) ∙ (here ∙ gives) in
+      end-not-given given
 
   went-on : c .ended ≡ false → c .place < length doc → AllListed doc (c .place) (c .line) → Going doc d
-  went-on f l m =
-      let s = step-gave doc c r d e in
-      let h : Next (tokenHere doc c) (cursorNext doc c) ≡ Next r d = sym (step-there doc (s .few) c (s .near) l) ∙ e in
-      let x : cursorNext doc c ≡ d = cc in
-      subst (Going doc) x (on f (token-fits-at doc (c .place) (omega arith))
-      (λ t i. m t (subst (List·Memᴰ t) (sym (tokens-step doc (c .place) (c .line) l)) (List·Memᴰ·tail i))))
+  went-on running before-end listed =
+      let gave = step-gave doc c r d gives in
+      let given : Next (tokenHere doc c) (cursorNext doc c) ≡ Next r d =
+      sym (step-there doc (gave .few) c (gave .near) before-end) ∙ gives in
+      let same : cursorNext doc c ≡ d = cc in
+      subst (Going doc) same (on running (token-fits-at doc (c .place) (omega arith))
+      (λ t there. listed t (subst (List·Memᴰ t) (sym (tokens-step doc (c .place) (c .line) before-end)) (List·Memᴰ·tail there))))
 
   was-over : c .ended ≡ false → c .place ≡ length doc → Going doc d
-  was-over f p =
-      let s = step-gave doc c r d e in
-      let here = ap (stepOf doc) (sym (cursor-by c (length doc) false p f)) in
-      let h : Next (eofAt (length doc) (c .line)) (cursorOf (length doc) (c .line) true) ≡ Next r d =
-      sym (step-eof doc (s .few) (c .line) (omega (arith, s .near))) ∙ (here ∙ e) in
-      let x : cursorOf (length doc) (c .line) true ≡ d = cc in
-      subst (Going doc) x (over refl refl)
+  was-over running at-end =
+      let gave = step-gave doc c r d gives in
+      let here = ap (stepOf doc) (sym (cursor-by c (length doc) false at-end running)) in
+      let given : Next (eofAt (length doc) (c .line)) (cursorOf (length doc) (c .line) true) ≡ Next r d =
+      sym (step-eof doc (gave .few) (c .line) (omega (arith, gave .near))) ∙ (here ∙ gives) in
+      let same : cursorOf (length doc) (c .line) true ≡ d = cc in
+      subst (Going doc) same (over refl refl)
 
 going : (doc : List ℕ) (c : Cursor) → Reached doc c → Going doc c
-going doc c (start e) = subst (Going doc) (start-is doc c e) (on refl (start-fits doc) (all-listed doc))
-going doc d (next {c} {r = r} k e) = elim (going doc c k) [
-  | on f l m ↦ elim (decLt (c .place) (length doc)) [
-    | yes h ↦ went-on doc c r d e f h m
-    | no h ↦ was-over doc c r d e f (omega arith)
+going doc c (start starts) = subst (Going doc) (start-is doc c starts) (on refl (start-fits doc) (all-listed doc))
+going doc d (next {c} {r = r} reached gives) = elim (going doc c reached) [
+  | on running fits listed ↦ elim (decLt (c .place) (length doc)) [
+    | yes before-end ↦ went-on doc c r d gives running before-end listed
+    | no past ↦ was-over doc c r d gives running (omega arith)
   ]
-  | over f p ↦ no-step-over doc c r d e f p
+  | over ended at-end ↦ no-step-over doc c r d gives ended at-end
 ]
 
 -- the token at a place is the first of those from there on
 first-listed : (doc : List ℕ) (at line : ℕ) (r : Token) → at ≤ length doc → r ≡ tokenAt at line (drop at doc)
     → List·Memᴰ r (tokensFrom at line (drop at doc))
-first-listed doc at line r l e = elim (decLt at (length doc)) [
-  | yes h ↦ subst (List·Memᴰ r) (sym (tokens-step doc at line h)) (List·Memᴰ·head e)
-  | no h ↦
-      let z : drop at doc ≡ [] = drop-of-length-le doc {i = at} (omega arith) in
-      let eof : r ≡ eofAt at line = e ∙ (ap (tokenAt at line) z ∙ sym (eof-is at line)) in
+first-listed doc at line r fits is = elim (decLt at (length doc)) [
+  | yes before-end ↦ subst (List·Memᴰ r) (sym (tokens-step doc at line before-end)) (List·Memᴰ·head is)
+  | no past ↦
+      let nothing : drop at doc ≡ [] = drop-of-length-le doc {i = at} (omega arith) in
+      let eof : r ≡ eofAt at line = is ∙ (ap (tokenAt at line) nothing ∙ sym (eof-is at line)) in
       subst (List·Memᴰ r) (sym (tokens-end doc at line (omega arith))) (List·Memᴰ·head eof)
 ]
 
 pub reached-listed : (doc : List ℕ) (c : Cursor) → Reached doc c → (r : Token) (d : Cursor) → stepOf doc c ≡ Next r d
     → List·Memᴰ r (tokensOf doc)
-reached-listed doc c k r d e = elim (going doc c k) [
-  | on f l m ↦ m r (first-listed doc (c .place) (c .line) r l (step-gave doc c r d e .is))
-  | over f p ↦ no-step-over doc c r d e f p
+reached-listed doc c reached r d gives = elim (going doc c reached) [
+  | on running fits listed ↦ listed r (first-listed doc (c .place) (c .line) r fits (step-gave doc c r d gives .is))
+  | over ended at-end ↦ no-step-over doc c r d gives ended at-end
 ]

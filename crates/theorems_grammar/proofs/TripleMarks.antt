@@ -45,17 +45,19 @@ threes-at q s = rw (le-leb 3 (suc (suc (suc (length s)))) (omega arith), eq-eqb 
 
 threes-inv : (q : ℕ) (s : List ℕ) → threes q s ≡ true → (r : List ℕ) × (s ≡ q ∷ (q ∷ (q ∷ r)))
 unfolding threes
-threes-inv q s e =
-    let a = both-right (leb 3 (length s)) _ e in
-    let b = both-right (eqb (getD s 0 0) q) _ a in
-    go s (leb-true 3 (length s) (both-left (leb 3 (length s)) _ e)) (eqb-true _ q (both-left (eqb (getD s 0 0) q) _ a))
-    (eqb-true _ q (both-left (eqb (getD s 1 0) q) _ b)) (eqb-true _ q (both-right (eqb (getD s 1 0) q) _ b))
+threes-inv q s marks =
+    let first-on = both-right (leb 3 (length s)) _ marks in
+    let second-on = both-right (eqb (getD s 0 0) q) _ first-on in
+    by-length s (leb-true 3 (length s) (both-left (leb 3 (length s)) _ marks))
+    (eqb-true _ q (both-left (eqb (getD s 0 0) q) _ first-on))
+    (eqb-true _ q (both-left (eqb (getD s 1 0) q) _ second-on)) (eqb-true _ q (both-right (eqb (getD s 1 0) q) _ second-on))
   where
-    go : (s : List ℕ) → 3 ≤ length s → getD s 0 0 ≡ q → getD s 1 0 ≡ q → getD s 2 0 ≡ q → (r : List ℕ) × (s ≡ q ∷ (q ∷ (q ∷ r)))
-    go [] l x y z = absurd (omega arith)
-    go (a ∷ []) l x y z = absurd (omega arith)
-    go (a ∷ (b ∷ [])) l x y z = absurd (omega arith)
-    go (a ∷ (b ∷ (c ∷ r))) l x y z = (r, rw (x, y, z))
+    by-length : (s : List ℕ) → 3 ≤ length s → getD s 0 0 ≡ q → getD s 1 0 ≡ q → getD s 2 0 ≡ q
+        → (r : List ℕ) × (s ≡ q ∷ (q ∷ (q ∷ r)))
+    by-length [] long first second third = absurd (omega arith)
+    by-length (a ∷ []) long first second third = absurd (omega arith)
+    by-length (a ∷ (b ∷ [])) long first second third = absurd (omega arith)
+    by-length (a ∷ (b ∷ (c ∷ r))) long first second third = (r, rw (first, second, third))
 
 -- ---- the newline in front: all of it, or none
 
@@ -69,24 +71,24 @@ pub record Split (s : List ℕ) : Type 0 where
 newline-split : (s : List ℕ) → Split s
 unfolding newlineLen
 newline-split [] = record { n = []; rest = []; opt = absent; text = refl; long = refl }
-newline-split (b ∷ s) = go (eqb b 10) (eqb b 13) refl refl s
+newline-split (b ∷ s) = by-tests (eqb b 10) (eqb b 13) refl refl s
   where
-    go : (x y : Bool) → eqb b 10 ≡ x → eqb b 13 ≡ y → (s : List ℕ) → Split (b ∷ s)
-    go true y p q s = record { n = 10 ∷ []; rest = s; opt = present x0A; text = rw (eqb-true b 10 p); long = rw p }
-    go false false p q s = record { n = []; rest = b ∷ s; opt = absent; text = refl; long = rw (p, q) }
-    go false true p q [] = record { n = []; rest = b ∷ []; opt = absent; text = refl; long = rw (p, q) }
-    go false true p q (c ∷ s) = two (eqb c 10) refl
+    by-tests : (is-lf is-cr : Bool) → eqb b 10 ≡ is-lf → eqb b 13 ≡ is-cr → (s : List ℕ) → Split (b ∷ s)
+    by-tests true is-cr lf cr s = record { n = 10 ∷ []; rest = s; opt = present x0A; text = rw (eqb-true b 10 lf); long = rw lf }
+    by-tests false false lf cr s = record { n = []; rest = b ∷ s; opt = absent; text = refl; long = rw (lf, cr) }
+    by-tests false true lf cr [] = record { n = []; rest = b ∷ []; opt = absent; text = refl; long = rw (lf, cr) }
+    by-tests false true lf cr (c ∷ s) = by-next (eqb c 10) refl
       where
-        two : (z : Bool) → eqb c 10 ≡ z → Split (b ∷ (c ∷ s))
-        two true r =
+        by-next : (is-next : Bool) → eqb c 10 ≡ is-next → Split (b ∷ (c ∷ s))
+        by-next true next =
             record {
               n = 13 ∷ (10 ∷ []);
               rest = s;
               opt = present x0D-0A;
-              text = rw (eqb-true b 13 q, eqb-true c 10 r);
-              long = rw (p, q, r);
+              text = rw (eqb-true b 13 cr, eqb-true c 10 next);
+              long = rw (lf, cr, next);
             }
-        two false r = record { n = []; rest = b ∷ (c ∷ s); opt = absent; text = refl; long = rw (p, q, r) }
+        by-next false next = record { n = []; rest = b ∷ (c ∷ s); opt = absent; text = refl; long = rw (lf, cr, next) }
 
 pub newline-ascii : {n : List ℕ} → Newline n → AllAscii n
 newline-ascii x0A = (omega arith, tt)
@@ -104,19 +106,19 @@ newline-long x0D-0A s = refl
 -- the prose rule's test and the decoder's count
 starts-len : (s : List ℕ) → (startsNewline s ≡ false) ↔ (newlineLen s ≡ 0)
 unfolding startsNewline newlineLen
-starts-len [] = ((λ e. refl), λ e. refl)
-starts-len (b ∷ []) = go (eqb b 10) (eqb b 13)
+starts-len [] = ((λ none. refl), λ none. refl)
+starts-len (b ∷ []) = by-tests (eqb b 10) (eqb b 13)
   where
-    go : (x y : Bool) → (x ≡ false) ↔ _≡_ {A = ℕ} (cond x 1 (cond (y && false) 2 0)) 0
-    go true y = ((λ e. no-true (sym e)), λ e. absurd (omega arith))
-    go false true = ((λ e. refl), λ e. refl)
-    go false false = ((λ e. refl), λ e. refl)
-starts-len (b ∷ (c ∷ s)) = go (eqb b 10) (eqb b 13 && eqb c 10)
+    by-tests : (is-lf is-newline : Bool) → (is-lf ≡ false) ↔ _≡_ {A = ℕ} (cond is-lf 1 (cond (is-newline && false) 2 0)) 0
+    by-tests true is-newline = ((λ none. no-true (sym none)), λ none. absurd (omega arith))
+    by-tests false true = ((λ none. refl), λ none. refl)
+    by-tests false false = ((λ none. refl), λ none. refl)
+starts-len (b ∷ (c ∷ s)) = by-tests (eqb b 10) (eqb b 13 && eqb c 10)
   where
-    go : (x y : Bool) → ((x || y) ≡ false) ↔ _≡_ {A = ℕ} (cond x 1 (cond y 2 0)) 0
-    go true y = ((λ e. no-true (sym e)), λ e. absurd (omega arith))
-    go false true = ((λ e. no-true (sym e)), λ e. absurd (omega arith))
-    go false false = ((λ e. refl), λ e. refl)
+    by-tests : (is-lf is-newline : Bool) → ((is-lf || is-newline) ≡ false) ↔ _≡_ {A = ℕ} (cond is-lf 1 (cond is-newline 2 0)) 0
+    by-tests true is-newline = ((λ none. no-true (sym none)), λ none. absurd (omega arith))
+    by-tests false true = ((λ none. no-true (sym none)), λ none. absurd (omega arith))
+    by-tests false false = ((λ none. refl), λ none. refl)
 
 -- the count on bytes that a mark follows is the count on code points
 module _ {q : ℕ} (m : Mark q) where
@@ -128,14 +130,14 @@ module _ {q : ℕ} (m : Mark q) where
   unfolding newlineLen
   count-same [] r = rw (ne-eqb q 10 (λ e. omega arith), ne-eqb q 13 (λ e. omega arith))
   count-same (c ∷ cs) r = elim (side c) [
-    | ascii l ↦ rw (encode-1 c l, head-is cs r)
-    | beyond l ↦
-        let p = parts c in
-        let h = p .more l in
+    | ascii size ↦ rw (encode-1 c size, head-is cs r)
+    | beyond size ↦
+        let char = parts c in
+        let high = char .more size in
         rw (
-          p .whole,
-          ne-eqb (p .first) 10 (λ e. omega arith),
-          ne-eqb (p .first) 13 (λ e. omega arith),
+          char .whole,
+          ne-eqb (char .first) 10 (λ e. omega arith),
+          ne-eqb (char .first) 13 (λ e. omega arith),
           ne-eqb c 10 (λ e. omega arith),
           ne-eqb c 13 (λ e. omega arith),
         )
@@ -151,10 +153,10 @@ fenced-long q n m = rw (length-append n (m ++ delim q), length-append m (delim q
 
 pub encodes-fenced : {q : ℕ} → Mark q → {n : List ℕ} → OptNewline n → (s : List ℕ)
     → encodes (fenced q n s) ≡ fenced q n (encodes s)
-encodes-fenced {q} m {n} o s =
-    let h : q < 0x80 = m .low in
-    encodes-ascii (delim q ++ n) (s ++ delim q) (h, (h, (h, option-ascii o)))
-    ∙ ap (λ x. delim q ++ (n ++ x)) (encodes-append s (delim q) ∙ rw (encode-1 q h))
+encodes-fenced {q} m {n} opening s =
+    let low : q < 0x80 = m .low in
+    encodes-ascii (delim q ++ n) (s ++ delim q) (low, (low, (low, option-ascii opening)))
+    ∙ ap (λ x. delim q ++ (n ++ x)) (encodes-append s (delim q) ∙ rw (encode-1 q low))
 
 -- its ends, where the body starts at a
 abbrev fenced-ends-at : ℕ → List ℕ → Ends
@@ -163,16 +165,16 @@ fenced-ends-at a t = record { opened = true; closed = true; start = a; end = len
 module _ (trims : Bool) (q : ℕ) where
   ml-at : (n m : List ℕ) → newlineLen (n ++ (m ++ delim q)) ≡ length n
       → fenced-ends-at (3 + length n) (fenced q n m) ≡ mlEnds trims q (fenced q n m)
-  ml-at n m h =
+  ml-at n m newline =
       let t = fenced q n m in
-      let l = fenced-long q n m in
+      let lengths = fenced-long q n m in
       let split : t ≡ (delim q ++ (n ++ m)) ++ delim q = ap (λ x. delim q ++ x) (sym (append-assoc n m (delim q))) in
       let end = length t - 3 in
       let last : drop end t ≡ delim q =
       ap (drop end) split ∙ drop-at (delim q ++ (n ++ m)) (delim q) end (omega (arith, length-append n m)) in
       let shut : threes q (drop end t) ≡ true = ap (threes q) last ∙ threes-at q [] in
       ml-is trims q t true true (3 + length n) end (sym (threes-at q (n ++ (m ++ delim q))))
-      (ap (λ (i : ℕ). 3 + i) (sym h) ∙ start-open t)
+      (ap (λ (i : ℕ). 3 + i) (sym newline) ∙ start-open t)
       (sym shut ∙ closed-is q (3 + length n) t (omega arith)) (end-closed q (3 + length n) t trims)
 
   -- the parts of a text whose marks are there
@@ -185,45 +187,52 @@ module _ (trims : Bool) (q : ℕ) where
 
   ml-inv : (t : List ℕ) → mlEnds trims q t .opened ≡ true → mlEnds trims q t .closed ≡ true → Fenced t
   unfolding mlEnds mlStart mlClosed
-  ml-inv t o c =
-      let a = threes-inv q t o in
-      go (a .0) (a .1) (rw o at c)
+  ml-inv t opened closed =
+      let front = threes-inv q t opened in
+      by-front (front .0) (front .1) (rw opened at closed)
     where
-      fin : (s : List ℕ) → t ≡ q ∷ (q ∷ (q ∷ s)) → (w : Split s) → (3 + length (w .n)) + 3 ≤ length t
+      split-there : (s : List ℕ) → t ≡ q ∷ (q ∷ (q ∷ s)) → (line : Split s) → (3 + length (line .n)) + 3 ≤ length t
           → (r : List ℕ) × (drop (length t - 3) t ≡ q ∷ (q ∷ (q ∷ r))) → Fenced t
-      fin s e w l (r, d) =
-          let front : List ℕ = delim q ++ w .n in
-          let k = length (w .rest) - 3 in
-          let t₂ : t ≡ front ++ w .rest = e ∙ ap (λ x. delim q ++ x) (w .text) in
-          let z : length t ≡ length front + length (w .rest) = ap length t₂ ∙ length-append front (w .rest) in
-          let d₁ : drop (length t - 3) t ≡ drop k (w .rest) =
-          ap (λ (i : ℕ). drop i t) (let y : length t - 3 ≡ length front + k = omega arith in y)
-          ∙ (sym (drop-drop k (length front) t)
-          ∙ ap (drop k) (ap (drop (length front)) t₂ ∙ drop-at front (w .rest) (length front) refl)) in
-          let d₂ : drop k (w .rest) ≡ q ∷ (q ∷ (q ∷ r)) = sym d₁ ∙ d in
-          let r₁ : r ≡ [] = nil r (omega (arith, length-drop k (w .rest), ap length d₂)) in
-          let m = take k (w .rest) in
-          let d₃ : drop k (w .rest) ≡ delim q = d₂ ∙ ap (λ x. delim q ++ x) r₁ in
-          let p : w .rest ≡ m ++ delim q = sym (take-append-drop k (w .rest)) ∙ ap (λ x. m ++ x) d₃ in
-          let u : s ≡ w .n ++ (m ++ delim q) = w .text ∙ ap (λ x. w .n ++ x) p in
-          record { n = w .n; m = m; opt = w .opt; text = e ∙ ap (λ x. delim q ++ x) u; long = ap newlineLen (sym u) ∙ w .long }
+      split-there s text line long (r, last) =
+          let front : List ℕ = delim q ++ line .n in
+          let start = length (line .rest) - 3 in
+          let whole : t ≡ front ++ line .rest = text ∙ ap (λ x. delim q ++ x) (line .text) in
+          let lengths : length t ≡ length front + length (line .rest) = ap length whole ∙ length-append front (line .rest) in
+          let last-of : drop (length t - 3) t ≡ drop start (line .rest) =
+          ap (λ (i : ℕ). drop i t) (let place : length t - 3 ≡ length front + start = omega arith in place)
+          ∙ (sym (drop-drop start (length front) t)
+          ∙ ap (drop start) (ap (drop (length front)) whole ∙ drop-at front (line .rest) (length front) refl)) in
+          let last-is : drop start (line .rest) ≡ q ∷ (q ∷ (q ∷ r)) = sym last-of ∙ last in
+          let nothing : r ≡ [] = nil r (omega (arith, length-drop start (line .rest), ap length last-is)) in
+          let m = take start (line .rest) in
+          let closing : drop start (line .rest) ≡ delim q = last-is ∙ ap (λ x. delim q ++ x) nothing in
+          let rest-is : line .rest ≡ m ++ delim q = sym (take-append-drop start (line .rest)) ∙ ap (λ x. m ++ x) closing in
+          let inner : s ≡ line .n ++ (m ++ delim q) = line .text ∙ ap (λ x. line .n ++ x) rest-is in
+          record {
+            n = line .n;
+            m = m;
+            opt = line .opt;
+            text = text
+                ∙ ap (λ x. delim q ++ x) inner;
+            long = ap newlineLen (sym inner) ∙ line .long;
+          }
 
       -- both triples have room
       roomy : Bool
       roomy = leb ((3 + newlineLen (drop 3 t)) + 3) (length t)
 
-      go : (s : List ℕ) → t ≡ q ∷ (q ∷ (q ∷ s)) → (roomy && threes q (drop (length t - 3) t)) ≡ true → Fenced t
-      go s e c =
-          let w = newline-split s in
-          let x : newlineLen (drop 3 t) ≡ length (w .n) = ap (λ y. newlineLen (drop 3 y)) e ∙ w .long in
-          let l = leb-true ((3 + newlineLen (drop 3 t)) + 3) (length t) (both-left roomy _ c) in
-          fin s e w (omega arith) (threes-inv q (drop (length t - 3) t) (both-right roomy _ c))
+      by-front : (s : List ℕ) → t ≡ q ∷ (q ∷ (q ∷ s)) → (roomy && threes q (drop (length t - 3) t)) ≡ true → Fenced t
+      by-front s text closed =
+          let line = newline-split s in
+          let newline : newlineLen (drop 3 t) ≡ length (line .n) = ap (λ y. newlineLen (drop 3 y)) text ∙ line .long in
+          let long = leb-true ((3 + newlineLen (drop 3 t)) + 3) (length t) (both-left roomy _ closed) in
+          split-there s text line (omega arith) (threes-inv q (drop (length t - 3) t) (both-right roomy _ closed))
 
   fenced-body : (n m : List ℕ) → bodyOf (fenced-ends-at (3 + length n) (fenced q n m)) (fenced q n m) ≡ m
   fenced-body n m =
-      let l = fenced-long q n m in
-      let k = length (fenced q n m) - 3 - (3 + length n) in
-      ap (take k) (drop-at (delim q ++ n) (m ++ delim q) (3 + length n) (omega arith)) ∙ take-at m (delim q) k (omega arith)
+      let lengths = fenced-long q n m in
+      let long = length (fenced q n m) - 3 - (3 + length n) in
+      ap (take long) (drop-at (delim q ++ n) (m ++ delim q) (3 + length n) (omega arith)) ∙ take-at m (delim q) long (omega arith)
 
 -- ---- from the decoder of a body to the decoder of a text
 
@@ -238,43 +247,44 @@ module _ {trims : Bool} {e : Encoding} {q : ℕ} (fences : Fences trims e q) whe
   Whole n b = newlineLen (n ++ b) ≡ length n
 
   whole-bytes : {n : List ℕ} → OptNewline n → (b : List ℕ) → newlineLen (n ++ (encodes b ++ delim q)) ≡ newlineLen (n ++ b)
-  whole-bytes {n} o b =
+  whole-bytes {n} opening b =
       let text : n ++ (encodes b ++ delim q) ≡ encodes (n ++ b) ++ delim q =
-      sym (append-assoc n (encodes b) (delim q)) ∙ ap (λ x. x ++ delim q) (sym (encodes-ascii n b (option-ascii o))) in
+      sym (append-assoc n (encodes b) (delim q)) ∙ ap (λ x. x ++ delim q) (sym (encodes-ascii n b (option-ascii opening))) in
       ap newlineLen text ∙ count-same (fences .mark) (n ++ b) (q ∷ (q ∷ []))
 
   fenced-ends : {n : List ℕ} → OptNewline n → (b : List ℕ) → Whole n b
       → fenced-ends-at (3 + length n) (fenced q n (encodes b)) ≡ endsOf e (fenced q n (encodes b))
-  fenced-ends {n} o b h = ml-at trims q n (encodes b) (whole-bytes o b ∙ h) ∙ sym (fences .ends (fenced q n (encodes b)))
+  fenced-ends {n} opening b whole =
+      ml-at trims q n (encodes b) (whole-bytes opening b ∙ whole) ∙ sym (fences .ends (fenced q n (encodes b)))
 
   errors-of : {n : List ℕ} → OptNewline n → (b : List ℕ) → Whole n b
       → errorsOf e (encodes (fenced q n b)) ≡ collect (pieceOf e) notesAt 0 false (3 + length n) (encodes b)
-  errors-of {n} o b h =
+  errors-of {n} opening b whole =
       let t = fenced q n (encodes b) in
-      ap (errorsOf e) (encodes-fenced (fences .mark) o b)
-      ∙ (errors-is e t (fenced-ends-at (3 + length n) t) (fenced-ends o b h) (markError e) refl
+      ap (errorsOf e) (encodes-fenced (fences .mark) opening b)
+      ∙ (errors-is e t (fenced-ends-at (3 + length n) t) (fenced-ends opening b whole) (markError e) refl
       ∙ ap (collect (pieceOf e) notesAt 0 false (3 + length n)) (fenced-body trims q n (encodes b)))
 
   bytes-of : {n : List ℕ} → OptNewline n → (b : List ℕ) → Whole n b
       → bytesOf e (encodes (fenced q n b)) ≡ collect (pieceOf e) gives 0 false (3 + length n) (encodes b)
-  bytes-of {n} o b h =
+  bytes-of {n} opening b whole =
       let t = fenced q n (encodes b) in
-      ap (bytesOf e) (encodes-fenced (fences .mark) o b)
-      ∙ (bytes-is e t (fenced-ends-at (3 + length n) t) (fenced-ends o b h)
+      ap (bytesOf e) (encodes-fenced (fences .mark) opening b)
+      ∙ (bytes-is e t (fenced-ends-at (3 + length n) t) (fenced-ends opening b whole)
       ∙ ap (collect (pieceOf e) gives 0 false (3 + length n)) (fenced-body trims q n (encodes b)))
 
   trimmed-whole : {n : List ℕ} (o : OptNewline n) (b : List ℕ) → Trimmed o b → Whole n b
-  trimmed-whole absent b h = starts-len b .0 h
-  trimmed-whole (present l) b h = newline-long l b
+  trimmed-whole absent b trimmed = starts-len b .0 trimmed
+  trimmed-whole (present line) b trimmed = newline-long line b
 
   whole-trimmed : {n : List ℕ} (o : OptNewline n) (b : List ℕ) → Whole n b → Trimmed o b
-  whole-trimmed absent b h = starts-len b .1 h
-  whole-trimmed (present l) b h = tt
+  whole-trimmed absent b whole = starts-len b .1 whole
+  whole-trimmed (present line) b whole = tt
 
   -- the bytes are the body's, where the newline after the opening is dropped
-  pub ml-bytes : {n : List ℕ} (o : OptNewline n) (b : List ℕ) → Trimmed o b
+  pub ml-bytes : {n : List ℕ} (opening : OptNewline n) (b : List ℕ) → Trimmed opening b
       → bytesOf e (encodes (fenced q n b)) ≡ collect (pieceOf e) gives 0 false (3 + length n) (encodes b)
-  ml-bytes o b h = bytes-of o b (trimmed-whole o b h)
+  ml-bytes opening b trimmed = bytes-of opening b (trimmed-whole opening b trimmed)
 
   module _ (reads : ReadsNewlines (pieceOf e)) where
     option-reads : {n : List ℕ} → OptNewline n → (at : ℕ) (s : List ℕ) → Reads (pieceOf e) false at (n ++ s) n false s
@@ -284,24 +294,24 @@ module _ {trims : Bool} {e : Encoding} {q : ℕ} (fences : Fences trims e q) whe
     -- a body that keeps a newline in front is read as if it had none
     kept-errors : (b : List ℕ) → errorsOf e (encodes (fenced q [] b)) ≡ collect (pieceOf e) notesAt 0 false 3 (encodes b)
     kept-errors b =
-        let w = newline-split b in
-        let n = w .n in
-        let r = encodes (w .rest) in
-        let text : fenced q [] b ≡ fenced q n (w .rest) =
-        ap (λ x. delim q ++ x) (ap (λ x. x ++ delim q) (w .text) ∙ append-assoc n (w .rest) (delim q)) in
-        let bytes : encodes b ≡ n ++ r = ap encodes (w .text) ∙ encodes-ascii n (w .rest) (option-ascii (w .opt)) in
-        let a = option-reads (w .opt) 3 r in
-        let to : a .to ≡ 3 + length n = omega (arith, a .place, length-append n r) in
+        let line = newline-split b in
+        let n = line .n in
+        let r = encodes (line .rest) in
+        let text : fenced q [] b ≡ fenced q n (line .rest) =
+        ap (λ x. delim q ++ x) (ap (λ x. x ++ delim q) (line .text) ∙ append-assoc n (line .rest) (delim q)) in
+        let bytes : encodes b ≡ n ++ r = ap encodes (line .text) ∙ encodes-ascii n (line .rest) (option-ascii (line .opt)) in
+        let reading = option-reads (line .opt) 3 r in
+        let to : reading .to ≡ 3 + length n = omega (arith, reading .place, length-append n r) in
         ap (λ x. errorsOf e (encodes x)) text
-        ∙ (errors-of (w .opt) (w .rest) (ap newlineLen (sym (w .text)) ∙ w .long)
+        ∙ (errors-of (line .opt) (line .rest) (ap newlineLen (sym (line .text)) ∙ line .long)
         ∙ (ap (λ (i : ℕ). collect (pieceOf e) notesAt 0 false i r) (sym to)
-        ∙ (sym (a .quiet) ∙ ap (collect (pieceOf e) notesAt 0 false 3) (sym bytes))))
+        ∙ (sym (reading .quiet) ∙ ap (collect (pieceOf e) notesAt 0 false 3) (sym bytes))))
 
     -- a text whose body is read without error has none
     pub ml-no-error : {n : List ℕ} → OptNewline n → (b : List ℕ) → ((at : ℕ) → ErrorFree (pieceOf e) false at (encodes b))
         → errorsOf e (encodes (fenced q n b)) ≡ []
-    ml-no-error {n} (present l) b h = errors-of (present l) b (newline-long l b) ∙ h (3 + length n)
-    ml-no-error absent b h = kept-errors b ∙ h 3
+    ml-no-error {n} (present line) b clean = errors-of (present line) b (newline-long line b) ∙ clean (3 + length n)
+    ml-no-error absent b clean = kept-errors b ∙ clean 3
 
   -- a text without error has a body without error
   pub record MlText (cs : List ℕ) : Type 0 where
@@ -315,23 +325,26 @@ module _ {trims : Bool} {e : Encoding} {q : ℕ} (fences : Fences trims e q) whe
     pub clean : ErrorFree (pieceOf e) false at (encodes body)
 
   pub ml-text : (cs : List ℕ) → All Scalar cs → errorsOf e (encodes cs) ≡ [] → MlText cs
-  ml-text cs sc h =
-      let b = both-marks e (encodes cs) h in
-      let p = ml-inv trims q (encodes cs) (rw (fences .ends (encodes cs)) at (b .0)) (rw (fences .ends (encodes cs)) at (b .1)) in
+  ml-text cs scalars clean =
+      let marks = both-marks e (encodes cs) clean in
+      let parts =
+      ml-inv trims q (encodes cs) (rw (fences .ends (encodes cs)) at (marks .0)) (rw (fences .ends (encodes cs)) at (marks .1)) in
       let low : q < 0x80 = fences .mark .low in
-      let before : AllAscii (delim q ++ p .n) = (low, (low, (low, option-ascii (p .opt)))) in
-      let w = between (delim q ++ p .n) (delim q) cs (p .m) before (low, (low, (low, tt))) sc (p .text) in
-      let l : Whole (p .n) (w .inner) =
-      sym (whole-bytes (p .opt) (w .inner)) ∙ (ap (λ x. newlineLen (p .n ++ (x ++ delim q))) (w .bytes) ∙ p .long) in
+      let before : AllAscii (delim q ++ parts .n) = (low, (low, (low, option-ascii (parts .opt)))) in
+      let inside = between (delim q ++ parts .n) (delim q) cs (parts .m) before (low, (low, (low, tt))) scalars (parts .text) in
+      let whole : Whole (parts .n) (inside .inner) =
+      sym (whole-bytes (parts .opt) (inside .inner))
+      ∙ (ap (λ x. newlineLen (parts .n ++ (x ++ delim q))) (inside .bytes) ∙ parts .long) in
       record {
-        n = p .n;
-        body = w .inner;
-        opt = p .opt;
-        trimmed = whole-trimmed (p .opt) (w .inner) l;
-        text = w .text;
-        each = w .each;
-        at = 3 + length (p .n);
-        clean = sym (errors-of (p .opt) (w .inner) l) ∙ (ap (λ x. errorsOf e (encodes x)) (sym (w .text)) ∙ h);
+        n = parts .n;
+        body = inside .inner;
+        opt = parts .opt;
+        trimmed = whole-trimmed (parts .opt) (inside .inner) whole;
+        text = inside .text;
+        each = inside .each;
+        at = 3 + length (parts .n);
+        clean =
+            sym (errors-of (parts .opt) (inside .inner) whole) ∙ (ap (λ x. errorsOf e (encodes x)) (sym (inside .text)) ∙ clean);
       }
 
 -- ---- the lexer
@@ -345,23 +358,23 @@ module _ {q : ℕ} (m : Mark q) where
   option-in absent = tt
   option-in (present l) = newline-in m l
 
-  module _ {n : List ℕ} (o : OptNewline n) (b rest : List ℕ) where
+  module _ {n : List ℕ} (opening : OptNewline n) (b rest : List ℕ) where
     -- the body, the closing and the rest
-    abbrev behind : List ℕ
-    behind = encodes b ++ (delim q ++ rest)
+    abbrev onward : List ℕ
+    onward = encodes b ++ (delim q ++ rest)
 
-    tail-of : mlTail q false (drop 3 (encodes (fenced q n b) ++ rest)) ≡ length n + mlTail q false behind
+    tail-of : mlTail q false (drop 3 (encodes (fenced q n b) ++ rest)) ≡ length n + mlTail q false onward
     tail-of =
-        let text : (n ++ (encodes b ++ delim q)) ++ rest ≡ n ++ behind =
+        let text : (n ++ (encodes b ++ delim q)) ++ rest ≡ n ++ onward =
         append-assoc n (encodes b ++ delim q) rest ∙ ap (λ x. n ++ x) (append-assoc (encodes b) (delim q) rest) in
-        ap (λ x. mlTail q false (drop 3 (x ++ rest))) (encodes-fenced m o b)
-        ∙ (ap (mlTail q false) text ∙ pass-all (mlTail q false) (InMl q) (ml-pass m) n (option-in o) behind)
+        ap (λ x. mlTail q false (drop 3 (x ++ rest))) (encodes-fenced m opening b)
+        ∙ (ap (mlTail q false) text ∙ pass-all (mlTail q false) (InMl q) (ml-pass m) n (option-in opening) onward)
 
     long-of : length (encodes (fenced q n b)) ≡ 3 + (length n + (length (encodes b) + 3))
     long-of =
-        ap length (encodes-fenced m o b)
+        ap length (encodes-fenced m opening b)
         ∙ rw (length-append n (encodes b ++ delim q), length-append (encodes b) (delim q)) (omega arith)
 
     -- the token ends with the text exactly where the lexer goes through the body and the closing
-    pub ml-lexed : MlToken q (encodes (fenced q n b)) rest ↔ (mlTail q false behind ≡ length (encodes b) + 3)
-    ml-lexed = ((λ h. omega (arith, tail-of, long-of)), λ h. omega (arith, tail-of, long-of))
+    pub ml-lexed : MlToken q (encodes (fenced q n b)) rest ↔ (mlTail q false onward ≡ length (encodes b) + 3)
+    ml-lexed = ((λ token. omega (arith, tail-of, long-of)), λ token. omega (arith, tail-of, long-of))

@@ -47,9 +47,9 @@ module _ (ed : Edition) where
 
   chars-scalars : {cs v : List ℕ} (d : BasicChars ed cs v) → CharsName d → All Scalar cs → All Scalar v
   chars-scalars BasicChars.stop n h = tt
-  chars-scalars (BasicChars.more {t} {r} c d) n h =
-      let p = all-parts Scalar t r h in
-      (char-scalar c (n .0) (p .0), chars-scalars d (n .1) (p .1))
+  chars-scalars (BasicChars.more {t} {r} c d) names scalars =
+      let parts = all-parts Scalar t r scalars in
+      (char-scalar c (names .0) (parts .0), chars-scalars d (names .1) (parts .1))
 
   basic-scalars : {cs v : List ℕ} (d : BasicString ed cs v) → BasicNames d → All Scalar cs → All Scalar v
   basic-scalars (basic-string {t} d) n h = chars-scalars d n (all-parts Scalar t (quotation-mark ∷ []) (h .1) .0)
@@ -72,7 +72,7 @@ module _ (ed : Edition) where
   mlb-char-scalar (MlbChar.escaped-char e) n h = escaped-scalar e n
 
   content-scalars : {t w : List ℕ} (c : MlbContent ed t w) → ContentNames c → All Scalar t → All Scalar w
-  content-scalars (mlb-char c) n h = (mlb-char-scalar c n h, tt)
+  content-scalars (mlb-char c) names scalars = (mlb-char-scalar c names scalars, tt)
   content-scalars (newline l) n h = h
   content-scalars (escaped-nl e) n h = tt
 
@@ -80,13 +80,13 @@ module _ (ed : Edition) where
   run-scalars end h = tt
   run-scalars (mark0 r) h = (h .0, run-scalars r (h .1))
   run-scalars (mark1 r) h = (h .0, run-scalars r (h .1))
-  run-scalars (content {t = t} {r} {w} {v} (kept c n d) f) h =
-      let p = all-parts Scalar t r h in
-      all-append Scalar w v (content-scalars c n (p .0)) (run-scalars f (p .1))
+  run-scalars (content {t = t} {r} {w} {v} (kept c names drops) run) scalars =
+      let parts = all-parts Scalar t r scalars in
+      all-append Scalar w v (content-scalars c names (parts .0)) (run-scalars run (parts .1))
 
-  ml-basic-scalars : {cs v : List ℕ} (d : MlBasicString ed cs v) → MlBasicNames d → All Scalar cs → All Scalar v
-  ml-basic-scalars (ml-basic-string {n} {b} o d) m h =
-      run-scalars ((body-run ed) false d m (λ e. no-true e)) (inner n b ml-basic-string-delim h)
+  ml-basic-scalars : {cs v : List ℕ} (body : MlBasicString ed cs v) → MlBasicNames body → All Scalar cs → All Scalar v
+  ml-basic-scalars (ml-basic-string {n} {b} opening body) names scalars =
+      run-scalars ((body-run ed) false body names (λ e. no-true e)) (inner n b ml-basic-string-delim scalars)
 
   pub basic-value : {cs v : List ℕ} (d : BasicString ed cs v) → BasicNames d → All Scalar v
   basic-value d n = basic-scalars d n (basic-scalar-text d)
