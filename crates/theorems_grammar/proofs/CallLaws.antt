@@ -27,7 +27,7 @@ use Rattle.theorems_grammar.specs.Strings.{StringKind, literal, basic, m
 use Rattle.theorems_grammar.specs.Demand3.{TextDerived, TextMeans, answerOf, outputOf, Called}
 use Rattle.decoder_rules.proofs.AnswerLaws.{nil}
 
--- ---- what is answered where it is not refused otherwise
+-- ---- what is answered where only the sizes of the lent memory decide
 
 -- n is the answer's number, for b bytes and m errors, an output of o bytes and e error records
 data Outcome (b m o e n : ℕ) : Type 0 where
@@ -51,7 +51,7 @@ module _ (bytes : List ℕ) (errors : List (List ℕ)) (o e : ℕ) (a : Decoded)
     ]
   ]
 
-  -- n bytes and no error are answered exactly where there is no error, and n bytes fit
+  -- n bytes and no error are answered exactly where there are n bytes, they fit, and there is no error
   clean : (n : ℕ) → (a ≡ Written n 0) ↔ ((errors ≡ []) × (n ≡ length bytes) × (length bytes ≤ o))
   clean n = (λ answered. to answered outcome, from)
     where

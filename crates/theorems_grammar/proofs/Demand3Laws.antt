@@ -1,4 +1,4 @@
--- Demand 3 holds: by kind from the laws of the four kinds, and over tokens and steps by what each says of its place.
+-- Demand 3 holds: of a text by the laws of its kind, and of tokens and steps because each gives the token at its place.
 -- Assumes nothing.
 use Prim.Native.Nat.{ℕ, _+_, _-_, _≤_, _<_}
 use mathlib.Core.Path.{_≡_, sym, _∙_, ap, subst}

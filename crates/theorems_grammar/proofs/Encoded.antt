@@ -1,4 +1,4 @@
--- Bytes and code points: below 0x80 a code point is its byte, from 0x80 on all its bytes are from there on.
+-- Bytes and code points: a code point below 0x80 is its only byte, and each byte of another is 0x80 or more.
 -- Assumes nothing.
 use Prim.Native.Nat.{ℕ, _≤_, _<_}
 use mathlib.Core.Path.{_≡_, refl, sym, _∙_, ap, subst}
@@ -32,7 +32,7 @@ beyond-bytes c high =
     let bytes = parts c in
     rw (bytes .whole) (omega (arith, bytes .more high), all-weaken (λ b t. t .0) (bytes .tails) (bytes .each))
 
--- what holds of a code point and of all beyond ASCII holds of its bytes
+-- what holds of a code point, and of every number from 0x80 on, holds of each of its bytes
 pub char-bytes : {P : ℕ → Type 0} → ((b : ℕ) → 0x80 ≤ b → P b) → (c : ℕ) → P c → All P (encodeScalar c)
 char-bytes high c holds = elim (side c) [
   | ascii size ↦ rw (encode-1 c size) (holds, tt)
@@ -44,7 +44,7 @@ chars-bytes high [] h = tt
 chars-bytes {P} high (c ∷ cs) each =
     all-append P (encodeScalar c) (encodes cs) (char-bytes high c (each .0)) (chars-bytes high cs (each .1))
 
--- the first byte is an ASCII byte only where the code point is
+-- the first byte is the ASCII byte k exactly where the code point is k
 pub first-is : (c k : ℕ) → k < 0x80 → eqb (parts c .first) k ≡ eqb c k
 first-is c k low = elim (side c) [
   | ascii size ↦ ap (λ (b : ℕ). eqb b k) (parts c .same size)
@@ -63,7 +63,7 @@ encodes-ascii (c ∷ t) s h = rw (encode-1 c (h .0)) (ap (c ∷_) (encodes-ascii
 pub ascii-whole : (t : List ℕ) → AllAscii t → encodes t ≡ t
 ascii-whole t h = ap encodes (sym (append-nil t)) ∙ (encodes-ascii t [] h ∙ append-nil t)
 
--- ASCII bytes in front are code points in front
+-- where the encoding of cs begins with the ASCII bytes t, cs begins with t; s is the rest of the encoding
 pub record Led (t cs s : List ℕ) : Type 0 where
   pub rest : List ℕ
   pub text : cs ≡ t ++ rest
@@ -90,7 +90,7 @@ ascii-led (b ∷ t) (c ∷ cs) s low text = by-side (side c) (ascii-led t cs s (
         let same : char .first ≡ b = cc in
         absurd (omega (arith, char .more large, low .0))
 
--- what stands between ASCII in bytes stands between it in code points
+-- where the encoding of cs is m between the ASCII bytes a and z, cs is `inner` between a and z, and m encodes `inner`
 pub record Between (a z cs m : List ℕ) : Type 0 where
   pub inner : List ℕ
   pub text : cs ≡ a ++ (inner ++ z)
@@ -110,7 +110,8 @@ between a z cs m before-ascii after-ascii scalars text =
   where
     by-cut : (r : List ℕ) → All Scalar r → cs ≡ a ++ r → encodes r ≡ m ++ z → Utf8 m → Between a z cs m
     by-cut r rest-scalars rest-text rest-bytes (inner, inner-scalars, inner-bytes) =
-        let after-scalars : All Scalar z = all-weaken (λ c low. let small : c < 0xD800 = omega arith in inl small) z after-ascii in
+        let after-scalars : All Scalar z =
+        all-weaken (λ c low. let small : c < 0xD800 = omega arith in inl small) z after-ascii in
         let bytes : encodes (inner ++ z) ≡ m ++ z = encodes-append inner z ∙ rw (inner-bytes, ascii-whole z after-ascii) in
         let split : r ≡ inner ++ z =
         same-scalars r (inner ++ z) rest-scalars (all-append Scalar inner z inner-scalars after-scalars)

@@ -144,7 +144,7 @@ escape-at {ed} (x55 {t = t} {v = v} digits) names = hex-at ed 0x55 8 v t refl di
 escape-at x65 h = simple-at Toml11 0x65 0x1B refl
 escape-at (x78 {t = t} {v = v} digits) names = hex-at Toml11 0x78 2 v t refl digits (two-scalar digits)
 
--- so it is read, where it is a piece behind a backslash
+-- so an escape is read, where the piece of a backslash is the piece of what follows it
 pub escape-reads : (pieces : Pieces) {ed : Edition} {t : List ℕ} {v : ℕ} (char : EscapeSeqChar ed t v) → Names char
     → (at : ℕ) (s : List ℕ)
     → pieces false at (0x5C ∷ (t ++ s)) ≡ escapePiece ed at (t ++ s)
@@ -152,7 +152,7 @@ pub escape-reads : (pieces : Pieces) {ed : Edition} {t : List ℕ} {v : ℕ} (ch
 escape-reads pieces {t = t} {v = v} char names at s slash =
     reads-for pieces false at (0x5C ∷ t) s v (slash ∙ escape-at char names at s) (omega arith)
 
--- ---- an escape without error stands in front
+-- ---- where an escape is read without error, the grammar derives it
 
 pub record EscapedAt (ed : Edition) (s : List ℕ) : Type 0 where
   pub t : List ℕ
@@ -166,13 +166,13 @@ pub record EscapedAt (ed : Edition) (s : List ℕ) : Type 0 where
 abbrev Named : Edition → List ℕ → ℕ → Type 0
 Named ed t v = (e : EscapeSeqChar ed t v) × Names e
 
--- what a letter is for, the grammar has it too
+-- the grammar derives what the letter b after a backslash stands or asks for
 unfoldable Right : Edition → ℕ → Letter → Type 0
 Right ed b (Stands v) = Named ed (b ∷ []) v
 Right ed b (Asks n) = (t : List ℕ) (v : ℕ) → HexDigits n 0 t v → Scalar v → Named ed (b ∷ t) v
 Right ed b Neither = Unit {0}
 
--- a letter k of the table
+-- b is the letter k of the table
 right-stands : (ed : Edition) (k v : ℕ) → Named ed (k ∷ []) v → (b : ℕ) → b ≡ k → Right ed b (Stands v)
 unfolding Right
 right-stands ed k v named b same = subst (λ (c : ℕ). Named ed (c ∷ []) v) (sym same) named

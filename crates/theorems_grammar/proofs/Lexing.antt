@@ -1,4 +1,4 @@
--- A derived text that no mark of its own follows is lexed as one token of its kind.
+-- A derived text that its own quote mark does not follow is lexed as one token of its kind.
 -- Assumes nothing.
 use Prim.Native.Nat.{ℕ, suc, _+_, _<_}
 use mathlib.Core.Path.{_≡_, _∙_, ap}
@@ -59,7 +59,7 @@ marked-rest q h s rest = ap (λ x. x ++ rest) (encodes-marked q h s) ∙ ap (q �
 encoded-long : (q : ℕ) → q < 0x80 → (s : List ℕ) → length (encodes (marked q s)) ≡ suc (suc (length (encodes s)))
 encoded-long q h s = ap length (encodes-marked q h s) ∙ marked-long q (encodes s)
 
--- no three marks, where the first byte behind the opening is none or the closing
+-- a string on one line begins with no three marks: after its opening comes a byte that is no mark, or its closing
 triple-line : (q : ℕ) (x : List ℕ) → All (InLine q) x → (rest : List ℕ) → Apart q rest → triple q (q ∷ (x ++ (q ∷ rest))) ≡ false
 triple-line q [] h rest a = triple-two q rest a
 triple-line q (b ∷ bytes) inside rest apart = triple-no q b (bytes ++ (q ∷ rest)) (inside .0 .0 .0)

@@ -30,7 +30,7 @@ use Rattle.theorems_grammar.proofs.Reading.{ErrorFree}
 
 -- ---- marks that are there
 
--- no error about a mark: it is there
+-- where no error is given for a mark, the mark is there
 missing-none : (b : Bool) (e : DecodeError) (at : ℕ) → missing b e at ≡ [] → b ≡ true
 missing-none true e at nothing = refl
 missing-none false e at nothing = absurd (cons≢nil nothing)
@@ -66,7 +66,7 @@ line-at q m =
 marked-body : (q : ℕ) (m : List ℕ) → bodyOf (marked-ends-at (marked q m)) (marked q m) ≡ m
 marked-body q m = let lengths = marked-long q m in take-at m (q ∷ []) (length (marked q m) - 1 - 1) (omega arith)
 
--- a text whose marks are there
+-- a text that has both marks is a body between them
 line-inv : (q : ℕ) (t : List ℕ) → lineEnds q t .opened ≡ true → lineEnds q t .closed ≡ true → (m : List ℕ) × (t ≡ marked q m)
 unfolding lineEnds
 line-inv q t opened closed =

@@ -19,7 +19,7 @@ last-split s n long =
     drop-cons s n 0 (omega arith) ∙ ap (λ x. getD s n 0 ∷ x) (drop-of-length-le s {i = suc n} (omega arith)) in
     sym (take-append-drop n s) ∙ ap (λ x. take n s ++ x) last
 
--- a byte that is not 0 and that `getD` gives stands in front of the rest
+-- where `getD` gives a byte b for place 0 and b is not 0, the list begins with b
 pub first-splits : (s : List ℕ) (b : ℕ) → 0 < b → getD s 0 0 ≡ b → (r : List ℕ) × (s ≡ b ∷ r)
 first-splits [] b some is = absurd (omega arith)
 first-splits (x ∷ s) b some is = (s, rw is)

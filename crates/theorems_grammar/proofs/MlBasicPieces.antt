@@ -82,7 +82,7 @@ line-at at {w} {n} blanks line s = rw (ws-run blanks line s, drop-at w (n ++ s) 
     by-line x0A = ap dropPiece (omega arith)
     by-line x0D-0A = ap dropPiece (omega arith)
 
--- one stands before r
+-- after a line-ending backslash the bytes r are blanks w, a newline n, and `rest`
 pub record Ended (r : List ℕ) : Type 0 where
   pub w : List ℕ
   pub n : List ℕ
@@ -133,14 +133,14 @@ ended at r =
           nl = line;
         }
 
--- ---- what it drops
+-- ---- what a line-ending backslash drops
 
 pub skip-some : {t : List ℕ} → WscharNewline t → 0 < length t
 skip-some (WscharNewline.wschar w) = omega arith
 skip-some (newline x0A) = omega arith
 skip-some (newline x0D-0A) = omega arith
 
--- at b, and r behind it, it has ended, or drops one byte or two
+-- at the byte b, which r follows, the line-ending escape has ended, or it drops one byte or two
 pub data Skipped (b : ℕ) (r : List ℕ) : Type 0 where
   is-out : skips b ≡ false → Skipped b r
   is-one : WscharNewline (b ∷ []) → Skipped b r
@@ -208,7 +208,7 @@ module _ (ed : Edition) where
   pub skip-reads : {t : List ℕ} → WscharNewline t → (at : ℕ) (s : List ℕ) → Reads pieces true at (t ++ s) [] true s
   skip-reads {t} skip at s = reads-drop pieces true at t s (skip-piece at s skip) (skip-some skip)
 
-  -- what is no blank and no newline ends it
+  -- a byte that is no blank and no newline ends the line-ending escape
   same-piece : (at b : ℕ) (s : List ℕ) → skips b ≡ false → pieces true at (b ∷ s) ≡ pieces false at (b ∷ s)
   unfolding mlBasicPiece
   same-piece at b s out = rw out

@@ -11,13 +11,13 @@ use Rattle.theorems_grammar.specs.Prose.{Drops, ContentsDrop, Contents1D
 use Rattle.theorems_grammar.proofs.Passing.{Seen, seen0, seen1, seen2}
 use Rattle.theorems_grammar.proofs.MlRuns.{Flat, end, mark0, mark1, content, Bodies, flat-body}
 
--- X, asked for only where strict
+-- X is asked for only where s is true
 abbrev pub Need : Bool → Type 0 → Type 0
 Need s X = s ≡ true → X
 
 -- in one edition of TOML
 module _ (ed : Edition) where
-  -- a content whose escapes are scalar; strict: the prose rule of the line-ending backslash is kept
+  -- a content whose escapes name scalar values; where `strict` is true, a line-ending backslash drops all that it can
   pub data Kept (strict : Bool) : List ℕ → List ℕ → List ℕ → Type 0 where
     kept : {t w r : List ℕ} (c : MlbContent ed t w) → ContentNames c → Need strict (Drops c r) → Kept strict t w r
 
@@ -28,7 +28,7 @@ module _ (ed : Edition) where
 
   module _ (strict : Bool) where
     module _ (f v : List ℕ) where
-      -- a content in front of the text u, which gives x
+      -- a content, and after it the text `more`, which has the value `value`
       content-run : {t w : List ℕ} (c : MlbContent ed t w) → ContentNames c → (more value : List ℕ)
           → Need strict (Drops c (more ++ f))
           → (k : Seen) → Run strict seen0 (more ++ f) (value ++ v) → Run strict k ((t ++ more) ++ f) ((w ++ value) ++ v)

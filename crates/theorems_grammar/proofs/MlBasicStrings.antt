@@ -1,5 +1,6 @@
--- Multi-line basic strings: the decoder's pieces, the lexer's extent and the grammar. A derivation that keeps blanks behind
--- a line-ending backslash is read too, though not to its value: so what is read without error is said in both modes.
+-- Multi-line basic strings: the decoder's pieces, the lexer's extent and the grammar. A derivation that keeps blanks after
+-- a line-ending backslash is read without error too, though not to its value: so reading without error is proved both within
+-- such an escape and outside it.
 -- Assumes nothing.
 use Prim.Native.Nat.{ℕ, suc, _+_, _≤_, _<_}
 use mathlib.Core.Path.{_≡_, refl, sym, _∙_, ap, subst}
@@ -120,7 +121,7 @@ module _ (ed : Edition) where
       rw (slash-text (w ++ (n ++ r)) s (space-ascii (w ++ (n ++ r)) (escaped-space blanks line skipped)))
       (escaped-reads blanks line skipped at s)
 
-  -- within one: it is passed over, or ends it
+  -- within a line-ending escape a content is dropped, or ends the escape
   data Meets (t : List ℕ) (at : ℕ) (s : List ℕ) : Type 0 where
     dropped : Reads (pieces ed) true at (encodes t ++ s) [] true s → ((r : List ℕ) → startsBlank (t ++ r) ≡ true) → Meets t at s
     leaves : Reads (pieces ed) true at (encodes t ++ s) [] false (encodes t ++ s) → Meets t at s
@@ -159,7 +160,7 @@ module _ (ed : Edition) where
   meets (escaped-nl (mlb-escaped-nl {w} {n} {r} blanks line skipped)) at s =
       slash-out (w ++ (n ++ r)) (space-ascii (w ++ (n ++ r)) (escaped-space blanks line skipped)) at s
 
-  -- ---- a run is read without error, in either mode
+  -- ---- a run is read without error, within a line-ending escape and outside it
 
   abbrev Quiet : Bool → List ℕ → Type 0
   Quiet d cs = (at : ℕ) → ErrorFree (pieces ed) d at (encodes cs)
@@ -253,7 +254,7 @@ module _ (ed : Edition) where
   space-in : (t : List ℕ) → All Space t → All (InMl 0x22) t
   space-in t spaces = all-weaken (λ c space. in-ml 0x22 c (λ e. omega arith) (λ e. omega arith)) t spaces
 
-  -- a byte that a backslash may hide, and then none that closes or hides
+  -- a backslash, a byte that it may hide, and then bytes that neither close nor hide
   slash-passed : (k : Seen) (b : ℕ) (t : List ℕ) → AllAscii (b ∷ t) → All (InMl 0x22) t → Passed 0x22 k (0x5C ∷ (b ∷ t))
   slash-passed k b t low inside s =
       let marks = marks-pass quotation k 0x5C (b ∷ (t ++ s)) (λ same. omega arith) in
@@ -350,11 +351,11 @@ module _ (ed : Edition) where
       by-tests false false false false space tab lf cr none = rw (space, tab, line s lf cr)
 
   module _ (rest : List ℕ) where
-    -- the same of every text of at most n code points
+    -- the claim of `chars-clean` for every text of at most n code points
     abbrev ShorterRuns : ℕ → Type 0
     ShorterRuns = UpTo (pieces ed) 0x22 (Kept ed true) rest
 
-    -- within a line-ending escape
+    -- what is read without error within a line-ending escape is what the escape drops, and then a run
     abbrev TrimIf : ℕ → List ℕ → Type 0
     TrimIf n m =
         length m ≤ n → All Scalar m → (at : ℕ) → ErrorFree (pieces ed) true at (encodes m) → Through 0x22 rest seen0 m → Trim m
@@ -414,7 +415,7 @@ module _ (ed : Edition) where
     module _ (n : ℕ) (shorter : ShorterRuns n) (c : ℕ) (cs : List ℕ) (few : length cs ≤ n) (scalars : All Scalar (c ∷ cs))
         (k : Seen) (at : ℕ)
         (clean : ErrorFree (pieces ed) false at (encodes (c ∷ cs))) (through : Through 0x22 rest k (c ∷ cs)) where
-      -- a content stands in front that is no line-ending backslash
+      -- a content comes first that is no line-ending backslash
       content-front : (t w ds : List ℕ) (first : MlbContent ed t w) → ContentNames first → Drops first ds → after first ≡ false
           → 0 < length t
           → c ∷ cs ≡ t ++ ds → Strict k (c ∷ cs)

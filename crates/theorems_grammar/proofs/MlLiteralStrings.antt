@@ -179,7 +179,7 @@ module _ (rest : List ℕ) where
       (scalars : All Scalar (c ∷ cs))
       (k : Seen) (at : ℕ) (clean-text : ErrorFree pieces false at (encodes (c ∷ cs)))
       (through : Through 0x27 rest k (c ∷ cs)) where
-    -- the content t stands in front
+    -- the content t comes first
     content-front : (t ds : List ℕ) → MllContent t → c ∷ cs ≡ t ++ ds → 0 < length t → FlatOf 0x27 Copied k (c ∷ cs)
     content-front t ds first split some =
         content-clean pieces 0x27 Copied rest n shorter (c ∷ cs) t t ds k at (copied first)

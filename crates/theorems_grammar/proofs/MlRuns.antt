@@ -1,5 +1,5 @@
--- Between the grammar of a multi-line body and what reads it: one flat run of contents and marks, never three marks in a
--- row. The two kinds differ in their mark and in what is a content.
+-- A flat run: contents and quote marks in any order, never three marks in a row. Both directions between the grammar of a
+-- multi-line body and the decoder go through it. The two kinds differ in their mark and in what is a content.
 -- Assumes nothing.
 use Prim.Native.Nat.{ℕ, suc, _+_, _≤_, _<_}
 use mathlib.Core.Path.{_≡_, sym, _∙_, ap, subst}
@@ -19,7 +19,7 @@ use Rattle.theorems_grammar.proofs.Passing.{Mark, Seen, seen0, seen1, s
 abbrev pub Contents : Type 1
 Contents = List ℕ → List ℕ → List ℕ → Type 0
 
--- the text and its value, where so many marks stand right before
+-- a run, by its text and its value, where as many marks stand right before it as `Seen` says
 pub data Flat (q : ℕ) (C : Contents) : Seen → List ℕ → List ℕ → Type 0 where
   end : {k : Seen} → Flat q C k [] []
   mark0 : {t v : List ℕ} → Flat q C seen1 t v → Flat q C seen0 (q ∷ t) (q ∷ v)
@@ -33,9 +33,9 @@ FlatOf q C k t = (v : List ℕ) × Flat q C k t v
 pub put : (q : ℕ) (C : Contents) (k : Seen) (t w r : List ℕ) → C t w r → FlatOf q C seen0 r → FlatOf q C k (t ++ r)
 put q C k t w r first (v, rest) = (w ++ v, content {k = k} first rest)
 
--- ---- a run is one token's
+-- ---- the lexer goes through a run to its closing marks
 
--- the lexer passes the contents
+-- the lexer passes each content
 abbrev pub Passes : ℕ → Contents → Type 0
 Passes q C = (k : Seen) (t w r : List ℕ) → C t w r → Passed q k t
 
@@ -98,7 +98,7 @@ module _ (pieces : Pieces) (q : ℕ) (C : Contents) (rest : List ℕ) where
   RunIf m =
       All Scalar m → (k : Seen) (at : ℕ) → ErrorFree pieces false at (encodes m) → Through q rest k m → FlatOf q C k m
 
-  -- one of at most n code points
+  -- the same claim for all texts of at most n code points
   abbrev pub UpTo : ℕ → Type 0
   UpTo n = (m : List ℕ) → length m ≤ n → RunIf m
 

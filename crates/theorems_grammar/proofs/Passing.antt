@@ -22,7 +22,7 @@ use Rattle.theorems_grammar.proofs.Encoded.{chars-bytes}
 use Rattle.theorems_grammar.proofs.ClassLaws.{non-ascii-high}
 use Rattle.theorems_grammar.proofs.Escapes.{Harmless}
 
--- what passes the bytes of a class one by one passes a run of them
+-- an extent f that is one more for each byte of a class is as much more as a run of them is long
 pub pass-all : (f : List ℕ → ℕ) (Ok : ℕ → Type 0) → ((b : ℕ) → Ok b → (s : List ℕ) → f (b ∷ s) ≡ suc (f s))
     → (t : List ℕ) → All Ok t → (s : List ℕ) → f (t ++ s) ≡ length t + f s
 pass-all f Ok pass [] h s = omega arith
@@ -44,7 +44,7 @@ triple-yes q s = rw (eq-eqb q q refl)
 
 -- ---- quote marks
 
--- a visible ASCII byte that hides nothing
+-- a visible ASCII byte that does not hide the byte after it
 pub record Mark (q : ℕ) : Type 0 where
   pub low : q < 0x80
   pub visible : 0x20 < q
@@ -62,7 +62,7 @@ apostrophes = record { low = omega arith; visible = omega arith; hides-none = re
 abbrev pub InMl : ℕ → ℕ → Type 0
 InMl q b = (b ≡ q → ⊥) × (hides q false b ≡ false)
 
--- in one on a line
+-- in a string on one line
 abbrev pub InLine : ℕ → ℕ → Type 0
 InLine q b = InMl q b × (b ≡ 10 → ⊥)
 
@@ -70,7 +70,7 @@ never-hides : (x y : Bool) → y ≡ false → (x && y) ≡ false
 never-hides true y e = e
 never-hides false y e = refl
 
--- only a backslash hides
+-- only a backslash hides the byte after it
 pub in-ml : (q b : ℕ) → (b ≡ q → ⊥) → (b ≡ 92 → ⊥) → InMl q b
 in-ml q b not-mark not-slash = (not-mark, never-hides (eqb q 34) (eqb b 92) (ne-eqb b 92 not-slash))
 
@@ -85,7 +85,7 @@ newline-in {q} m x0A = (in-ml q 0x0A (λ e. omega arith) (λ e. omega arith), tt
 newline-in {q} m x0D-0A =
     (in-ml q 0x0D (λ e. omega arith) (λ e. omega arith), (in-ml q 0x0A (λ e. omega arith) (λ e. omega arith), tt))
 
--- the grammar's classes; an apostrophe's string hides nothing
+-- the grammar's classes; in a string between apostrophes no byte hides another
 pub literal-in : {c : ℕ} → LiteralChar c → InLine 39 c
 literal-in LiteralChar.x09 = (((λ e. omega arith), refl), λ e. omega arith)
 literal-in {c} (LiteralChar.x20-26 h k) = (((λ e. omega arith), refl), λ e. omega arith)
@@ -121,7 +121,7 @@ pub line-close : (q : ℕ) (s : List ℕ) → lineTail q false (q ∷ s) ≡ 1
 unfolding lineTail
 line-close q s = rw (eq-eqb q q refl)
 
--- ---- on several lines: so many marks stand right before the place
+-- ---- on several lines: how many marks stand right before the place, at most two
 
 pub data Seen : Type 0 where
   seen0 seen1 seen2 : Seen
@@ -165,7 +165,7 @@ ml-hidden b s = refl
 abbrev pub Passed : ℕ → Seen → List ℕ → Type 0
 Passed q k t = (s : List ℕ) → mlTail q false (marks q k (encodes t ++ s)) ≡ num k + (length (encodes t) + mlTail q false s)
 
--- after k marks the token goes on through t and the three closing marks, before rest
+-- after k marks the token goes on through t and ends with the three marks that follow; `rest` follows them
 abbrev pub Through : ℕ → List ℕ → Seen → List ℕ → Type 0
 Through q rest k t = mlTail q false (marks q k (encodes t ++ (q ∷ (q ∷ (q ∷ rest))))) ≡ num k + (length (encodes t) + 3)
 
@@ -179,7 +179,7 @@ module _ {q : ℕ} (m : Mark q) where
   unfolding triple
   ml-pass b h s = ml-step b s (rw (ne-eqb b q (h .0))) (h .1)
 
-  -- marks that are not three are passed
+  -- fewer than three marks are passed
   pub marks-pass : (k : Seen) (b : ℕ) (s : List ℕ) → (b ≡ q → ⊥)
       → mlTail q false (marks q k (b ∷ s)) ≡ num k + mlTail q false (b ∷ s)
   marks-pass seen0 b s h = omega arith
@@ -221,7 +221,7 @@ module _ {q : ℕ} (m : Mark q) where
     through-two cs =
         ((λ through. let bytes = rw (mark-bytes cs) at through in omega arith), λ through. rw (mark-bytes cs) (omega arith))
 
-    -- there is no third mark within
+    -- no third mark stands within the token
     pub through-three : (cs : List ℕ) → Through q rest seen2 (q ∷ cs) → ⊥
     through-three cs through =
         let after : List ℕ = encodes cs ++ (q ∷ (q ∷ (q ∷ rest))) in

@@ -1,5 +1,5 @@
 -- What it is to read a part of a body without error, for any definition of pieces.
--- The rest of the crate says by these names what the four kinds have in common.
+-- The rest of the crate uses these names for what the four kinds of string have in common.
 -- Assumes nothing.
 use Prim.Native.Nat.{ℕ, suc, _+_, _≤_, _<_}
 use mathlib.Core.Path.{_≡_, refl, sym, _∙_, ap}
@@ -17,20 +17,21 @@ use Rattle.decoder_rules.proofs.PieceLaws.{gives-copy, gives-char, gives-nothin
 use Rattle.theorems_grammar.specs.Grammar.{Newline}
 use Rattle.theorems_grammar.proofs.Encoded.{char-bytes}
 
--- what a piece says if it has no error
+-- X holds if the piece p has no error
 abbrev pub IfClean : Type 0 → Piece → Type 0
 IfClean X p = p .verdict ≡ Clean → X
 
--- a byte of the class f and the run of that class behind it are one piece, which copies them
+-- a byte of the class f and the run of that class after it are one piece, which copies them
 abbrev pub CopiesRuns : Pieces → (ℕ → Bool) → Type 0
 CopiesRuns pieces f = (at b : ℕ) (s : List ℕ) → f b ≡ true → pieces false at (b ∷ s) ≡ copyPiece (suc (run f s))
 
 module _ (pieces : Pieces) where
-  -- s, from the place at on, has no error
+  -- the bytes s, which stand at `at`, have no error; d says whether they begin within a line-ending escape
   abbrev pub ErrorFree : Bool → ℕ → List ℕ → Type 0
   ErrorFree d at s = collect pieces notesAt 0 d at s ≡ []
 
-  -- s gives o without error, and s′ is left; d and d′ say whether that is within a line-ending escape
+  -- s, which stands at `at`, gives the bytes o without error, and s′ is left, at `to`; d and d′ say whether s and s′ begin
+  -- within a line-ending escape
   pub record Reads (d : Bool) (at : ℕ) (s o : List ℕ) (d′ : Bool) (s′ : List ℕ) : Type 0 where
     pub to : ℕ
     pub place : to + length s′ ≡ at + length s
@@ -50,7 +51,7 @@ module _ (pieces : Pieces) where
         bytes = first .bytes ∙ (ap (λ x. o ++ x) (second .bytes) ∙ sym (append-assoc o o₁ _));
       }
 
-  -- one piece that has no error
+  -- the first piece, which takes t, has no error and gives o
   reads-piece : (d : Bool) (at : ℕ) (t s o : List ℕ) (p : Piece) → pieces d at (t ++ s) ≡ p → 0 < length t → p .take ≡ length t
       → p .verdict ≡ Clean → gives p (t ++ s) ≡ o → Reads d at (t ++ s) o (p .dropping) s
   reads-piece d at t s o p piece some-text taken clean given =
@@ -64,7 +65,7 @@ module _ (pieces : Pieces) where
         bytes = collect-step pieces gives d at (t ++ s) some takes ∙ rw (piece, given, left);
       }
 
-  -- bytes as they are, a character, or nothing
+  -- it gives its bytes as they are, a character, or nothing
   pub reads-copy : (d : Bool) (at : ℕ) (t s : List ℕ) → pieces d at (t ++ s) ≡ copyPiece (length t) → 0 < length t
       → Reads d at (t ++ s) t false s
   reads-copy d at t s piece some =
@@ -91,18 +92,18 @@ module _ (pieces : Pieces) where
   abbrev pub ReadsChars : (ℕ → Bool) → Type 0
   ReadsChars f = (c at : ℕ) (s : List ℕ) → f c ≡ true → Reads false at (encodeScalar c ++ s) (encodeScalar c) false s
 
-  -- and so does a newline
+  -- a newline gives itself
   abbrev pub ReadsNewlines : Type 0
   ReadsNewlines = (n : List ℕ) → Newline n → (at : ℕ) (s : List ℕ) → Reads false at (n ++ s) n false s
 
-  -- the first piece of a body that is read without error has none
+  -- the first piece of a body that is read without error has no error
   pub first-clean : (d : Bool) (at b : ℕ) (r : List ℕ) → ErrorFree d at (b ∷ r) → pieces d at (b ∷ r) .verdict ≡ Clean
   first-clean d at b r clean =
       notes-clean (pieces d at (b ∷ r)) (ap length (append-eq-nil-iff {p = notes (pieces d at (b ∷ r))} .0 clean .0))
 
-  -- a whole run of plain bytes is one piece, and yet they may be read one by one
+  -- a whole run of plain bytes is one piece, and yet its bytes may be read one by one
   module _ (f : ℕ → Bool) (plain : CopiesRuns pieces f) where
-    -- g says h n of a copy of n bytes: what it says of the rest of a run, it says of the bytes of that rest one by one
+    -- g says `h n` of a piece that copies n bytes: what it says of the rest of a run, it says of its bytes one by one
     module _ {A : Type 0} (g : Piece → List ℕ → List A) (h : ℕ → List ℕ → List A) (none : (s : List ℕ) → h 0 s ≡ [])
         (copied : (n : ℕ) (s : List ℕ) → g (copyPiece n) s ≡ h n s) where
       rest-says : (at : ℕ) (s : List ℕ) → h (run f s) s ++ collect pieces g (run f s) false at s ≡ collect pieces g 0 false at s

@@ -1,4 +1,4 @@
--- Demand 3 has teeth: what it shuts out is there to be shut out, and each kind has texts that it lets in.
+-- Demand 3 excludes and allows something: for each case that it excludes there is a text, and each kind has texts that it allows.
 -- Assumes nothing.
 use Prim.Native.Nat.{ℕ, _≤_}
 use mathlib.Core.Path.{_≡_, refl, sym, _∙_, ap}
@@ -33,7 +33,7 @@ use Rattle.theorems_grammar.proofs.Lexing.{derived-token}
 abbrev Decodes : Edition → StringKind → List ℕ → List ℕ → Type 0
 Decodes ed s t o = (errorsOf (encoding ed s) t ≡ []) × (bytesOf (encoding ed s) t ≡ o)
 
--- ---- '''a'''b''' decodes without error, and yet nothing derives it: no lexing yields it, its token ends behind seven bytes
+-- ---- '''a'''b''' decodes without error, and yet nothing derives it: no lexing yields it, since its token ends after seven bytes
 
 abbrev unlexed : List ℕ
 unlexed = 39 ∷ 39 ∷ 39 ∷ 97 ∷ 39 ∷ 39 ∷ 39 ∷ 98 ∷ 39 ∷ 39 ∷ 39 ∷ []
@@ -81,13 +81,15 @@ first-q (EscapeSeqChar.x78 d) r s text = let same : _≡_ {A = ℕ} 0x78 113 = c
 
 no-chars : {ed : Edition} {t v : List ℕ} → BasicChars ed t v → t ++ (34 ∷ []) ≡ 92 ∷ 113 ∷ 34 ∷ [] → ⊥
 no-chars BasicChars.stop text = let same : _≡_ {A = ℕ} 34 92 = cc in omega arith
-no-chars (BasicChars.more {r = r} (BasicChar.basic-unescaped {c} class) rest) text = let is-slash : c ≡ 92 = cc in no-slash class is-slash
+no-chars (BasicChars.more {r = r} (BasicChar.basic-unescaped {c} class) rest) text =
+    let is-slash : c ≡ 92 = cc in no-slash class is-slash
 no-chars (BasicChars.more {r = r} (BasicChar.escaped-char (escaped {t} char)) rest) text =
     let after-slash : (t ++ r) ++ (34 ∷ []) ≡ 113 ∷ 34 ∷ [] = cc in
     first-q char (r ++ (34 ∷ [])) (34 ∷ []) (sym (append-assoc t r (34 ∷ [])) ∙ after-slash)
 
 pub unknown-not-derived : (ed : Edition) (cs v : List ℕ) → BasicString ed cs v → cs ≡ unknown-escape → ⊥
-unknown-not-derived ed cs v (basic-string {t} chars) text = let inside : t ++ (34 ∷ []) ≡ 92 ∷ 113 ∷ 34 ∷ [] = cc in no-chars chars inside
+unknown-not-derived ed cs v (basic-string {t} chars) text =
+    let inside : t ++ (34 ∷ []) ≡ 92 ∷ 113 ∷ 34 ∷ [] = cc in no-chars chars inside
 
 -- ---- "\uD800" has a derivation, and none whose escapes name scalar values
 
@@ -180,7 +182,7 @@ pub ml-literal-decodes : Decodes Toml10 ml-literal (encodes ml-literal-text) (97
 unfolding encodeScalar errorsOf bytesOf notes mlEnds mlStart mlClosed mlEnd newlineLen threes gives mlLiteralPiece run mllPlain mllChar
 ml-literal-decodes = (refl, refl)
 
--- ---- an ml-basic string: """a\ space LF space "b CR LF""" means a"b CR LF: the line-ending backslash drops the blanks behind it
+-- ---- an ml-basic string: """a\ space LF space "b CR LF""" means a"b CR LF: the line-ending backslash drops the blanks after it
 
 abbrev ml-basic-text : List ℕ
 ml-basic-text = 34 ∷ 34 ∷ 34 ∷ 97 ∷ 92 ∷ 32 ∷ 10 ∷ 32 ∷ 34 ∷ 98 ∷ 13 ∷ 10 ∷ 34 ∷ 34 ∷ 34 ∷ []

@@ -46,7 +46,7 @@ listed-is doc r listed = let facts = by-rule doc r listed in token-of-fields r _
 
 -- ---- a token of a step is the token at the cursor's place
 
--- the token at the cursor c, and the cursor behind it
+-- the token at the cursor c, and the cursor after it
 abbrev tokenHere : List ℕ → Cursor → Token
 tokenHere doc c = tokenAt (c .place) (c .line) (drop (c .place) doc)
 
@@ -100,7 +100,7 @@ module _ (doc : List ℕ) (c : Cursor) (r : Token) (d : Cursor) where
       let same-cursor : cursorNext doc c ≡ d = cc in
       record { few = few; near = near; is = sym same-token; on = ap (λ (i : Cursor). i .place) (sym same-cursor) })
 
--- a step before the end, by any cursor
+-- a step from any cursor before the end
 pub step-there : (doc : List ℕ) → length doc ≤ limit → (c : Cursor) → c .line ≤ c .place + 1 → c .place < length doc
     → stepOf doc c ≡ Next (tokenHere doc c) (cursorNext doc c)
 unfolding stepOf
@@ -118,7 +118,7 @@ start-is doc c =
     (λ many starts. let numbers : _≡_ {A = ℕ} 0 1 = cc in absurd (omega arith))
     (λ few starts. let same : cursorOf (startOf doc) 1 false ≡ c = cc in same)
 
--- they cut no character
+-- steps from the start cut no character
 pub reached-cut : (doc : List ℕ) → Utf8 doc → (c : Cursor) → Reached doc c → Utf8 (drop (c .place) doc)
 reached-cut doc utf8 c (start starts) =
     subst (λ (x : Cursor). Utf8 (drop (x .place) doc)) (start-is doc c starts) (start-cut doc utf8)
@@ -129,7 +129,7 @@ reached-cut doc utf8 d (next {c} {r = r} reached gives) =
     drop-drop n (c .place) doc ∙ ap (λ (i : ℕ). drop i doc) (sym (gave .on)) in
     subst Utf8 onward (token-cut (drop (c .place) doc) (reached-cut doc utf8 c reached) .1)
 
--- and what is left from a cursor on is left of whole lexing, until Eof was given
+-- the tokens from a reached cursor on are tokens of whole lexing, until `Eof` was given
 abbrev AllListed : List ℕ → ℕ → ℕ → Type 0
 AllListed doc at line = (r : Token) → List·Memᴰ r (tokensFrom at line (drop at doc)) → List·Memᴰ r (tokensOf doc)
 

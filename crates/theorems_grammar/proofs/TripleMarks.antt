@@ -1,4 +1,5 @@
--- A text between two triple marks: its errors and its bytes are its body's, behind the newline after the opening.
+-- A text between two triple marks has the errors and the bytes of its body, which begins after the newline, if there is one,
+-- that follows the opening.
 -- Assumes nothing.
 use Prim.Native.Nat.{ℕ, suc, _+_, _-_, _≤_, _<_}
 use mathlib.Core.Path.{_≡_, refl, sym, _∙_, ap}
@@ -59,7 +60,7 @@ threes-inv q s marks =
     by-length (a ∷ (b ∷ [])) long first second third = absurd (omega arith)
     by-length (a ∷ (b ∷ (c ∷ r))) long first second third = (r, rw (first, second, third))
 
--- ---- the newline in front: all of it, or none
+-- ---- the newline at the front of s, if there is one, and what follows it
 
 pub record Split (s : List ℕ) : Type 0 where
   pub n : List ℕ
@@ -103,7 +104,7 @@ unfolding newlineLen
 newline-long x0A s = refl
 newline-long x0D-0A s = refl
 
--- the prose rule's test and the decoder's count
+-- the prose rule's test fails exactly where the decoder's count is 0
 starts-len : (s : List ℕ) → (startsNewline s ≡ false) ↔ (newlineLen s ≡ 0)
 unfolding startsNewline newlineLen
 starts-len [] = ((λ none. refl), λ none. refl)
@@ -120,7 +121,7 @@ starts-len (b ∷ (c ∷ s)) = by-tests (eqb b 10) (eqb b 13 && eqb c 10)
     by-tests false true = ((λ none. no-true (sym none)), λ none. absurd (omega arith))
     by-tests false false = ((λ none. refl), λ none. refl)
 
--- the count on bytes that a mark follows is the count on code points
+-- the decoder's count is the same of code points, and of their bytes with a mark after them
 module _ {q : ℕ} (m : Mark q) where
   head-is : (cs r : List ℕ) → stands 0x0A (encodes cs ++ (q ∷ r)) ≡ stands 0x0A cs
   head-is [] r = ne-eqb q 10 (λ e. omega arith)
@@ -158,7 +159,7 @@ encodes-fenced {q} m {n} opening s =
     encodes-ascii (delim q ++ n) (s ++ delim q) (low, (low, (low, option-ascii opening)))
     ∙ ap (λ x. delim q ++ (n ++ x)) (encodes-append s (delim q) ∙ rw (encode-1 q low))
 
--- its ends, where the body starts at a
+-- the ends of the text t, whose body starts at a
 abbrev fenced-ends-at : ℕ → List ℕ → Ends
 fenced-ends-at a t = record { opened = true; closed = true; start = a; end = length t - 3 }
 
@@ -177,7 +178,7 @@ module _ (trims : Bool) (q : ℕ) where
       (ap (λ (i : ℕ). 3 + i) (sym newline) ∙ start-open t)
       (sym shut ∙ closed-is q (3 + length n) t (omega arith)) (end-closed q (3 + length n) t trims)
 
-  -- the parts of a text whose marks are there
+  -- the parts of a text that has both its marks
   record Fenced (t : List ℕ) : Type 0 where
     n : List ℕ
     m : List ℕ
@@ -217,7 +218,7 @@ module _ (trims : Bool) (q : ℕ) where
             long = ap newlineLen (sym inner) ∙ line .long;
           }
 
-      -- both triples have room
+      -- the text is long enough for both triples and the newline
       roomy : Bool
       roomy = leb ((3 + newlineLen (drop 3 t)) + 3) (length t)
 
@@ -236,13 +237,13 @@ module _ (trims : Bool) (q : ℕ) where
 
 -- ---- from the decoder of a body to the decoder of a text
 
--- texts of the kind e stand between triple marks q; trims: where the closing is missing, marks at the end are no body
+-- texts of the encoding e stand between triple marks q; `trims`: where the closing is missing, marks at the end are no body
 pub record Fences (trims : Bool) (e : Encoding) (q : ℕ) : Type 0 where
   pub mark : Mark q
   pub ends : (t : List ℕ) → endsOf e t ≡ mlEnds trims q t
 
 module _ {trims : Bool} {e : Encoding} {q : ℕ} (fences : Fences trims e q) where
-  -- the newline in front of n and b is n
+  -- n is the whole newline at the front of n and b joined
   abbrev Whole : List ℕ → List ℕ → Type 0
   Whole n b = newlineLen (n ++ b) ≡ length n
 
@@ -291,7 +292,7 @@ module _ {trims : Bool} {e : Encoding} {q : ℕ} (fences : Fences trims e q) whe
     option-reads absent at s = reads-none (pieceOf e) false at s
     option-reads {n} (present l) at s = reads n l at s
 
-    -- a body that keeps a newline in front is read as if it had none
+    -- where the derivation leaves the first newline to the body b, the errors are those of b all the same
     kept-errors : (b : List ℕ) → errorsOf e (encodes (fenced q [] b)) ≡ collect (pieceOf e) notesAt 0 false 3 (encodes b)
     kept-errors b =
         let line = newline-split b in
@@ -307,7 +308,7 @@ module _ {trims : Bool} {e : Encoding} {q : ℕ} (fences : Fences trims e q) whe
         ∙ (ap (λ (i : ℕ). collect (pieceOf e) notesAt 0 false i r) (sym to)
         ∙ (sym (reading .quiet) ∙ ap (collect (pieceOf e) notesAt 0 false 3) (sym bytes))))
 
-    -- a text whose body is read without error has none
+    -- a text whose body is read without error has no error
     pub ml-no-error : {n : List ℕ} → OptNewline n → (b : List ℕ) → ((at : ℕ) → ErrorFree (pieceOf e) false at (encodes b))
         → errorsOf e (encodes (fenced q n b)) ≡ []
     ml-no-error {n} (present line) b clean = errors-of (present line) b (newline-long line b) ∙ clean (3 + length n)
@@ -349,7 +350,7 @@ module _ {trims : Bool} {e : Encoding} {q : ℕ} (fences : Fences trims e q) whe
 
 -- ---- the lexer
 
--- t is as long as the multi-line token at the front of t and rest
+-- the multi-line token at the front of t and `rest` joined is as long as t
 abbrev pub MlToken : ℕ → List ℕ → List ℕ → Type 0
 MlToken q t rest = suc (suc (suc (mlTail q false (drop 3 (t ++ rest))))) ≡ length t
 

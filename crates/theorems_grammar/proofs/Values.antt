@@ -1,4 +1,4 @@
--- The value of a derived text is of scalar values, and where its escapes name scalar values is what that says.
+-- Where each escape of a derivation names a scalar value, its value is of scalar values. The converse stands in NameLaws.antt.
 -- Assumes nothing.
 use Prim.Native.Nat.{ℕ}
 use mathlib.Core.Logic.{inl}

@@ -1,15 +1,15 @@
--- STATEMENT. Demand 3, in full, for each edition of TOML: its grammar of strings against the lexer and the decoders. Proved in
--- proofs/Demand3Laws.antt, `demand-3`.
+-- STATEMENT. Demand 3 of the project's scope, in full, for each edition of TOML. In a sentence: a string token decodes without
+-- error exactly when TOML's grammar derives it. Proved in proofs/Demand3Laws.antt, `demand-3`.
 --
 -- For every token of a string kind that lexing gives of a document in UTF-8 and within the limit: decoding its text has no
 -- error exactly where the grammar derives the text with escapes that name scalar values; the decoded bytes are then the
 -- encoding of the value that TOML gives it, which is one; and the same holds of what `decode` answers. Conversely, a derived
 -- text that stands where a token starts, and that its own quote mark does not follow, is one token of its kind and length.
 --
--- The names: `tokensOf`, `stepOf` (lexer) are whole lexing and a step; `textOf doc r` (token) is the part of doc from the
--- start of the token r to its end; `errorsOf`, `bytesOf` (strings) are the errors and the bytes of a decoded text;
--- `decodeIn`, `after` (strings) are what `decode_in` promises to answer and to leave in lent memory; `encodes` (text) is the
--- UTF-8 of scalar values; `Derived`, `Means`, `Apart` (Strings.antt) are the grammar's side.
+-- The names: `tokensOf`, `stepOf` (lexer) are whole lexing and a step; `textOf doc r` (lexer_token) is the part of doc from
+-- the start of the token r to its end; `errorsOf`, `bytesOf` (decoder_rules) are the errors and the bytes of a decoded text;
+-- `decodeIn`, `after` (decoder_rules) are what `decode_in` promises to answer and to leave in lent memory; `encodes` (text)
+-- is the UTF-8 of scalar values; `Derived`, `Means`, `Apart` (Strings.antt) are the grammar's side.
 -- Newlines are not normalised: the grammar gives a newline in a multi-line string its own code points as its value
 -- (Grammar.antt, `MlbContent.newline`; the value of an ml-literal-body is its text), and the bytes are that value's.
 -- Assumes nothing.
@@ -41,7 +41,7 @@ pub record TextMeans (ed : Edition) (s : StringKind) (t v : List ℕ) : Type 0 w
   pub text : encodes points ≡ t
   pub means : Means ed s points v
 
--- ---- the call `decode_in`, by the numbers of the edition and the kind, with an output that holds `out` and with e error records
+-- ---- the call `decode_in`, by the numbers of the edition and the kind, with an output that holds `out` and room for e errors
 
 -- its answer
 abbrev pub answerOf : Edition → StringKind → List ℕ → List ℕ → ℕ → Decoded
@@ -69,10 +69,10 @@ pub record Called (ed : Edition) (s : StringKind) (t out : List ℕ) (e : ℕ) :
   -- given room for the bytes, no error exactly where the text is derived
   pub no-error : length (bytesOf (encoding ed s) t) ≤ length out
       → (answerOf ed s t out e ≡ Written (length (bytesOf (encoding ed s) t)) 0) ↔ ((v : List ℕ) × TextDerived ed s t v)
-  -- n bytes and no error exactly where it means a value whose encoding has n bytes and fits
+  -- n bytes and no error exactly where the text means a value whose encoding has n bytes and fits
   pub meaning : (n : ℕ) → (answerOf ed s t out e ≡ Written n 0)
       ↔ ((v : List ℕ) × TextMeans ed s t v × (n ≡ length (encodes v)) × (length (encodes v) ≤ length out))
-  -- and then these stand at the front of the output, and the rest of it is kept
+  -- the value's encoding then stands at the front of the output, and the rest of the output is kept
   pub output : (v : List ℕ) → TextMeans ed s t v → length (encodes v) ≤ length out
       → outputOf ed s t out e ≡ encodes v ++ drop (length (encodes v)) out
 
@@ -83,13 +83,13 @@ pub record Agrees (ed : Edition) (s : StringKind) (t : List ℕ) : Type 0 where
   pub whole : Utf8 t
   -- no error exactly where the text is derived with escapes that name scalar values
   pub derived : (errorsOf (encoding ed s) t ≡ []) ↔ ((v : List ℕ) × TextDerived ed s t v)
-  -- and exactly where some derivation obeys the prose rules too: one does wherever any is
+  -- and exactly where a derivation obeys the prose rules too: of the derivations of a text, if there are any, one does
   pub meant : (errorsOf (encoding ed s) t ≡ []) ↔ ((v : List ℕ) × TextMeans ed s t v)
   -- the decoded bytes are then the encoding of its value
   pub value : (v : List ℕ) → TextMeans ed s t v → bytesOf (encoding ed s) t ≡ encodes v
-  -- and all that obey the prose rules have that value
+  -- all derivations of the text that obey the prose rules have that one value
   pub one : (v w : List ℕ) → TextMeans ed s t v → TextMeans ed s t w → v ≡ w
-  -- the same of the call
+  -- the same of what `decode_in` answers
   pub called : (out : List ℕ) (e : ℕ) → Called ed s t out e
 
 -- ---- the cursors that steps reach from the start
@@ -104,22 +104,23 @@ pub record Demand3 (ed : Edition) : Type 0 where
   -- every string token of whole lexing, of a document that is UTF-8 and within the limit
   pub tokens : (doc : List ℕ) → Utf8 doc → length doc ≤ limit → (r : Token) → List·Memᴰ r (tokensOf doc)
       → (s : StringKind) → r .kind ≡ tokenKind s → Agrees ed s (textOf doc r)
-  -- every string token that a step gives at a place from which on the document is UTF-8, by any cursor
+  -- every string token that a step from any cursor gives, where the document is UTF-8 from the cursor's place on
   pub steps : (doc : List ℕ) (c : Cursor) → Utf8 (drop (c .place) doc) → (r : Token) (d : Cursor) → stepOf doc c ≡ Next r d
       → (s : StringKind) → r .kind ≡ tokenKind s → Agrees ed s (textOf doc r)
-  -- steps from the start of a document in UTF-8 reach such places only
+  -- steps from the start of a document in UTF-8 reach only cursors from whose place on it is UTF-8
   pub reached : (doc : List ℕ) → Utf8 doc → (c : Cursor) → Reached doc c → Utf8 (drop (c .place) doc)
-  -- and give tokens of whole lexing only
+  -- and they give tokens of whole lexing only
   pub listed : (doc : List ℕ) (c : Cursor) → Reached doc c → (r : Token) (d : Cursor) → stepOf doc c ≡ Next r d
       → List·Memᴰ r (tokensOf doc)
-  -- a derived text at any cursor's place, its own quote mark not behind it, is the token that a step gives there, on the
-  -- cursor's line, which does not pass its place plus 1; the next cursor's line is counted on by the LFs of the text
+  -- where a derived text stands at a cursor's place, its own quote mark does not follow it, and the cursor's line is at most
+  -- its place plus 1, a step gives that text as its token, on the cursor's line; the next cursor's line is that line plus the
+  -- LFs of the text
   pub step-back : (doc : List ℕ) → length doc ≤ limit → (c : Cursor) → c .line ≤ c .place + 1
       → (s : StringKind) (cs v rest : List ℕ) → Derived ed s cs v → drop (c .place) doc ≡ encodes cs ++ rest → Apart (mark s) rest
       → stepOf doc c
       ≡ Next (tokenOf (tokenKind s) (c .place) (c .place + length (encodes cs)) (c .line))
       (cursorOf (c .place + length (encodes cs)) (c .line + lineFeeds (encodes cs)) (c .ended))
-  -- and where whole lexing has a token r that starts there, r is that token
+  -- and where a token r of whole lexing starts at a derived text, r is the token of that text
   pub token-back : (doc : List ℕ) (r : Token) → List·Memᴰ r (tokensOf doc)
       → (s : StringKind) (cs v rest : List ℕ) → Derived ed s cs v
       → drop (r .span .start) doc ≡ encodes cs ++ rest → Apart (mark s) rest

@@ -1,5 +1,5 @@
 -- RULE. The ABNF of TOML 1.0.0 and of 1.1.0 for the four kinds of string, over code points: a definition for each rule, under
--- its name, with its line beside it; the kinds in the order of the published text, and each rule behind those that it is
+-- its name, with its line beside it; the kinds in the order of the published text, and each rule after those that it is
 -- made of. The two differ in escape-seq-char alone: that rule, and those that reach it, take the edition. A family's last
 -- index is the value that TOML gives the text; where the value is the text itself it has no such index.
 -- A repetition `*rule` is `stop` or `more`; an option `[ rule ]` is `absent` or `present`.
@@ -61,7 +61,7 @@ pub data HexDig : ℕ → ℕ → Type 0 where
   upper : {c d : ℕ} → c ≡ 0x37 + d → 10 ≤ d → d < 16 → HexDig c d
   lower : {c d : ℕ} → c ≡ 0x57 + d → 10 ≤ d → d < 16 → HexDig c d
 
--- nHEXDIG, from left to right: `HexDigits n a t v` where t is n digits, and v is a with them behind it
+-- nHEXDIG, from left to right: `HexDigits n a t v` where t is n digits, and v is the number a with them appended
 pub data HexDigits : ℕ → ℕ → List ℕ → ℕ → Type 0 where
   stop : {a : ℕ} → HexDigits 0 a [] a
   more : {n a c d v : ℕ} {t : List ℕ} → HexDig c d → HexDigits n (a * 16 + d) t v → HexDigits (suc n) a (c ∷ t) v

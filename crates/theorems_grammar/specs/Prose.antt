@@ -18,7 +18,7 @@ unfoldable pub startsBlank : List ℕ → Bool
 startsBlank [] = false
 startsBlank (c ∷ s) = (eqb c 0x20 || eqb c 0x09) || startsNewline (c ∷ s)
 
--- ---- the newline after the opening: where the body b keeps none of it in front
+-- ---- the newline after the opening is dropped: where the derivation takes none there, the body b begins with none
 abbrev pub Trimmed : {n : List ℕ} → OptNewline n → List ℕ → Type 0
 Trimmed OptNewline.absent b = startsNewline b ≡ false
 Trimmed (OptNewline.present n) b = Unit {0}
@@ -26,7 +26,7 @@ Trimmed (OptNewline.present n) b = Unit {0}
 abbrev pub MlLiteralObeys : {t v : List ℕ} → MlLiteralString t v → Type 0
 MlLiteralObeys (ml-literal-string {n} {b} o d) = Trimmed o b
 
--- ---- a line-ending backslash: nothing that it could drop follows; f is all that follows in the body
+-- ---- a line-ending backslash drops all that it can: f, which follows it in the body, begins with nothing to be dropped
 abbrev pub Drops : {ed : Edition} {t w : List ℕ} → MlbContent ed t w → List ℕ → Type 0
 Drops (mlb-char c) f = Unit {0}
 Drops (MlbContent.newline n) f = Unit {0}

@@ -9,7 +9,7 @@ use Rattle.decoder_rules.specs.declared.Edition.{Edition}
 use Rattle.theorems_grammar.specs.Grammar.{NonAscii}
 use Rattle.theorems_grammar.specs.Strings.{StringKind, Derived}
 
--- `non-ascii-is`: non-ascii is a scalar value of 80 or more
+-- `non-ascii-is`: the grammar's non-ascii is exactly the scalar values from 80 on
 abbrev pub NonAsciiIs : Type 0
 NonAsciiIs = (c : ℕ) → NonAscii c ↔ (Scalar c × (0x80 ≤ c))
 
