@@ -1,4 +1,4 @@
--- A character that stands whole before the reader: the table's row and the bytes behind the first tell its length.
+-- Where four bytes can be read, the table's row for the first byte and the bytes after it tell a character's length.
 -- Assumes nothing.
 use Prim.Native.Nat.{ℕ, _+_, _≤_, _<_}
 use mathlib.Core.Path.{_≡_, refl, sym, ap, subst}
@@ -20,7 +20,7 @@ module _ (s : List ℕ) (start i : ℕ) where
   abbrev a : ℕ
   a = getD s i 0
 
-  -- the character of n bytes leads on
+  -- where whole characters stand up to i, and one of n bytes at i, they stand up to i + n
   on : (n : ℕ) → 0 < n → i + n ≤ length s → leadOf a .0 ≡ n → BegunAt s i (leadOf a) n → Along s start i → Along s start (i + n)
   on n p h e begun along =
       let here : leadOf a .0 ≡ charLen (drop i s) = all-begun s i (leadOf a) refl n begun (omega arith) in

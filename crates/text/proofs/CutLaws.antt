@@ -37,7 +37,7 @@ scalars-append p q (cs, h, e) = rw (← e, scalars-encodes cs h q, scalars-of cs
 
 -- ---- cutting
 
--- nothing comes first, or a byte that is not 80 to BF
+-- a list before which UTF-8 may be cut: it is empty, or its first byte is not 80 to BF
 abbrev pub Cuttable : List ℕ → Type 0
 Cuttable [] = Unit
 Cuttable (b ∷ q) = (b < 0x80) ⊎ (0xC0 ≤ b)
@@ -110,7 +110,7 @@ ascii-first q b h (cs, k, e) = go cs k e
           | no l ↦ absurd (omega (arith, t .more (omega arith)))
         ]
 
--- so what stands before it and behind it is UTF-8 too
+-- so what stands before an ASCII byte and what stands after it are UTF-8 too
 pub ascii-cut : (p q : List ℕ) (b : ℕ) → b < 0x80 → Utf8 (p ++ b ∷ q)
     → Utf8 p × Utf8 q × (scalars (p ++ b ∷ q) ≡ scalars p ++ b ∷ scalars q)
 ascii-cut p q b h u =

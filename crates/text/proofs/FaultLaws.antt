@@ -73,7 +73,7 @@ begins-few t r k h within p (v, more, sc, e) =
           omega arith,
         )
 
--- ---- and what passes begins one: the lowest bytes that are let through make it whole
+-- ---- and what passes the table begins a character: the lowest bytes that the table lets through make it whole
 
 complete : (p more : List ℕ) (n : ℕ) → length p ≤ n → 0 < n → SeenIn (p ++ more) n → Begins p
 complete p more zero h q s = absurd (omega arith)
@@ -98,7 +98,7 @@ module _ (a : ℕ) where
   abbrev l : Lead
   l = leadOf a
 
-  -- p begins a character where, with more behind it, its bytes are as the first one asks
+  -- p begins a character where `more`, appended to p, makes four bytes that are as the first one asks
   begins-by : (p more : List ℕ) (b c d : ℕ) → p ++ more ≡ a ∷ b ∷ c ∷ d ∷ [] → length p ≤ l .0 → 1 ≤ l .0
       → Among (l .1) (l .2) b → Among 0x80 0xBF c → Among 0x80 0xBF d → Begins p
   begins-by p more b c d e h some hb hc hd =

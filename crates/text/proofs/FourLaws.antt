@@ -1,5 +1,6 @@
--- Four bytes as one number: where it has their marks, and not all those bits are off that tell an overlong form, they are
--- one character, or two. Assumes nothing.
+-- Four bytes as one number: where it has the marks of one character or of two, and not all of the bits are off that tell an
+-- overlong form, the bytes are one character, or two.
+-- Assumes nothing.
 use Prim.Native.Nat.{ℕ, _+_, _*_, _^_, _/_, _%_, _≤_, _<_}
 use mathlib.Core.Path.{_≡_, sym, _∙_}
 use native.Mathlib.Nat.{mod-eq-of-lt}
@@ -28,8 +29,8 @@ pairs-left a b r s u v hr hs hv e =
 
 -- ---- the marks of a byte
 
-behind-mark : (b : ℕ) → b < 256 → bitAnd b 0xC0 ≡ 0x80 → Among 0x80 0xBF b
-behind-mark b h e =
+tail-mark : (b : ℕ) → b < 256 → bitAnd b 0xC0 ≡ 0x80 → Among 0x80 0xBF b
+tail-mark b h e =
     let field : bitAnd b 0xC0 ≡ b / 2 ^ 6 % 2 ^ 2 * 2 ^ 6 = and-high b 2 6 in
     let small : b / 2 ^ 6 % 2 ^ 2 ≡ b / 2 ^ 6 = mod-eq-of-lt (omega arith) in
     omega arith
@@ -77,7 +78,7 @@ module _ (a b c d : ℕ) (ha : a < 256) (hb : b < 256) (hc : c < 256) (hd : d < 
   abbrev high : ℕ
   high = d * 2 ^ 8 + c
 
-  -- F0 and then a byte under 90 have none of these bits
+  -- F0 and then a byte below 90 have all bits of this mask off
   overlong-off : Among 0xF0 0xF3 a → a < 0xF1 → Among 0x80 0xBF b → b < 0x90 → bitAnd (fourOf a b c d) 0x3003 ≡ 0
   overlong-off first l second k =
       let parts : bitAnd (high * 2 ^ 16 + low) 0x3003 ≡ bitAnd high 0 * 2 ^ 16 + bitAnd low 0x3003 =
@@ -94,15 +95,15 @@ module _ (a b c d : ℕ) (ha : a < 256) (hb : b < 256) (hc : c < 256) (hd : d < 
       let front = bytes-left b 0xC0 a 0xFC 0x80 0xF0 ha (omega arith) (omega arith) (halves .1) in
       let back = bytes-left d 0xC0 c 0xC0 0x80 0x80 hc (omega arith) (omega arith) (halves .0) in
       let first = first-mark a ha (front .1) in
-      let second = behind-mark b hb (front .0) in
+      let second = tail-mark b hb (front .0) in
       record {
         some = omega arith;
         asked = second-asked a b first second (λ l k. long (rw is (overlong-off first l second k)));
-        third = λ k. behind-mark c hc (back .1);
-        fourth = λ k. behind-mark d hd (back .0);
+        third = λ k. tail-mark c hc (back .1);
+        fourth = λ k. tail-mark d hd (back .0);
       }
 
-  -- the lower four of these bits are off in C0 and C1
+  -- C0 and C1 have all bits of this mask off
   low-off : Among 0xC0 0xDF a → a < 0xC2 → bitAnd (fourOf a b c d) 0x1E ≡ 0
   low-off first l =
       let parts : bitAnd (high * 2 ^ 16 + low) 0x1E ≡ bitAnd high 0 * 2 ^ 16 + bitAnd low 0x1E =
@@ -127,6 +128,6 @@ module _ (a b c d : ℕ) (ha : a < 256) (hb : b < 256) (hc : c < 256) (hd : d < 
       let halves = pairs-left high 0xC0E0 low 0xC0E0 0x80C0 0x80C0 (omega arith) (omega arith) (omega arith) (rw is at marks) in
       let front = bytes-left b 0xC0 a 0xE0 0x80 0xC0 ha (omega arith) (omega arith) (halves .1) in
       let back = bytes-left d 0xC0 c 0xE0 0x80 0xC0 hc (omega arith) (omega arith) (halves .0) in (
-        two-bytes a b (two-mark a ha (front .1)) (behind-mark b hb (front .0)) (λ l. one (rw is (low-off (two-mark a ha (front .1)) l))),
-        two-bytes c d (two-mark c hc (back .1)) (behind-mark d hd (back .0)) (λ l. other (rw is (high-off (two-mark c hc (back .1)) l))),
+        two-bytes a b (two-mark a ha (front .1)) (tail-mark b hb (front .0)) (λ l. one (rw is (low-off (two-mark a ha (front .1)) l))),
+        two-bytes c d (two-mark c hc (back .1)) (tail-mark d hd (back .0)) (λ l. other (rw is (high-off (two-mark c hc (back .1)) l))),
       )

@@ -41,7 +41,7 @@ pub leads-agree : (f g : ℕ → Lead) (a n : ℕ) → T (allFrom (λ b. sameLea
     → (b : ℕ) → a ≤ b → b < a + n → f b ≡ g b
 leads-agree f g a n t b h k = same-lead (f b) (g b) (at-each (λ b. sameLead (f b) (g b)) a n t b h k)
 
--- these bytes have one row
+-- all of the n bytes from a on have the row l
 pub row-is : (l : Lead) (a n : ℕ) → T (allFrom (λ b. sameLead l (leadOf b)) a n) → (b : ℕ) → a ≤ b → b < a + n → l ≡ leadOf b
 row-is l = leads-agree (λ b. l) leadOf
 
@@ -252,7 +252,7 @@ module _ (s : List ℕ) (at : ℕ) (l : Lead) (e : l ≡ leadOf (getD s at 0)) w
   lead-le : l .0 ≤ 4
   lead-le = rw e (lead-fits (getD s at 0) .0)
 
-  -- a character
+  -- a character of n bytes stands at `at`
   char-here : (n : ℕ) → 0 < n → SeenAt n → n ≡ charLen (drop at s)
   char-here n p h =
       sym (seen-char (drop at s) n p (simp (getD-drop, length-drop, add-zero) (rw e at h)))
@@ -260,7 +260,7 @@ module _ (s : List ℕ) (at : ℕ) (l : Lead) (e : l ≡ leadOf (getD s at 0)) w
   seen-at : (n : ℕ) → charLen (drop at s) ≡ suc n → SeenAt (suc n)
   seen-at n h = rw e (simp (getD-drop, length-drop, add-zero) at (char-seen (drop at s) n h))
 
-  -- none
+  -- no character stands at `at`
   none-here : ((n : ℕ) → SeenAt (suc n) → ⊥) → 0 ≡ charLen (drop at s)
   none-here f = go (charLen (drop at s)) refl
     where
@@ -268,7 +268,7 @@ module _ (s : List ℕ) (at : ℕ) (l : Lead) (e : l ≡ leadOf (getD s at 0)) w
       go zero h = sym h
       go (suc n) h = absurd (f n (seen-at n h))
 
-  -- all that the first byte asks for, and less
+  -- as many bytes stand there as the first one asks for, or fewer
   pub all-begun : (r : ℕ) → BegunAt s at l r → l .0 ≤ r → l .0 ≡ charLen (drop at s)
   all-begun r h k =
       elim (decLt 0 (l .0)) [

@@ -1,5 +1,5 @@
--- What the second number of a refusal tells. No character stands behind the longest valid prefix, so what is left is
--- mended exactly where all of it begins one.
+-- What the second value of a refusal tells. No character stands after the longest valid prefix, so further bytes mend what is
+-- left exactly where all of it begins a character.
 -- Assumes nothing.
 use Prim.Native.Nat.{ℕ, _+_, _≤_}
 use mathlib.Core.Path.{_≡_, refl, sym, ap, _∙_, subst}
@@ -34,12 +34,12 @@ faulty-few n left h =
     by-eq (λ (r : ℕ). r ≤ 3) n left (λ e. omega arith)
     λ d. by-eq (λ (r : ℕ). r ≤ 3) n 0 (λ e. omega arith) (λ e. h)
 
--- of two lists that, each with more behind it, are the same, the shorter begins the longer
+-- where x and y joined are u and v joined, the shorter of x and u begins the longer
 shorter-begins : (x y u v : List ℕ) → x ++ y ≡ u ++ v → length x ≤ length u → take (length x) u ≡ x
 shorter-begins x y u v e h =
     sym (take-append-le (length x) u v h) ∙ ap (take (length x)) (sym e) ∙ take-append-seam x y
 
--- ---- what is left behind the longest valid prefix
+-- ---- what is left after the longest valid prefix
 
 module _ (s : List ℕ) (n : ℕ) (l : Longest s n) where
   abbrev rest : List ℕ
@@ -55,13 +55,13 @@ module _ (s : List ℕ) (n : ℕ) (l : Longest s n) where
       ap validPrefix (sym (take-append-drop n s)) ∙ valid-append (take n s) (l .valid) rest in
       omega (arith, e, valid-longest rest k h u, longest-one s n l, length-take-le n s (l .within))
 
-  -- what begins a character is mended
+  -- where all that is left begins a character, further bytes mend the text
   mended : Begins rest → Mendable s
   mended (c, more, h, e) =
       let whole = utf8-append (take n s) (encodeScalar c) (l .valid) (scalar-utf8 c h) in
       (more, subst (λ (x : List ℕ). Utf8 x) (ap (λ (x : List ℕ). take n s ++ x) e ∙ parts more) whole)
 
-  -- and what is mended begins one
+  -- and where further bytes mend the text, all that is left begins a character
   rest-mended : (more : List ℕ) → Utf8 (s ++ more) → Utf8 (rest ++ more)
   rest-mended more u =
       let whole = utf8-iff (s ++ more) .1 u in
@@ -88,7 +88,7 @@ module _ (s : List ℕ) (n : ℕ) (l : Longest s n) where
             )
       ]
 
-  -- three bytes at most begin a character that is not there
+  -- at most three bytes of what is left begin a character, since no whole one stands there
   few-begin : (k : ℕ) → k ≤ length rest → Begins (take k rest) → k ≤ 3
   few-begin k h (c, more, sc, e) =
       elim (decLt k 4) [

@@ -12,7 +12,7 @@ use Rattle.text.specs.Lead.{row, leadOf, onesOf}
 use Rattle.text_classes.proofs.Conds.{by-lt, by-eq}
 use Rattle.text.proofs.LeadLaws.{leads-agree}
 
--- what a byte says that has n of them, two to four: n is its length, but for what the table leaves out
+-- what a byte with n leading ones, two to four, says: n is the length, except where the table leaves the byte out
 abbrev beyond : ℕ → ℕ → Lead
 beyond n a =
     cond (ltb a 0xC2) (cond (ltb a 0xC0) (row n 0x80 0xBF) (row 0 0 0))
@@ -23,7 +23,7 @@ beyond n a =
     (cond (ltb a 0xF5) (row n 0x80 0xBF)
     (cond (ltb a 0xF8) (row 0 0 0) (row n 0x80 0xBF)))))))
 
--- and what any byte says: none begins a character with one of them, nor with more than four
+-- what a byte with n leading ones says: no character begins with one of them, nor with more than four
 abbrev byOnes : ℕ → ℕ → Lead
 byOnes n a = cond (eqb n 0) (row 1 0 0) (cond (ltb n 2) (row 0 0 0) (cond (ltb 4 n) (row 0 0 0) (beyond n a)))
 
@@ -31,7 +31,7 @@ by-ones : (a : ℕ) → a < 256 → byOnes (onesOf a) a ≡ leadOf a
 unfolding leadOf leadingZeros
 by-ones a h = leads-agree (λ b. byOnes (onesOf b) b) leadOf 0 256 tt a (omega arith) h
 
--- ---- the tests of the code that has four bytes before it
+-- ---- the tests of the code that reads four bytes at once
 
 abbrev byTests : ℕ → Lead
 byTests a =
@@ -80,11 +80,11 @@ module _ (a : ℕ) (h : a < 256) where
 
 -- ---- the cases of the code
 
--- not a byte that has an arm of its own
+-- a is not one of the bytes that have an arm of their own in `lead_of`
 abbrev pub Other : ℕ → Type 0
 Other a = (((Unit × (a ≡ 0xE0 → ⊥)) × (a ≡ 0xED → ⊥)) × (a ≡ 0xF0 → ⊥)) × (a ≡ 0xF4 → ⊥)
 
--- one that has
+-- a is the byte k of an arm
 pub ones-key : (a k low high : ℕ) → row (onesOf k) low high ≡ leadOf k → a ≡ k → row (onesOf a) low high ≡ leadOf a
 ones-key a k low high f e = rw e f
 

@@ -81,7 +81,7 @@ unfolding scalarsFrom charLen guess encodeScalar
 scalars-more [] n h = absurd (omega arith)
 scalars-more (a ∷ s) n h = rw h (ap (λ (l : List ℕ). guess (a ∷ s) ∷ l) (from-drop n s))
 
--- a character in front
+-- the first character is that of c
 pub scalars-char : (c : ℕ) → Scalar c → (t : List ℕ) → scalars (encodeScalar c ++ t) ≡ c ∷ scalars t
 scalars-char c h t = go (length (encodeScalar c)) refl
   where
@@ -96,7 +96,7 @@ scalars-encodes [] h t = refl
 scalars-encodes (c ∷ cs) h t =
     rw (append-assoc (encodeScalar c) (encodes cs) t, scalars-char c (h .0) (encodes cs ++ t), scalars-encodes cs (h .1) t)
 
--- they are scalar values, and their encodings stand in front
+-- cs are scalar values, and s begins with their encodings
 pub record Front (s cs : List ℕ) : Type 0 where
   pub each : All Scalar cs
   pub rest : List ℕ
@@ -157,7 +157,7 @@ valid-le s = omega (arith, ap length (front s .split), length-append (encodes (s
 pub valid-is : (s : List ℕ) → Utf8 (take (validPrefix s) s)
 valid-is s = (scalars s, front s .each, sym (take-valid s))
 
--- what is valid in front is passed over
+-- a valid prefix is passed over
 pub valid-append : (p : List ℕ) → Utf8 p → (t : List ℕ) → validPrefix (p ++ t) ≡ length p + validPrefix t
 unfolding validPrefix
 valid-append p (cs, h, e) t =

@@ -16,11 +16,11 @@ use Rattle.text.specs.Utf8Read.{ascii}
 
 -- ---- two parts, the lower of k bits
 
--- joined by bits, where a word of n values has room for both
+-- the bits of both joined, where a number below n has room for them
 pub joined : (k n a b : ℕ) → a < 2 ^ k → b * 2 ^ k < n → bitOr a ((b * 2 ^ k) % n) ≡ b * 2 ^ k + a
 joined k n a b ha hb = ap (λ (x : ℕ). bitOr a x) (mod-eq-of-lt hb) ∙ or-shifted-r b k a ha
 
--- where they have no bit of a mask together, neither has
+-- where both together have no bit of a mask, neither has one
 off : (k a b r s : ℕ) → r < 2 ^ k → s < 2 ^ k → bitAnd (a * 2 ^ k + r) (b * 2 ^ k + s) ≡ 0 → (bitAnd a b ≡ 0) × (bitAnd r s ≡ 0)
 off k a b r s hr hs e =
     let sum = sym (and-block k a b r s hr hs) ∙ e in
@@ -70,7 +70,7 @@ module _ (s : List ℕ) (i : ℕ) (h : i + 8 ≤ length s) (byte : (k : ℕ) →
   one : (j : ℕ) → j < 8 → getD s (i + j) 0 < 0x80 → Block ascii s i j → Block ascii s i (j + 1)
   one j l b passed = block-step ascii s i j (omega arith) (lt-ltb _ _ b) passed
 
-  -- a pair behind those that passed, at the places x and y
+  -- where j bytes passed, the pair after them, at the places x and y
   two : (j x y : ℕ) → j < 7 → x ≡ i + j → y ≡ i + (j + 1) → bitAnd (getD s y 0 * 2 ^ 8 + getD s x 0) 0x8080 ≡ 0
       → Block ascii s i j → Block ascii s i (j + 2)
   two j x y l ex ey e passed =

@@ -14,7 +14,7 @@ checkOf s =
     cond (ltb limit (length s)) (Refused TooLong)
     (cond (eqb (validPrefix s) (length s)) Valid (Refused (NotUtf8 (validPrefix s) (faultLen (drop (validPrefix s) s)))))
 
--- bytes in a run of four, zeros behind them
+-- bytes at the front of an array of four, zeros after them
 abbrev pub padded : List ℕ → Encoded
 padded bytes = record { len = length bytes; bytes = bytes ++ replicate (4 - length bytes) 0 }
 
@@ -22,7 +22,7 @@ padded bytes = record { len = length bytes; bytes = bytes ++ replicate (4 - leng
 unfoldable pub encodedOf : ℕ → Encoded
 encodedOf c = cond (isScalar c) (padded (encodeScalar c)) (padded [])
 
--- bytes that begin the encoding of some scalar value: others, put behind them, make it whole
+-- p begins the encoding of some scalar value: `more`, appended to p, makes it whole
 abbrev pub Begins : List ℕ → Type 0
 Begins p = (c : ℕ) × (more : List ℕ) × Scalar c × (encodeScalar c ≡ p ++ more)
 

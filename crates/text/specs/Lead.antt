@@ -28,7 +28,7 @@ leadOf a =
     (cond (ltb a 0xF5) (row 4 0x80 0x8F)
     (row 0 0 0))))))))))
 
--- from the first number to the second, both counted in
+-- b is one of low to high, both included
 abbrev pub Among : ℕ → ℕ → ℕ → Type 0
 Among low high b = (low ≤ b) × (b ≤ high)
 
@@ -40,7 +40,7 @@ onesOf a = leadingZeros 8 (255 - a)
 abbrev pub Asked : ℕ → ℕ → ℕ → Type 0
 Asked a n b = (leadOf a .0 ≡ n) × Among (leadOf a .1) (leadOf a .2) b
 
--- a character of n bytes stands in front of four: a, b, c and d
+-- the four bytes a, b, c and d begin with a character of n bytes
 pub record Character (a b c d n : ℕ) : Type 0 where
   pub some : (2 ≤ n) × (n ≤ 4)
   pub asked : Asked a n b

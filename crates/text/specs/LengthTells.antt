@@ -1,4 +1,4 @@
--- STATEMENT. What the second number tells that goes with a refusal. Proved in proofs/MendLaws.antt.
+-- STATEMENT. What the second value tells that is returned with a refusal. Proved in proofs/MendLaws.antt.
 -- Assumes nothing.
 use Prim.Native.Nat.{ℕ, _≤_}
 use mathlib.Core.{Path._≡_, Logic._↔_, List.List, List._++_}

@@ -24,7 +24,7 @@ abbrev pub encodes : List ℕ → List ℕ
 encodes [] = []
 encodes (c ∷ cs) = encodeScalar c ++ encodes cs
 
--- P holds of each
+-- P holds of each number of a list
 abbrev pub All : (ℕ → Type 0) → List ℕ → Type 0
 All P [] = Unit
 All P (x ∷ xs) = P x × All P xs

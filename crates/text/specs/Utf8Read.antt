@@ -36,7 +36,7 @@ unfoldable pub charLen : List ℕ → ℕ
 charLen s =
     cond (isScalar (guess s) && starts (encodeScalar (guess s)) s) (length (encodeScalar (guess s))) 0
 
--- the value of a character of n bytes and then those of f, or none where n is 0
+-- where a character of n bytes with the value c begins: c and then the values that f gives; nothing where n is 0
 abbrev pub character : ℕ → ℕ → (ℕ → List ℕ) → List ℕ
 character zero c f = []
 character (suc n) c f = c ∷ f n
@@ -54,7 +54,7 @@ scalars s = scalarsFrom zero s
 unfoldable pub validPrefix : List ℕ → ℕ
 validPrefix s = length (encodes (scalars s))
 
--- from place `at` on, whole characters stand up to place r, and none begins at `at` where r is `at`
+-- whole characters stand from `at` up to r, and where r is `at` none begins at `at`
 pub record CharsPassed (s : List ℕ) (at r : ℕ) : Type 0 where
   pub within : r ≤ length s
   pub whole : at + validPrefix (drop at s) ≡ r + validPrefix (drop r s)

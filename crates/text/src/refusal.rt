@@ -6,10 +6,10 @@ ghost use Rattle.text.specs.Refusals.{refusalNumber, refusalValue, refus
 // The most bytes that a document or a text may have.
 pub const LIMIT: usize = 16777216;
 
-// Why a call did not answer; beside each, its number and what the number returned says. Only the
-// first returns a second one.
+// Why a call did not answer. Beside each stands its number, and after the semicolon what the value
+// returned with it is. Only the first returns a second value.
 pub enum Refusal {
-    // 1: not UTF-8; the length of the longest valid prefix, and that of the faulty sequence behind it,
+    // 1: not UTF-8; the length of the longest valid prefix, and that of the faulty sequence after it,
     // 0 where the text ends inside a character
     NotUtf8 { valid: usize, length: usize },
     // 2: more bytes than the limit; the limit

@@ -20,7 +20,7 @@ pub enum Utf8Check {
     Refused(Refusal),
 }
 
-// Is all of s UTF-8, and within the limit?
+// Is all of `s` UTF-8, and within the limit?
 pub fn check_utf8(s: &[u8]) -> Utf8Check
     ensures answer { λ r. ⌜ r ≡ checkOf (now (s .entry)) ⌝ }
     ensures number { λ r. ⌜ checkNumber r ≡ checkRefusal (now (s .entry)) ⌝ }
@@ -42,8 +42,8 @@ pub fn check_utf8(s: &[u8]) -> Utf8Check
     Utf8Check::Valid
 }
 
-// The place behind the character at `at`, behind all of them where it begins a run of ASCII, and
-// `at` itself where no character begins there.
+// The place after the character at `at`, or after several that are passed at once, as a run of ASCII
+// is; `at` itself where no character begins there.
 fn passed(s: &[u8], at: usize) -> usize
     requires { ⌜ at < length (now s) ⌝ }
     ensures { λ r. ⌜ CharsPassed (now (s .entry)) at r ⌝ }
@@ -51,16 +51,16 @@ fn passed(s: &[u8], at: usize) -> usize
     if s[at] < 0x80 {
         return ascii_run(s, at);
     }
-    let behind = chars_run(s, at);
-    if at < behind {
-        return behind;
+    let after = chars_run(s, at);
+    if at < after {
+        return after;
     }
     at + char_at(s, at)
 }
 
-// Over whole characters as long as four bytes are there to be read, so that none is asked for that is not there; up to
-// eight in a row of ASCII, which `ascii_run` is quicker over. The count of leading ones is a character's length, and only
-// compared with constants, so that the compiler makes a comparison of each.
+// Passes over whole characters while four bytes are left to be read, so that no byte past the end is asked for. Stops
+// before eight ASCII bytes in a row, over which `ascii_run` is quicker. The count of leading ones is a character's length; it
+// is compared with constants only, so that the compiler compares the byte itself instead.
 fn chars_run(s: &[u8], start: usize) -> usize
     requires { ⌜ start ≤ length (now s) ⌝ }
     ensures { λ r. ⌜ Along (now (s .entry)) start r ⌝ }
@@ -101,7 +101,7 @@ fn chars_run(s: &[u8], start: usize) -> usize
     i
 }
 
-// Over characters of four bytes up to the place `last`, where another could begin: they come in rows, as emoji do.
+// Passes over characters of four bytes that begin at `last` at the latest: they come in rows, as emoji do.
 fn fours_run(s: &[u8], start: usize, last: usize) -> usize
     requires { ⌜ (start ≤ length (now s)) × (last + 4 ≤ length (now s)) ⌝ }
     ensures { λ r. ⌜ Along (now (s .entry)) start r ⌝ }
@@ -116,9 +116,9 @@ fn fours_run(s: &[u8], start: usize, last: usize) -> usize
     i
 }
 
-// Whether two characters of two bytes stand at i: the marks of all four are asked for at once, and then neither is overlong
-// where a bit is on that C0 and C1 do not have. Whether a second one begins there is asked first, for text in which they
-// stand alone.
+// Whether two characters of two bytes stand at `i`: the marks of all four bytes are tested at once, and then neither
+// character is overlong where a bit is on that C0 and C1 do not have. Whether a second one can begin there is tested first,
+// for texts in which such characters stand alone.
 fn is_two_twice(s: &[u8], i: usize) -> bool
     requires { ⌜ i + 4 ≤ length (now s) ⌝ }
     ensures { λ r. ⌜ (r ≡ true → CharacterAt (now (s .entry)) i 2 × CharacterAt (now (s .entry)) (i + 2) 2) ⌝ }
@@ -136,7 +136,7 @@ fn is_two_twice(s: &[u8], i: usize) -> bool
     word & 0x1E_0000 != 0
 }
 
-// The number that four bytes from i on make together, which the compiler reads at once.
+// The number that four bytes from `i` on make together, which the compiler reads at once.
 fn word_at(s: &[u8], i: usize) -> u64
     requires { ⌜ i + 4 ≤ length (now s) ⌝ }
     ensures { λ r. ⌜ r ≡ fourAt (now (s .entry)) i ⌝ }
@@ -144,8 +144,8 @@ fn word_at(s: &[u8], i: usize) -> u64
     pair(s[i], s[i + 1]) | (pair(s[i + 2], s[i + 3]) << 16)
 }
 
-// Whether a character of four bytes stands at i that begins with F0 to F3: the marks of all four are asked for at once,
-// and then it is overlong only where the first is F0 and the second under 90, which have all of some bits off.
+// Whether a character of four bytes stands at `i` that begins with F0 to F3: the marks of all four bytes are tested at once,
+// and then it is overlong only where the first is F0 and the second below 90, which have all bits of one mask off.
 fn is_four_word(s: &[u8], i: usize) -> bool
     requires { ⌜ i + 4 ≤ length (now s) ⌝ }
     ensures { λ r. ⌜ (r ≡ true → CharacterAt (now (s .entry)) i 4) ⌝ }
@@ -220,7 +220,7 @@ fn is_second_of_four(a: u8, b: u8) -> bool
 }
 
 // The place of the first byte from `start` on that is not ASCII, or the end. Most runs between other characters are
-// short: only behind 32 bytes are blocks tried.
+// short: only after 32 bytes are blocks tried.
 fn ascii_run(s: &[u8], start: usize) -> usize
     requires { ⌜ start ≤ length (now s) ⌝ }
     ensures { λ r. ⌜ r ≡ start + run ascii (drop start (now (s .entry))) ⌝ }
@@ -240,7 +240,7 @@ fn ascii_run(s: &[u8], start: usize) -> usize
     i
 }
 
-// Words of eight ASCII bytes, passed over, as many as `most` at the most.
+// Passes over words of eight ASCII bytes, `most` of them at the most.
 fn ascii_words(s: &[u8], start: usize, most: usize) -> usize
     requires { ⌜ start ≤ length (now s) ⌝ }
     ensures { λ r. ⌜ SameEnd (run ascii) (now (s .entry)) start r ⌝ }
@@ -257,7 +257,7 @@ fn ascii_words(s: &[u8], start: usize, most: usize) -> usize
     i
 }
 
-// Whether eight bytes from i on are there, and are ASCII: no high bit is on in the number that they make together,
+// Whether eight bytes from `i` on are there, and are ASCII: no high bit is on in the number that they make together,
 // which the compiler reads at once.
 fn is_ascii_word(s: &[u8], i: usize) -> bool
     requires { ⌜ i ≤ length (now s) ⌝ }
@@ -277,7 +277,7 @@ fn pair(a: u8, b: u8) -> u64
     (a as u64) | ((b as u64) << 8)
 }
 
-// Blocks of n ASCII bytes, passed over.
+// Passes over blocks of `n` ASCII bytes.
 fn ascii_blocks(s: &[u8], start: usize, n: usize) -> usize
     requires { ⌜ (start ≤ length (now s)) × (0 < n) ⌝ }
     ensures { λ r. ⌜ SameEnd (run ascii) (now (s .entry)) start r ⌝ }
@@ -292,7 +292,7 @@ fn ascii_blocks(s: &[u8], start: usize, n: usize) -> usize
     i
 }
 
-// Whether n bytes from i on are ASCII: one test of all their bits together, and no branch among
+// Whether `n` bytes from `i` on are ASCII: one test of all their bits together, and no branch among
 // them, so that the compiler takes sixteen at once.
 fn ascii_block(s: &[u8], i: usize, n: usize) -> bool
     requires { ⌜ i + n ≤ length (now s) ⌝ }
@@ -389,7 +389,7 @@ fn is_among(b: u8, low: u8, high: u8) -> bool
 struct Lead(usize, u8, u8);
 
 // Beyond ASCII the length is the count of leading ones: the leading zeros of the complement. 80 to BF
-// have one, and F8 to FF more than four: none begins so. What table 3-7 of the Unicode standard
+// have one, and F8 to FF more than four: no character begins with these. What table 3-7 of the Unicode standard
 // leaves out is taken out then: overlong forms, surrogates and values over 10FFFF.
 fn lead_of(a: u8) -> Lead
     ensures { λ r. ⌜ r ≡ leadOf a ⌝ }
@@ -474,7 +474,7 @@ fn tail(c: u32) -> u8
     ((c & 0x3F) | 0x80) as u8
 }
 
-// Is c a scalar value: any code point but a surrogate?
+// Is `c` a scalar value: any code point but a surrogate?
 pub fn is_scalar(c: u32) -> bool
     ensures { λ r. ⌜ r ≡ isScalar c ⌝ }
 {

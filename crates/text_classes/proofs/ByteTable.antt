@@ -48,7 +48,7 @@ pub classes-agree : (f g : ℕ → Bool) (a n : ℕ) → T (allFrom (λ b. same 
     → (b : ℕ) → a ≤ b → b < a + n → f b ≡ g b
 classes-agree f g a n t b l h = same-is (f b) (g b) (at-each (λ b. same (f b) (g b)) a n t b l h)
 
--- a class has the value v at each of them
+-- a class has the value v at each of the n bytes from a on
 pub class-is : (v : Bool) (f : ℕ → Bool) (a n : ℕ) → T (allFrom (λ b. same v (f b)) a n)
     → (b : ℕ) → a ≤ b → b < a + n → v ≡ f b
 class-is v = classes-agree (λ b. v)
@@ -71,7 +71,7 @@ keys-are v f (k ∷ j ∷ ks) t (inr o) =
     let others = and-right (same v (f k)) (allOf (λ b. same v (f b)) (j ∷ ks)) t in
     keys-are v f (j ∷ ks) others o
 
--- and at each of the n bytes from a on, but for the arm's
+-- a class has the value v at each of the n bytes from a on, except the arm's bytes ks
 pub rest-is : (v : Bool) (f : ℕ → Bool) (ks : List ℕ) (a n : ℕ) → T (allFrom (λ b. hasKey ks b || same v (f b)) a n)
     → (b : ℕ) → (OneOf ks b → ⊥) → a ≤ b → b < a + n → v ≡ f b
 rest-is v f ks a n t b o l h = go (hasKey ks b) (hit ks b) (at-each (λ b. hasKey ks b || same v (f b)) a n t b l h)

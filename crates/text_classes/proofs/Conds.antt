@@ -16,7 +16,7 @@ cond-case P false f g = g refl
 pub by-lt : {A : Type 0} (P : A → Type 0) (a k : ℕ) {x y : A} → (a < k → P x) → (k ≤ a → P y) → P (cond (ltb a k) x y)
 by-lt P a k f g = cond-case P (ltb a k) (λ e. f (ltb-true a k e)) (λ e. g (ltb-false a k e))
 
--- and where it is that they are equal
+-- the same where the test asks whether two numbers are equal
 pub by-eq : {A : Type 0} (P : A → Type 0) (a k : ℕ) {x y : A} → (a ≡ k → P x) → ((a ≡ k → ⊥) → P y) → P (cond (eqb a k) x y)
 by-eq P a k f g = cond-case P (eqb a k) (λ e. f (eqb-true a k e)) (λ e. g (eqb-false a k e))
 
@@ -25,7 +25,7 @@ pub of-choice : {A B : Type 0} (f : A → B) (t : Bool) {x y : A} {m n : B} → 
 of-choice f true p q = p
 of-choice f false p q = q
 
--- a test is not both
+-- a test is not both true and false
 pub not-both : {t : Bool} {P : Type 0} → t ≡ true → t ≡ false → P
 not-both e f = absurd (false≢true (sym f ∙ e))
 

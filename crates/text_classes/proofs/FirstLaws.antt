@@ -28,7 +28,7 @@ module _ (p : ℕ → Bool) where
     | no h ↦ not-both t (first-beyond s i (omega arith))
   ]
 
-  -- of a test that 0 does not pass, with which `getD` fills up
+  -- for a test that 0 does not pass, which is what `getD` gives past the end
   pub first-at : p 0 ≡ false → (s : List ℕ) (i : ℕ) → firstIs p (drop i s) ≡ p (getD s i 0)
   first-at none s i = elim (decLt i (length s)) [
     | yes h ↦ first-there s i h
@@ -37,7 +37,7 @@ module _ (p : ℕ → Bool) where
         first-beyond s i (omega arith) ∙ sym (ap p filled ∙ none)
   ]
 
-  -- only the bytes up to the place count
+  -- a list that is cut after the place has the same byte there
   pub first-take : (s : List ℕ) (n i : ℕ) → i < n → firstIs p (drop i (take n s)) ≡ firstIs p (drop i s)
   first-take s zero i h = absurd (omega arith)
   first-take [] (suc n) i h = refl

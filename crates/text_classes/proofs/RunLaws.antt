@@ -43,7 +43,7 @@ module _ (p : ℕ → Bool) (s : List ℕ) (i : ℕ) where
       let same : i ≡ i + 0 = omega arith in
       omega (arith, ap (λ (k : ℕ). run p (drop k s)) same)
 
-  -- and the one behind them too
+  -- where j bytes pass, and the byte after them too, j + 1 bytes do
   pub block-step : (j : ℕ) → i + j < length s → p (getD s (i + j) 0) ≡ true → Block p s i j → Block p s i (j + 1)
   block-step j h t b =
       let same : i + j + 1 ≡ i + (j + 1) = omega arith in

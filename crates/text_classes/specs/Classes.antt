@@ -4,7 +4,7 @@ use Prim.Native.Nat.{ℕ}
 use mathlib.Core.{Bool.Bool, Bool._&&_, Bool._||_}
 use lib.{Dec.leb, Dec.eqb}
 
--- a to e, both counted
+-- b is one of a to e, both included
 abbrev pub among : ℕ → ℕ → ℕ → Bool
 among a e b = leb a b && leb b e
 

@@ -1,4 +1,4 @@
--- RULE. Bytes that pass a test: how many in front, and whether the first does.
+-- RULE. Bytes that pass a test: how many at the front do, and whether the first does.
 use Prim.Native.Nat.{ℕ, suc}
 use mathlib.Core.{Bool.Bool, Bool.false, Bool.cond, List.List, List.[], List._∷_}
 use lib.{Dec.eqb}

@@ -1,5 +1,6 @@
-// The byte sets that the Rust tests with `contains_token`, each under its name there, and the bytes
-// inside a character. Rule: specs/Classes.antt, a definition for each.
+// The byte sets that toml_parser, the Rust library that this project follows, tests with
+// `contains_token`, each under its name there; and the bytes inside a character.
+// Rule: specs/Classes.antt, a definition for each.
 ghost use mathlib.Core.Path.{_≡_};
 ghost use Rattle.text_classes.specs.Classes.{wschar, tokenStart, nonAscii, literalChar, mllChar, basicUnescaped, mlbUnescaped, digit, hexdig, unquotedChar, continuation};
 
@@ -13,9 +14,10 @@ pub fn is_wschar(b: u8) -> bool
     }
 }
 
-// TOKEN_START: the bytes below 64 are the bits of a number, since a loop over a document asks this
-// of every byte of an atom, and a shift is one test where a match is a jump. The first number has the bits of
-// all of them by the low six bits of the byte: most bytes of an atom are told by it alone.
+// TOKEN_START. A loop over a document asks this of every byte of an atom, so the bits of two numbers
+// answer it: a shift is one test, where a match is a jump. The first number has bit `b & 63` on for
+// each byte `b` of the set, and most bytes of an atom are told by it alone. The second has bit `b` on
+// for each byte `b` of the set below 64.
 pub fn is_token_start(b: u8) -> bool
     ensures { λ r. ⌜ r ≡ tokenStart b ⌝ }
 {

@@ -1,4 +1,4 @@
--- `begun` is right because each return stands behind the tests of the bytes before it.
+-- `begun` is right because before each return the bytes that it counts have been tested.
 -- Assumes nothing.
 use Prim.Native.Nat.{ℕ, _+_}
 use lib.ListN.{getD}

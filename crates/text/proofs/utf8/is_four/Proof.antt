@@ -1,4 +1,4 @@
--- `is_four` is right because each byte behind the first is as it asks.
+-- `is_four` is right because each byte after the first is as the first asks.
 -- Assumes nothing.
 use borrow.Author.Needs.{needs}
 use borrow.Author.Tests.{not-false}
