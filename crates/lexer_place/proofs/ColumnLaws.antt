@@ -59,7 +59,7 @@ first-turn c k = go (parts c)
         low true = refl
         low false = omega arith
 
--- its later bytes leave the column as it is
+-- a character's bytes after the first leave the column as it is
 tails-pass : (ts s : List ℕ) (n m c : ℕ) → All Tail ts → m ≡ n - length ts
     → columnBehind c (take n (ts ++ s)) ≡ columnBehind c (take m s)
 unfolding columnBehind
@@ -72,7 +72,7 @@ tails-pass (t ∷ ts) s zero m c h e =
 tails-pass (t ∷ ts) s (suc n) m c h e =
     rw (tail-turn t c (h .0)) (tails-pass ts s n m c (h .1) (omega arith))
 
--- one character, some of whose bytes stand before the offset
+-- a character, of which at least one byte stands before the offset, is counted once
 abbrev CharPasses : ℕ → ℕ → ℕ → List ℕ → Type 0
 CharPasses c n k s =
     columnBehind (1 + k) (take (suc n) (encodeScalar c ++ s))
@@ -87,7 +87,7 @@ char-passes c n k s = go (parts c) (first-turn c k)
         let left = suc n - length (p .first ∷ p .tails) in
         rw (p .whole, e) (tails-pass (p .tails) s n left (1 + counted c k) (p .each) (omega arith))
 
--- ---- scalar values one behind another
+-- ---- joined encodings
 
 begun-more : (c n : ℕ) (cs : List ℕ) → begun (suc n) (c ∷ cs) ≡ c ∷ begun (suc n - length (encodeScalar c)) cs
 unfolding begun
@@ -119,14 +119,14 @@ drop-take-mark a b c s (suc (suc (suc n))) =
     let same : n ≡ suc (suc (suc n)) - 3 = omega arith in
     ap (λ (k : ℕ). take k s) same
 
-behind-mark : (cs : List ℕ) (n : ℕ) → columnOf (encodes (0xFEFF ∷ cs)) n ≡ 1 + onLine 0 (begun (n - 3) cs)
+after-mark : (cs : List ℕ) (n : ℕ) → columnOf (encodes (0xFEFF ∷ cs)) n ≡ 1 + onLine 0 (begun (n - 3) cs)
 unfolding startOf encodeScalar
-behind-mark cs n = ap (columnBehind 1) (drop-take-mark 0xEF 0xBB 0xBF (encodes cs) n) ∙ columns cs (n - 3) 0
+after-mark cs n = ap (columnBehind 1) (drop-take-mark 0xEF 0xBB 0xBF (encodes cs) n) ∙ columns cs (n - 3) 0
 
 marked : (cs : List ℕ) (n : ℕ) → Means (0xFEFF ∷ cs) n
 unfolding encodeScalar
-marked cs zero = behind-mark cs zero ∙ rw (begun-none cs, begun-none (0xFEFF ∷ cs)) refl
-marked cs (suc n) = behind-mark cs (suc n) ∙ rw (begun-more 0xFEFF n cs) (size n)
+marked cs zero = after-mark cs zero ∙ rw (begun-none cs, begun-none (0xFEFF ∷ cs)) refl
+marked cs (suc n) = after-mark cs (suc n) ∙ rw (begun-more 0xFEFF n cs) (size n)
   where
     size : (n : ℕ) → 1 + onLine 0 (begun (suc n - 3) cs) ≡ 1 + onLine 0 (begun (suc n - length (encodeScalar 0xFEFF)) cs)
     size n = refl
@@ -137,7 +137,7 @@ mark-value s t =
     let m = mark-bytes s t in
     rw (m .0, m .1, m .2)
 
--- no other scalar value looks like it
+-- the encoding of another scalar value does not begin like a byte order mark
 unmarked-start : (c : ℕ) (s : List ℕ) → Scalar c → (c ≡ 0xFEFF → ⊥) → startOf (encodeScalar c ++ s) ≡ 0
 unfolding startOf
 unmarked-start c s h other =

@@ -31,16 +31,16 @@ module _ (s : List ℕ) (i : ℕ) (h : i < length s) where
       → columnBehind c (drop i s) ≡ columnBehind c (drop (i + 1) s)
   column-inside c e t = column-at c c (rw (ne-eqb (getD s i 0) 10 e, t))
 
--- the column behind an LF does not depend on what stands before
+-- the column after an LF does not depend on what stands before it
 lf-resets : (k c : ℕ) (s : List ℕ) → getD s k 0 ≡ 10 → columnBehind c s ≡ columnBehind 1 (drop (suc k) s)
 unfolding columnBehind
 lf-resets k c [] e = absurd (omega arith)
 lf-resets zero c (b ∷ s) e = ap (λ (n : ℕ). columnBehind n s) (rw (eq-eqb b 10 e))
 lf-resets (suc k) c (b ∷ s) e = lf-resets k (turned b c) s e
 
-pub column-behind-lf : (s : List ℕ) (a i c : ℕ) → a < i → getD s (i - 1) 0 ≡ 10
+pub column-after-lf : (s : List ℕ) (a i c : ℕ) → a < i → getD s (i - 1) 0 ≡ 10
     → columnBehind c (drop a s) ≡ columnBehind 1 (drop i s)
-column-behind-lf s a i c h e =
+column-after-lf s a i c h e =
     let k = i - 1 - a in
     let same : a + k ≡ i - 1 = omega arith in
     let on : a + suc k ≡ i = omega arith in
@@ -62,7 +62,7 @@ abbrev pub WithoutLf : List ℕ → Type 0
 WithoutLf [] = Unit
 WithoutLf (b ∷ s) = (b ≡ 10 → ⊥) × WithoutLf s
 
--- without an LF it goes on by the characters that begin
+-- through bytes without an LF the column grows by the characters that begin in them
 pub column-plain : (s : List ℕ) (c : ℕ) → WithoutLf s → columnBehind c s ≡ c + begins s
 unfolding columnBehind begins
 column-plain [] c h = omega arith
@@ -73,7 +73,7 @@ column-plain (b ∷ s) c h = rw (ne-eqb b 10 (h .0)) (go (continuation b) (λ k.
     go true ih = ih c
     go false ih = ih (c + 1) ∙ omega arith
 
--- behind the last LF it is 1 plus the characters that begin since
+-- after the last LF the column is 1 plus the characters that begin since
 pub column-since : (s t : List ℕ) (c : ℕ) → WithoutLf t → columnBehind c (s ++ 10 ∷ t) ≡ 1 + begins t
 unfolding columnBehind
 column-since [] t c h = column-plain t 1 h

@@ -8,13 +8,13 @@ use Rattle.text.specs.declared.{refusal.Refusal.the-variants.TooLong, refusal.R
 use Rattle.lexer.specs.{Lines.lineOf, Tokens.startOf}
 use Rattle.lexer_place.specs.declared.{Position.Position, Position.the-variants.At, Position.the-variants.Refused}
 
--- the column behind some bytes, from the column c before them: an LF sets it to 1, a byte inside a character, 80 to BF,
+-- the column after some bytes, where c is the column before them: an LF sets it to 1, a byte inside a character, 80 to BF,
 -- adds nothing, and any other byte, with which a character begins, adds one
 unfoldable pub columnBehind : ℕ → List ℕ → ℕ
 columnBehind c [] = c
 columnBehind c (b ∷ s) = columnBehind (cond (eqb b 0x0A) 1 (cond (continuation b) c (c + 1))) s
 
--- the column is 1 plus the characters that begin before it on its line; a byte order mark at byte 0 is not counted
+-- the column of `offset` is 1 plus the characters that begin before it on its line; a byte order mark at byte 0 is not counted
 abbrev pub columnOf : List ℕ → ℕ → ℕ
 columnOf doc offset = columnBehind 1 (drop (startOf doc) (take offset doc))
 
@@ -28,17 +28,17 @@ positionAnswer doc offset =
 -- What a column says of a document that is UTF-8: it counts scalar values. `column-means` in proofs/ColumnLaws.antt proves it,
 -- over what follows.
 
--- the scalar values, of those that are encoded one behind another, whose encodings begin before an offset
+-- of scalar values whose encodings are joined, those whose encodings begin before the offset n
 unfoldable pub begun : ℕ → List ℕ → List ℕ
 begun n [] = []
 begun n (c ∷ cs) = cond (ltb 0 n) (c ∷ begun (n - length (encodeScalar c)) cs) []
 
--- without a byte order mark at the front, U+FEFF
+-- scalar values without a byte order mark, U+FEFF, at the front
 abbrev pub unmarked : List ℕ → List ℕ
 unmarked [] = []
 unmarked (c ∷ cs) = cond (eqb c 0xFEFF) cs (c ∷ cs)
 
--- how many stand behind the last LF, where n on its line stand before them
+-- how many scalar values stand after the last LF, where n stand before them on the first line
 unfoldable pub onLine : ℕ → List ℕ → ℕ
 onLine n [] = n
 onLine n (c ∷ cs) = onLine (cond (eqb c 0x0A) 0 (n + 1)) cs

@@ -12,8 +12,8 @@ use Rattle.lexer_place.specs.declared.{SpanCheck.SpanCheck, SpanCheck.th
 abbrev pub inside : List ℕ → ℕ → Bool
 inside doc at = firstIs continuation (drop at doc)
 
--- an end beyond the document, a start after the end, or either inside a character; a start beyond the document is
--- after the end, or the end is beyond too
+-- the end is beyond the document, the start is after the end, or either is inside a character; a start beyond the document is
+-- after the end, or the end is beyond the document too
 abbrev pub misplaced : List ℕ → Span → Bool
 misplaced doc s = ltb (length doc) (s .end) || (ltb (s .end) (s .start) || (inside doc (s .start) || inside doc (s .end)))
 

@@ -20,7 +20,7 @@ abbrev pub spanValue : SpanCheck → ℕ
 spanValue Whole = 0
 spanValue (Refused r) = refusalValue r
 
--- what they come to for a document and a span: 2 with the limit, 6 with the document's length, else 0
+-- the two numbers for a document and a span: 2 with the limit, 6 with the document's length, else 0
 abbrev pub spanRefusal : List ℕ → Span → ℕ
 spanRefusal doc s = cond (ltb limit (length doc)) 2 (cond (misplaced doc s) 6 0)
 
@@ -42,7 +42,7 @@ abbrev pub positionLine : Position → ℕ
 positionLine (At line column) = line
 positionLine (Unplaced r) = 0
 
--- what the first two come to for a document and an offset: 2 with the limit, 6 with the document's length, else 0
+-- the first two for a document and an offset: 2 with the limit, 6 with the document's length, else 0
 abbrev pub positionRefusal : List ℕ → ℕ → ℕ
 positionRefusal doc offset = cond (ltb limit (length doc)) 2 (cond (ltb (length doc) offset) 6 0)
 

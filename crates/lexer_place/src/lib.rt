@@ -42,7 +42,7 @@ pub fn check_span(doc: &[u8], span: Span) -> SpanCheck
     SpanCheck::Whole
 }
 
-// Does a place lie inside a character, by the byte there? The end does not.
+// Does the place `at` lie inside a character? The byte there tells; the end of the document does not lie inside one.
 fn is_inside(doc: &[u8], at: usize) -> bool
     requires { ⌜ at ≤ length (now doc) ⌝ }
     ensures { λ r. ⌜ r ≡ inside (now (doc .entry)) at ⌝ }
@@ -72,7 +72,7 @@ pub enum Position {
     Refused(Refusal),
 }
 
-// The line and column of an offset, which may be the end.
+// The line and column of `offset`, which may be the document's end.
 pub fn position_of(doc: &[u8], offset: usize) -> Position
     ensures answer { λ r. ⌜ r ≡ positionAnswer (now (doc .entry)) offset ⌝ }
     ensures number { λ r. ⌜ positionNumber r ≡ positionRefusal (now (doc .entry)) offset ⌝ }
@@ -89,8 +89,8 @@ pub fn position_of(doc: &[u8], offset: usize) -> Position
     Position::At { line, column }
 }
 
-// The column of an offset: the characters that begin behind the last LF before it, found from the
-// offset back. A byte order mark has no column, and no LF.
+// The column of `offset`: 1 plus the characters that begin between the last LF before it and it,
+// counted from the offset back. A byte order mark is not counted, and has no LF in it.
 fn column_of(doc: &[u8], offset: usize) -> usize
     requires { ⌜ offset ≤ length (now doc) ⌝ }
     ensures { λ r. ⌜ r ≡ columnOf (now (doc .entry)) offset ⌝ }

@@ -1,4 +1,4 @@
--- A copy, byte by byte, to the front of a run: its turn, and what it leaves of zeros.
+-- A text is copied byte by byte to the front of an array: what each turn of the loop does, and which zeros are left after it.
 -- Assumes nothing.
 use Prim.Native.Nat.{ℕ, zero, suc, _+_, _-_, _≤_, _<_}
 use mathlib.Core.Path.{_≡_, ap, _∙_, subst}

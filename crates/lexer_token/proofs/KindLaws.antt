@@ -1,4 +1,4 @@
--- A kind's number is its own: read back, it is the kind again.
+-- No two kinds have one number: a kind's number, read back, is that kind again.
 -- Assumes nothing.
 use mathlib.Core.Path.{_≡_, refl}
 use Rattle.lexer_token.specs.KindNumbers.{kindNumber, kindOfNumber}

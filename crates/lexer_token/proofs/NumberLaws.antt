@@ -18,14 +18,14 @@ use Rattle.lexer_token.specs.declared.Answer.{Answer}
 use Rattle.lexer_token.specs.declared.Description.{Description}
 use Rattle.lexer_token.specs.declared.KindEncoding.{KindEncoding}
 
--- what is read off a kind and off a refusal is read off what a number is read as
+-- what f gives for each kind and for the refusal, it gives for what the number n is read as
 read-among : (f : KindRead → ℕ) (n v : ℕ) → ((k : TokenKind) → f (Kind k) ≡ 0) → f (Refused (NoKind n)) ≡ v
     → (ks : List TokenKind) → f (kindAmong ks n) ≡ cond (isRead (kindAmong ks n)) 0 v
 read-among f n v h e [] = e
 read-among f n v h e (k ∷ ks) =
     cond-case (λ (r : KindRead). f r ≡ cond (isRead r) 0 v) (eqb n (kindNumber k)) (λ _. h k) (λ _. read-among f n v h e ks)
 
--- what is read has the numbers of the number
+-- what the number n is read as has the refusal and the value that Told.antt says
 abbrev Numbered : ℕ → KindRead → Type 0
 Numbered n k = (kindReadNumber k ≡ kindRefusal n) × (kindReadValue k ≡ kindReturned n)
 
@@ -36,11 +36,11 @@ numbered n = (read-among kindReadNumber n 7 (λ k. refl) refl kinds, read-among 
 pub read-numbers : (n : ℕ) (r : KindRead) → r ≡ kindOfNumber n → (r ≡ kindOfNumber n) × Numbered n r
 read-numbers n r e = (e, rw e (numbered n))
 
--- the same of a number that is known
+-- the same where n is known to be k
 pub read-key : (n k : ℕ) (r : KindRead) → n ≡ k → r ≡ kindOfNumber k → (r ≡ kindOfNumber n) × Numbered n r
 read-key n k r e h = read-numbers n r (rw e h)
 
--- and an answer has the numbers of what was read
+-- an answer has the refusal and the value of what the number is read as
 abbrev Says : Answer → KindRead → Type 0
 Says a k = (answerNumber a ≡ kindReadNumber k) × (answerValue a ≡ kindReadValue k)
 

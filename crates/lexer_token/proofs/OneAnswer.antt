@@ -1,5 +1,5 @@
--- Each promise of this crate admits one answer only. A theorem bears its function's name, with its type's where two
--- have one, and is about the function's own contract: what a caller learns of its `ensures`.
+-- Each promise of this crate admits one answer only. A theorem bears its function's name, with its type's name where
+-- two functions share one, and is about the function's own contract: what a caller learns of its `ensures`.
 -- Where a promise says an answer's number and value too, its first clause, an equation, already admits one answer.
 -- Assumes nothing.
 use mathlib.Core.Path.{sym, _∙_}

@@ -32,7 +32,7 @@ kindText MlBasicString = codes "multi-line basic string"
 kindText Atom = codes "token"
 kindText Eof = codes "end-of-input"
 
--- words in a run of 25 bytes, zeros behind them
+-- words at the front of an array of 25 bytes, zeros after them
 abbrev pub describedBy : List ℕ → Description
 describedBy text = record { answer = Found; len = length text; bytes = text ++ replicate (25 - length text) 0 }
 

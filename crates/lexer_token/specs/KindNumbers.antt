@@ -6,7 +6,7 @@ use Rattle.text.specs.declared.{refusal.Refusal.the-variants.NoKind}
 use Rattle.lexer_token.specs.declared.{TokenKind.TokenKind, KindRead.KindRead, KindRead.the-variants.Kind, KindRead.the-variants.Refused}
 use Rattle.lexer_token.specs.declared.TokenKind.the-variants.{Dot, Equals, Comma, LeftSquareBracket, RightSquareBracket, LeftCurlyBracket, RightCurlyBracket, Whitespace, Comment, Newline, LiteralString, BasicString, MlLiteralString, MlBasicString, Atom, Eof}
 
--- the number of a kind: a byte with which it begins; 1 to 4 for the ml kinds, the atom and the end
+-- the number of a kind: a byte with which it begins; 1 to 4 for the multi-line strings, the atom and the end
 abbrev pub kindNumber : TokenKind → ℕ
 kindNumber Dot = 46
 kindNumber Equals = 61
@@ -25,13 +25,13 @@ kindNumber MlBasicString = 2
 kindNumber Atom = 3
 kindNumber Eof = 4
 
--- all of them
+-- all sixteen kinds
 abbrev pub kinds : List TokenKind
 kinds =
     Dot ∷ Equals ∷ Comma ∷ LeftSquareBracket ∷ RightSquareBracket ∷ LeftCurlyBracket ∷ RightCurlyBracket ∷ Whitespace ∷ Comment
     ∷ Newline ∷ LiteralString ∷ BasicString ∷ MlLiteralString ∷ MlBasicString ∷ Atom ∷ Eof ∷ []
 
--- the one of some kinds that has the number n, and refusal 7 with n itself where none has it
+-- of some kinds the one that has the number n; refusal 7 with n itself where none has it
 abbrev pub kindAmong : List TokenKind → ℕ → KindRead
 kindAmong [] n = Refused (NoKind n)
 kindAmong (k ∷ ks) n = cond (eqb n (kindNumber k)) (Kind k) (kindAmong ks n)

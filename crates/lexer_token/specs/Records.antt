@@ -8,11 +8,11 @@ use Rattle.lexer_token.specs.{KindNumbers.kindNumber}
 abbrev pub spanOf : ℕ → ℕ → Span
 spanOf start end = record { start = start; end = end }
 
--- the one place where a token is made
+-- how every token is made
 abbrev pub tokenOf : TokenKind → ℕ → ℕ → ℕ → Token
 tokenOf kind start end line = record { kind = kind; span = spanOf start end; line = line }
 
--- the one place where a token is read into a record: kind number, start, end, line
+-- how every token is read into a record: kind number, start, end, line
 abbrev pub recordOf : Token → List ℕ
 recordOf t = kindNumber (t .kind) ∷ t .span .start ∷ t .span .end ∷ t .line ∷ []
 

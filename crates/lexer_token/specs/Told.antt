@@ -17,7 +17,7 @@ abbrev pub kindReadValue : KindRead → ℕ
 kindReadValue (Kind k) = 0
 kindReadValue (Unread r) = refusalValue r
 
--- the same of an answer
+-- the same two numbers of an answer
 abbrev pub answerNumber : Answer → ℕ
 answerNumber Found = 0
 answerNumber (Refused r) = refusalNumber r
@@ -34,7 +34,7 @@ isRead (Unread r) = false
 abbrev pub isKind : ℕ → Bool
 isKind n = isRead (kindOfNumber n)
 
--- what they come to for a number n: 7 with n itself where it is no kind's, else 0
+-- the number and the value for a number n: 7 and n itself where n is no kind's, else 0 and 0
 abbrev pub kindRefusal : ℕ → ℕ
 kindRefusal n = cond (isKind n) 0 7
 

@@ -38,7 +38,7 @@ impl Token {
     }
 }
 
-// From a start up to an end, which is not counted.
+// The bytes from `start` up to `end`, which is not included.
 pub struct Span {
     pub start: usize,
     pub end: usize,
@@ -68,11 +68,11 @@ pub enum TokenKind {
     Comma,
     // before an array or a table's name
     LeftSquareBracket,
-    // behind an array or a table's name
+    // after an array or a table's name
     RightSquareBracket,
     // before an inline table
     LeftCurlyBracket,
-    // behind an inline table
+    // after an inline table
     RightCurlyBracket,
     Whitespace,
     Comment,
@@ -92,7 +92,7 @@ pub enum KindRead {
     Refused(Refusal),
 }
 
-// Whether a call answered, where its values stand beside this.
+// Whether a call answered; the values that it answers stand beside this.
 pub enum Answer {
     Found,
     Refused(Refusal),
@@ -276,7 +276,7 @@ impl TokenKind {
     }
 }
 
-// A text that fits, in a run of 25 bytes.
+// A description with the words `text`, of at most 25 bytes.
 fn described_by(text: &[u8]) -> Description
     requires { ⌜ length (now text) ≤ 25 ⌝ }
     ensures { λ r. ⌜ r ≡ describedBy (now (text .entry)) ⌝ }

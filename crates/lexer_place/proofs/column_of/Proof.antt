@@ -1,5 +1,5 @@
--- `column_of` is right because from each place that it comes back to, as far as the offset, no LF stands, so that a column there
--- counts on by the characters that begin; behind an LF, or at the start, it is 1.
+-- `column_of` is right because no LF stands between the place that it has come back to and the offset, so that from that place
+-- on the column grows by the characters that begin; after an LF, or at the start, it is 1.
 -- Assumes nothing.
 use Prim.Native.Nat.{ℕ, _+_, _-_, _≤_, _<_}
 use mathlib.Core.Path.{_≡_, sym, ap, _∙_}
@@ -12,7 +12,7 @@ use lib.Seq.{getD-take, length-take-le}
 use Rattle.text_classes.specs.Classes.{continuation}
 use Rattle.lexer.specs.Tokens.{startOf}
 use Rattle.lexer_place.specs.Positions.{columnBehind, columnOf}
-use Rattle.lexer_place.proofs.PositionLaws.{column-at-char, column-inside, column-behind-lf, column-end}
+use Rattle.lexer_place.proofs.PositionLaws.{column-at-char, column-inside, column-after-lf, column-end}
 use borrow.Author.Needs.{needs}
 use native.Mathlib.Omega.{arith}
 use Rattle.lexer_place.proofs.column_of.Statement.{statement}
@@ -33,7 +33,7 @@ bytes c = take (c .args .offset) (c .args .doc .now)
 size : (c : tie.Start Inv-loop μ-loop) → length (bytes c) ≡ c .args .offset
 size c = length-take-le (c .args .offset) (c .args .doc .now) (c .pre)
 
--- from where the mark ends, by its two names
+-- what `start_of` answered is the definition's `startOf`: the place after a byte order mark
 from-mark : (c : tie.At-loop Inv-loop μ-loop)
     → columnBehind 1 (drop (c .before .start-of .result) (bytes (c .before .before .before)))
     ≡ columnOf (c .before .before .before .args .doc .now) (c .before .before .before .args .offset)
@@ -61,8 +61,8 @@ returns c =
     let at = c .before .before .before .loop in
     let first = c .before .before .before .before .start-of .result in
     let lf = getD-take (is .offset) (is .doc .now) (at .i - 1) 0 (omega arith) ∙ c .if1 .taken in
-    let behind = column-behind-lf (bytes start) first (at .i) 1 (omega arith) lf in
-    omega (arith, behind, from-mark (c .before .before .before), at .inv .3 1)
+    let reset = column-after-lf (bytes start) first (at .i) 1 (omega arith) lf in
+    omega (arith, reset, from-mark (c .before .before .before), at .inv .3 1)
 
 is-continuation-requires : tie.Need-is-continuation-requires Inv-loop μ-loop
 is-continuation-requires c κs = search needs
