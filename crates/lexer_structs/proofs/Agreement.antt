@@ -33,7 +33,7 @@ map-take zero ts = refl
 map-take (suc n) [] = refl
 map-take (suc n) (t ∷ ts) = ap (λ (r : List (List ℕ)). recordOf t ∷ r) (map-take n ts)
 
--- read into records, the tokens that are left are the records that are left
+-- the tokens that `lex_tokens` leaves, read into records, are the records that `lex` leaves
 pub memories-agree : (doc : List ℕ) (old : List Token) → map recordOf (tokenMemory doc old) ≡ lexMemory doc (map recordOf old)
 unfolding tokenMemory lexMemory recordsOf
 memories-agree doc old = by-check (checkOf doc)
@@ -50,7 +50,7 @@ memories-agree doc old = by-check (checkOf doc)
     by-check (Broken r) = refl
     by-check Valid = rw (length-map old recordOf) (by-room (ltb (length old) (tokenCount doc)))
 
--- what is written is the document's, whatever stood there
+-- what is written does not depend on what stood there
 new-in-front : {A : Type 0} (new old : List A) (n : ℕ) (t : Bool) → length new ≡ n
     → take (writesOf (cond t (Refused (FewTokens n)) (Tokens n))) (cond t old (new ++ drop n old))
     ≡ take (writesOf (cond t (Refused (FewTokens n)) (Tokens n))) new

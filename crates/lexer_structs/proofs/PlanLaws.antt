@@ -21,7 +21,7 @@ use Rattle.lexer.specs.declared.Lexed.the-variants.{Tokens, Refused}
 use Rattle.lexer_structs.specs.Turns.{roomFor}
 use Rattle.lexer_structs.proofs.TurnLaws.{answer-valid, answer-broken}
 
--- the check refuses for want of no records
+-- the UTF-8 check never gives refusal 3, that records are too few
 check-not-few : (doc : List ℕ) (n : ℕ) → checkOf doc ≡ Broken (FewTokens n) → ⊥
 unfolding checkOf
 check-not-few doc n =

@@ -24,7 +24,7 @@ use Rattle.lexer.specs.declared.Cursor.{Cursor}
 use Rattle.lexer.specs.declared.Step.{Step}
 use Rattle.lexer.specs.declared.Step.the-variants.{Token as Next, End, Refused as Unstepped}
 use Rattle.lexer.specs.declared.Lexed.the-variants.{Refused}
-use Rattle.theorems_tokens.specs.Lexing.{cursorBehind, stepsFrom, Gives}
+use Rattle.theorems_tokens.specs.Lexing.{nextCursor, stepsFrom, Gives}
 use Rattle.theorems_tokens.proofs.Lexing.{steps-whole}
 use Rattle.lexer_structs.specs.TokenMemory.{tokenMemory}
 use Rattle.lexer_structs.specs.Turns.{roomFor, writesOf, tokenGiven, nextOf, stepped, cursorAfter, stored}
@@ -39,7 +39,7 @@ pub answer-broken : (doc : List ℕ) (room : ℕ) (r : Refusal) → checkOf doc 
 unfolding lexAnswer
 answer-broken doc room r e = rw e
 
--- how many records are written, of those that stand in old
+-- how many records are written where the lent ones are `old`
 abbrev pub written : List ℕ → List Token → ℕ
 written doc old = writesOf (lexAnswer doc (length old))
 
@@ -65,7 +65,7 @@ writes doc old = by-check (checkOf doc) refl
     by-check Valid e = by-room e
     by-check (Broken r) e = nothing (ap writesOf (answer-broken doc (length old) r e)) (rw e)
 
--- what is written has room
+-- no more records are written than are lent
 pub writes-fit : (doc : List ℕ) (old : List Token) → written doc old ≤ length old
 writes-fit doc old = go (writes doc old)
   where
@@ -120,9 +120,9 @@ step-given : (doc : List ℕ) (ts : List Token) (k i : ℕ) (c : Cursor) → Giv
 unfolding nextOf stepsFrom stepped
 step-given doc [] k i c g h l = absurd (omega arith)
 step-given doc (t ∷ ts) zero i c g h l = absurd (omega arith)
-step-given doc (t ∷ ts) (suc k) zero c g h l = head-given t ts (stepOf doc c) (stepsFrom k doc (cursorBehind c (stepOf doc c))) g
+step-given doc (t ∷ ts) (suc k) zero c g h l = head-given t ts (stepOf doc c) (stepsFrom k doc (nextCursor c (stepOf doc c))) g
 step-given doc (t ∷ ts) (suc k) (suc i) c g h l =
-    let rest = stepsFrom k doc (cursorBehind c (stepOf doc c)) in
+    let rest = stepsFrom k doc (nextCursor c (stepOf doc c)) in
     step-given doc ts k i (nextOf doc c .cursor) (tail-given t ts (stepOf doc c) rest g) (omega arith) (omega arith)
 
 pub next-token : (doc : List ℕ) (i : ℕ) → length doc ≤ limit → i < tokenCount doc

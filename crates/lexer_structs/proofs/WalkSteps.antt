@@ -1,7 +1,7 @@
--- Two steps that both walks take often. They say nothing of the crate, and can be copied as they stand.
+-- Two steps that both proofs by hand take often. They are about no type of this crate.
 -- `local-at`: the value of a local whose cell is entry n of the context.
 -- `returned`: what a caller has once a call has returned u, where the callee has no `&mut`. The callee's `post` is at the head
--- of the context; the result r is picked, φ r is learned, and what r owns stands at the head, with the token behind it.
+-- of the context; the result r is picked, φ r is learned, and what r owns stands at the head, with the token after it.
 -- Assumes `Given`.
 use Prim.Native.Nat.{ℕ}
 use mathlib.Core.Path.{_≡_}

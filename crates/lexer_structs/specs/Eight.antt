@@ -1,4 +1,5 @@
--- FOLLOWS. Whole lexing into eight token structs of its own, by value: what `lex_tokens` answers and leaves in as many.
+-- FOLLOWS. Whole lexing into eight token structs of its own, by value: what `lex_tokens` answers for eight records, and leaves in
+-- them.
 -- Assumes nothing.
 use mathlib.Core.{List.List}
 use Prim.Native.Nat.{ℕ}

@@ -14,7 +14,7 @@ use Rattle.lexer.specs.declared.Step.{Step}
 use Rattle.lexer.specs.declared.Step.the-variants.{Token as Next, End, Refused as Unstepped}
 use Rattle.lexer.specs.declared.Lexed.{Lexed}
 use Rattle.lexer.specs.declared.Lexed.the-variants.{Tokens, Refused}
-use Rattle.theorems_tokens.specs.Lexing.{cursorBehind}
+use Rattle.theorems_tokens.specs.Lexing.{nextCursor}
 use Rattle.lexer_structs.specs.declared.Turn.{Turn}
 
 -- the answer where a document is UTF-8, by the tokens needed and the records lent
@@ -32,11 +32,11 @@ tokenGiven (Next t c) = t
 tokenGiven End = eofAt 0 0
 tokenGiven (Unstepped r) = eofAt 0 0
 
--- a step's token and the cursor behind it
+-- a step's token, and the cursor after the step
 unfoldable pub nextOf : List ℕ → Cursor → Turn
-nextOf doc c = record { token = tokenGiven (stepOf doc c); cursor = cursorBehind c (stepOf doc c) }
+nextOf doc c = record { token = tokenGiven (stepOf doc c); cursor = nextCursor c (stepOf doc c) }
 
--- the cursor k steps behind c, and k steps behind the start
+-- the cursor after k steps from c, and after k steps from the start
 unfoldable pub stepped : ℕ → List ℕ → Cursor → Cursor
 stepped zero doc c = c
 stepped (suc k) doc c = stepped k doc (nextOf doc c .cursor)
@@ -44,6 +44,6 @@ stepped (suc k) doc c = stepped k doc (nextOf doc c .cursor)
 unfoldable pub cursorAfter : List ℕ → ℕ → Cursor
 cursorAfter doc k = stepped k doc (startCursor (startAnswer doc))
 
--- the records after k turns
+-- the records after k turns, where they held `old` before
 unfoldable pub stored : List ℕ → List Token → ℕ → List Token
 stored doc old k = take k (tokensOf doc) ++ drop k old

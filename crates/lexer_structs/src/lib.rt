@@ -1,4 +1,4 @@
-// Whole lexing over a lent run of token structs: the same answers, the same refusals and the same
+// Whole lexing into lent token structs: the same answers, the same refusals and the same
 // tokens as `lexer::lex`, which writes records of four numbers.
 // Rule: specs/TokenMemory.antt.
 ghost use mathlib.Core.Path.{_≡_};
@@ -31,8 +31,8 @@ pub struct LexedEight {
     pub tokens: [Token; 8],
 }
 
-// Whole lexing: every token into the lent records, from the front. A type that holds a reference to
-// structs is proved by hand, so all that is decided is decided in the functions below.
+// Whole lexing: every token into the lent records, from the front. A function that is lent structs is
+// proved by hand, so whatever is decided is decided in the functions below.
 pub fn lex_tokens(doc: &[u8], records: &mut [Token]) -> Lexed
     ensures answer { λ r. ⌜ r ≡ lexAnswer (now (doc .entry)) (length (now (records .entry))) ⌝ }
     ensures memory { λ r. ⌜ now (records .exit) ≡ tokenMemory (now (doc .entry)) (now (records .entry)) ⌝ }
@@ -50,7 +50,7 @@ pub fn lex_tokens(doc: &[u8], records: &mut [Token]) -> Lexed
     a
 }
 
-// Whole lexing into eight records of its own: so a caller needs no proof by hand.
+// Whole lexing into eight records of its own, by value: a caller needs no proof by hand.
 pub fn lex_eight(doc: &[u8]) -> LexedEight
     ensures { λ r. ⌜ r ≡ eightOf (now (doc .entry)) ⌝ }
 {
@@ -73,7 +73,7 @@ fn plan(doc: &[u8], room: usize) -> Lexed
     }
 }
 
-// The answer where so many tokens are needed and so many records lent.
+// The answer where `needed` tokens are needed and `room` records are lent.
 fn within(needed: usize, room: usize) -> Lexed
     ensures { λ r. ⌜ r ≡ roomFor needed room ⌝ }
 {
@@ -83,7 +83,7 @@ fn within(needed: usize, room: usize) -> Lexed
     Lexed::Tokens(needed)
 }
 
-// How many records an answer writes.
+// How many records are written where `a` is answered.
 fn writes(a: Lexed) -> usize
     ensures { λ r. ⌜ r ≡ writesOf a ⌝ }
 {
@@ -124,7 +124,7 @@ fn advance(doc: &[u8], c: Cursor) -> Turn
     }
 }
 
-// The token that stands for none.
+// The token of a record that was not written.
 fn blank() -> Token
     ensures { λ r. ⌜ r ≡ eofAt 0 0 ⌝ }
 {

@@ -1,4 +1,4 @@
--- Induction on a list by its length, for what takes more than one element away at a time.
+-- Induction on the length of a list, for claims about it that go back to any shorter list.
 -- Assumes nothing.
 use Prim.Native.Nat.{ℕ, zero, suc, _≤_}
 use mathlib.Core.List.{List, [], _∷_}

@@ -1,4 +1,4 @@
--- Each token ends at a clean place: at the end, before an ASCII byte, or behind one.
+-- Each token ends at a place where no character is cut: at the end, or right before or after an ASCII byte.
 -- Assumes nothing.
 use Prim.Native.Nat.{ℕ, suc, _+_, _<_}
 use mathlib.Core.Path.{_≡_, refl}
@@ -24,7 +24,7 @@ use Rattle.theorems_tokens.specs.Cuts.{Clean, at-end, before, after, fur
 abbrev Ascii : (ℕ → Bool) → Type 0
 Ascii p = (b : ℕ) → p b ≡ true → b < 0x80
 
--- a byte that equals one of these
+-- the class of one ASCII byte
 one-ascii : (n : ℕ) → n < 0x80 → Ascii (λ b. eqb b n)
 one-ascii n h b t = omega (arith, eqb-true b n t)
 
@@ -42,7 +42,7 @@ wschar-ascii : Ascii wschar
 unfolding wschar
 wschar-ascii = or-ascii (λ b. eqb b 0x20) (λ b. eqb b 0x09) (one-ascii 0x20 (omega arith)) (one-ascii 0x09 (omega arith))
 
--- one of a list
+-- the byte is one of a list
 abbrev among : List ℕ → ℕ → Bool
 among [] b = false
 among (n ∷ []) b = eqb b n
@@ -71,7 +71,7 @@ unfolding run
 run-clean p f [] = at-end
 run-clean p f (b ∷ s) = cond-case (Clean (b ∷ s)) (p b) (λ _. further (run-clean p f s)) (λ t. before (f b t))
 
--- a run of ASCII bytes behind one
+-- an ASCII byte and a run of ASCII bytes after it
 run-after : (p : ℕ → Bool) → Ascii p → (a : ℕ) (s : List ℕ) → a < 0x80 → Clean (a ∷ s) (suc (run p s))
 unfolding run
 run-after p f a [] h = after h
@@ -86,7 +86,7 @@ line-clean q h (b ∷ s) l =
     λ _. cond-case (Clean (b ∷ s)) (eqb b 10) (λ t. before (one-ascii 10 (omega arith) b t))
     (λ _. further (line-clean q (hides q h b) s l))
 
--- up to two marks behind an ASCII byte
+-- an ASCII byte and up to two marks after it
 two-after : (q a : ℕ) (s : List ℕ) → q < 0x80 → a < 0x80 → Clean (a ∷ s) (suc (upToTwo q s))
 unfolding upToTwo
 two-after q a [] m h = after h
@@ -116,7 +116,7 @@ ml-clean q h (b ∷ s) m =
     rw e (closing-clean q (b ∷ s) m (both-right (not h) _ t)))
     (λ t. further (ml-clean q (hides q h b) s m))
 
--- with its opening of three marks
+-- a multi-line string with its opening of three marks
 ml-whole-clean : (q b : ℕ) (s : List ℕ) → q < 0x80 → triple b (b ∷ s) ≡ true
     → Clean (b ∷ s) (suc (suc (suc (mlTail q false (drop 3 (b ∷ s))))))
 unfolding triple

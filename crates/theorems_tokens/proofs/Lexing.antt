@@ -31,7 +31,7 @@ use Rattle.text_classes.proofs.Conds.{cond-case, of-choice}
 use Rattle.lexer.proofs.LineLaws.{feeds-none, feeds-split, mark-bytes, start-no-lf, feeds-taken}
 use Rattle.lexer.proofs.TokenLaws.{token-fits, token-long, token-fits-at, line-fits-at, tokens-cons, tokens-step, tokens-end, start-fits}
 use Rattle.lexer_place.specs.Positions.{positionAnswer}
-use Rattle.theorems_tokens.specs.Lexing.{cursorBehind, stepsFrom, Gives, StepsWhole, TokenLine, OnLines, RecordLines, movedCursor, movedStep, StepsMoved, Follow, NoGap, NotEmpty, Uncut, Local}
+use Rattle.theorems_tokens.specs.Lexing.{nextCursor, stepsFrom, Gives, StepsWhole, TokenLine, OnLines, RecordLines, movedCursor, movedStep, StepsMoved, Follow, NoGap, NotEmpty, Uncut, Local}
 use Rattle.theorems_tokens.specs.Cuts.{Clean, at-end, before, after, further}
 use Rattle.theorems_tokens.proofs.CutLaws.{token-clean}
 use Rattle.theorems_tokens.proofs.LocalLaws.{token-local}
@@ -40,7 +40,7 @@ use Rattle.theorems_tokens.proofs.ByLength.{by-length}
 -- ---- steps and whole lexing
 
 module _ (doc : List ℕ) (l : length doc ≤ limit) where
-  -- the cursor behind the token at a place
+  -- the cursor after the token at a place
   abbrev cursorPast : ℕ → ℕ → Cursor
   cursorPast at line = cursorOf (at + tokenLen (drop at doc)) (lineAfter line (drop at doc)) false
 
@@ -112,11 +112,11 @@ clean-from (further {b} {n} {s} c) p u =
 pub clean-cut : (s : List ℕ) (n : ℕ) → Clean s n → Utf8 s → Utf8 (take n s) × Utf8 (drop n s)
 clean-cut s n c u = clean-from c [] u
 
--- so a token and what is behind it are UTF-8 where both together are
+-- so the first token of UTF-8 and what follows it are UTF-8
 pub token-cut : (s : List ℕ) → Utf8 s → Utf8 (take (tokenLen s) s) × Utf8 (drop (tokenLen s) s)
 token-cut s u = clean-cut s (tokenLen s) (token-clean s) u
 
--- ---- each token of the list stands at a place, by the rules
+-- ---- each token of the list is the token that the rules give at its place
 
 pub record TokenWithin (at line : ℕ) (s : List ℕ) (t : Token) : Type 0 where
   pub place : ℕ
@@ -164,9 +164,9 @@ last-token at line t m = elim (List·Memᴰ·cases-cons (subst (List·Memᴰ t) 
 abbrev EachWithin : List ℕ → Type 0
 EachWithin s = (at line : ℕ) (t : Token) → List·Memᴰ t (tokensFrom at line s) → TokenWithin at line s t
 
--- behind the first token stand the others, as they do in what is left
-each-behind : (n : ℕ) → ((s : List ℕ) → length s ≤ n → EachWithin s) → (b : ℕ) (s : List ℕ) → length s ≤ n → EachWithin (b ∷ s)
-each-behind n ih b s l at line t m =
+-- the tokens after the first are those of what is left
+each-after : (n : ℕ) → ((s : List ℕ) → length s ≤ n → EachWithin s) → (b : ℕ) (s : List ℕ) → length s ≤ n → EachWithin (b ∷ s)
+each-after n ih b s l at line t m =
     let k = tokenLen (b ∷ s) in
     let long = token-long (b ∷ s) (omega arith) in
     let left = length-drop k (b ∷ s) in
@@ -177,9 +177,9 @@ each-behind n ih b s l at line t m =
     ]
 
 each-token : (s : List ℕ) → EachWithin s
-each-token s = by-length EachWithin last-token each-behind (length s) s (omega arith)
+each-token s = by-length EachWithin last-token each-after (length s) s (omega arith)
 
--- ---- behind a byte order mark
+-- ---- after a byte order mark
 
 bom-rest : (s : List ℕ) → Utf8 (0xEF ∷ 0xBB ∷ 0xBF ∷ s) → Utf8 s
 unfolding encodeScalar
@@ -212,7 +212,7 @@ line-by doc n place e =
     let rest : drop n s ≡ drop place doc = drop-drop n (startOf doc) doc ∙ ap (λ (k : ℕ). drop k doc) (sym e) in
     omega (arith, feeds-split n s, feeds-split place doc, start-no-lf doc, ap lineFeeds rest)
 
--- a token has its kind, its end and its line by the rules at its start
+-- the kind, the end and the line of a token are those that the rules give at its start
 pub record ByRule (doc : List ℕ) (t : Token) : Type 0 where
   pub within : t .span .start ≤ length doc
   pub kind : t .kind ≡ kindOf (drop (t .span .start) doc)
@@ -254,7 +254,7 @@ record-lines doc l = go (tokensOf doc) (λ t m. by-rule doc t m)
           go ts (λ u m. h u (List·Memᴰ·tail m)),
         )
 
--- one step from a cursor some lines on
+-- one step from a cursor to whose line d is added
 step-moved : (doc : List ℕ) (c : Cursor) (d : ℕ) → c .line + d ≤ c .place + 1
     → stepOf doc (movedCursor d c) ≡ movedStep d (stepOf doc c)
 unfolding stepOf
@@ -271,12 +271,12 @@ step-moved doc c d h =
     let moved = of-choice (movedStep d) (astray doc c) refl (sym within) in
     rw same (sym (of-choice (movedStep d) (ltb limit (length doc)) refl moved))
 
--- and the next one may be as many lines on
+-- the next cursor's place allows d more lines too
 still-moved : (doc : List ℕ) (c : Cursor) (d : ℕ) → c .line + d ≤ c .place + 1
-    → cursorBehind c (stepOf doc c) .line + d ≤ cursorBehind c (stepOf doc c) .place + 1
+    → nextCursor c (stepOf doc c) .line + d ≤ nextCursor c (stepOf doc c) .place + 1
 unfolding stepOf
 still-moved doc c d h =
-    let P : Step → Type 0 = λ s. cursorBehind c s .line + d ≤ cursorBehind c s .place + 1 in
+    let P : Step → Type 0 = λ s. nextCursor c s .line + d ≤ nextCursor c s .place + 1 in
     let s = drop (c .place) doc in
     cond-case P (ltb limit (length doc)) (λ _. h)
     λ _. cond-case P (astray doc c) (λ _. h)
@@ -287,14 +287,14 @@ pub steps-moved : StepsMoved
 unfolding stepsFrom
 steps-moved doc c d h zero = refl
 steps-moved doc c d h (suc k) =
-    let next = cursorBehind c (stepOf doc c) in
+    let next = nextCursor c (stepOf doc c) in
     let rest = steps-moved doc next d (still-moved doc c d h) k in
-    rw (step-moved doc c d h, behind (stepOf doc c)) (ap (λ (r : List Step). movedStep d (stepOf doc c) ∷ r) rest)
+    rw (step-moved doc c d h, moved-on (stepOf doc c)) (ap (λ (r : List Step). movedStep d (stepOf doc c) ∷ r) rest)
   where
-    behind : (s : Step) → cursorBehind (movedCursor d c) (movedStep d s) ≡ movedCursor d (cursorBehind c s)
-    behind (Next t e) = refl
-    behind End = refl
-    behind (Refused r) = refl
+    moved-on : (s : Step) → nextCursor (movedCursor d c) (movedStep d s) ≡ movedCursor d (nextCursor c s)
+    moved-on (Next t e) = refl
+    moved-on End = refl
+    moved-on (Refused r) = refl
 
 nothing-kind : kindOf [] ≡ Eof
 unfolding kindOf
@@ -331,8 +331,8 @@ Follows s = (at line : ℕ) → Follow at (tokensFrom at line s) (at + length s)
 follow-end : Follows []
 follow-end at line = rw (nothing-left at line) (refl, omega (arith, nothing-long))
 
-follow-behind : (n : ℕ) → ((s : List ℕ) → length s ≤ n → Follows s) → (b : ℕ) (s : List ℕ) → length s ≤ n → Follows (b ∷ s)
-follow-behind n ih b s l at line =
+follow-after : (n : ℕ) → ((s : List ℕ) → length s ≤ n → Follows s) → (b : ℕ) (s : List ℕ) → length s ≤ n → Follows (b ∷ s)
+follow-after n ih b s l at line =
     let k = tokenLen (b ∷ s) in
     let rest = drop k (b ∷ s) in
     let long = token-long (b ∷ s) (omega arith) in
@@ -344,7 +344,7 @@ follow-behind n ih b s l at line =
     (refl, subst (Follow (at + k) (tokensFrom (at + k) on rest)) same (ih rest (omega arith) (at + k) on))
 
 follow : (s : List ℕ) → Follows s
-follow s = by-length Follows follow-end follow-behind (length s) s (omega arith)
+follow s = by-length Follows follow-end follow-after (length s) s (omega arith)
 
 pub no-gap : NoGap
 unfolding tokensOf

@@ -1,5 +1,4 @@
--- How far each rule looks: a token depends on its own bytes and one byte behind it only. Two lists that agree on these
--- begin with the same token.
+-- A token depends only on its own bytes and on the byte after them: two lists that agree on these begin with the same token.
 -- Assumes nothing.
 use Prim.Native.Nat.{ℕ, zero, suc, _+_, _≤_, _<_}
 use mathlib.Core.Path.{_≡_, refl, sym, ap, _∙_, subst}
@@ -27,7 +26,7 @@ use Rattle.lexer.proofs.TokenLaws.{token-long}
 abbrev pub Agree : ℕ → List ℕ → List ℕ → Type 0
 Agree n s t = take n s ≡ take n t
 
--- one list begins as the other does
+-- t begins with b, and agrees with s in n bytes after it
 record Front (b n : ℕ) (s t : List ℕ) : Type 0 where
   rest : List ℕ
   is : t ≡ b ∷ rest
@@ -45,7 +44,7 @@ nothing : (n : ℕ) (t : List ℕ) → Agree (suc n) [] t → t ≡ []
 nothing n [] a = refl
 nothing n (c ∷ t) a = absurd (omega (arith, ap length a))
 
--- fewer of them agree too
+-- lists that agree in n bytes agree in fewer
 fewer : (m n : ℕ) (s t : List ℕ) → m ≤ n → Agree n s t → Agree m s t
 fewer zero n s t l a = refl
 fewer (suc m) zero s t l a = absurd (omega arith)
@@ -87,7 +86,7 @@ line-local q h (b ∷ s) t =
 at-agree : (p : ℕ → Bool) (n i : ℕ) (s t : List ℕ) → i < n → Agree n s t → firstIs p (drop i t) ≡ firstIs p (drop i s)
 at-agree p n i s t h a = sym (first-take p t n i h) ∙ ap (λ (l : List ℕ). firstIs p (drop i l)) (sym a) ∙ first-take p s n i h
 
--- for one byte
+-- the byte at i is q in both lists or in neither
 mark-agree : (q n i : ℕ) (s t : List ℕ) → i < n → Agree n s t → stands q (drop i t) ≡ stands q (drop i s)
 mark-agree q = at-agree (λ b. eqb b q)
 
@@ -106,26 +105,26 @@ two-local q s t =
     (λ u a. rw (mark-agree q 2 0 s t (omega arith) a, mark-agree q 2 1 s t (omega arith) a, e, u)))
     (λ e a. rw (mark-agree q 1 0 s t (omega arith) a, e))
 
--- of a CR and what is behind it
+-- a newline: a CR and what follows it
 pub newline-local : (s t : List ℕ) → Agree 2 s t → newlineTail t ≡ newlineTail s
 unfolding newlineTail
 newline-local s t a = rw (mark-agree 13 2 0 s t (omega arith) a, mark-agree 10 2 1 s t (omega arith) a)
 
 -- ---- multi-line strings
 
-behind : (n : ℕ) (s t : List ℕ) → Agree (suc n) s t → Agree n (drop 1 s) (drop 1 t)
-behind n [] [] a = refl
-behind n [] (c ∷ t) a = absurd (omega (arith, ap length a))
-behind n (b ∷ s) [] a = absurd (omega (arith, ap length a))
-behind n (b ∷ s) (c ∷ t) a =
+rest-of-one : (n : ℕ) (s t : List ℕ) → Agree (suc n) s t → Agree n (drop 1 s) (drop 1 t)
+rest-of-one n [] [] a = refl
+rest-of-one n [] (c ∷ t) a = absurd (omega (arith, ap length a))
+rest-of-one n (b ∷ s) [] a = absurd (omega (arith, ap length a))
+rest-of-one n (b ∷ s) (c ∷ t) a =
     let same : b ∷ take n s ≡ c ∷ take n t = a in
     cc
 
-behind-three : (n : ℕ) (s t : List ℕ) → Agree (suc (suc (suc n))) s t → Agree n (drop 3 s) (drop 3 t)
-behind-three n s t a =
-    let one = behind (suc (suc n)) s t a in
-    let two = behind (suc n) (drop 1 s) (drop 1 t) one in
-    let three = behind n (drop 1 (drop 1 s)) (drop 1 (drop 1 t)) two in
+rest-of-three : (n : ℕ) (s t : List ℕ) → Agree (suc (suc (suc n))) s t → Agree n (drop 3 s) (drop 3 t)
+rest-of-three n s t a =
+    let one = rest-of-one (suc (suc n)) s t a in
+    let two = rest-of-one (suc n) (drop 1 s) (drop 1 t) one in
+    let three = rest-of-one n (drop 1 (drop 1 s)) (drop 1 (drop 1 t)) two in
     sym (ap (take n) (all s)) ∙ three ∙ ap (take n) (all t)
   where
     all : (l : List ℕ) → drop 1 (drop 1 (drop 1 l)) ≡ drop 3 l
@@ -138,7 +137,7 @@ ml-nothing q h (b ∷ s) =
     cond-case (λ (n : ℕ). n ≡ 0 → b ∷ s ≡ []) (not h && triple q (b ∷ s))
     (λ t e. absurd (omega arith)) (λ t e. absurd (omega arith))
 
--- where a string goes on over its first byte, both lists have three marks there or neither
+-- where a string goes on after its first byte, both lists have three marks there or neither has
 same-marks : (q : ℕ) (h : Bool) (b : ℕ) (s t : List ℕ) → Agree (suc (suc (mlTail q h s))) (b ∷ s) t
     → triple q t ≡ triple q (b ∷ s)
 same-marks q h b s t a = go (mlTail q h s) refl a
@@ -167,7 +166,7 @@ ml-local q h (b ∷ s) t =
     let all : Agree (suc (suc (suc (suc u)))) (b ∷ s) t = subst (λ (n : ℕ). Agree n (b ∷ s) t) more a in
     let f = same-front b (suc (suc (suc u))) s t all in
     let marks = triple-local q (b ∷ s) t (fewer 3 (suc (suc (suc (suc u)))) (b ∷ s) t (omega arith) all) in
-    let two = two-local q (drop 3 (b ∷ s)) (drop 3 t) (behind-three (suc u) (b ∷ s) t all) in
+    let two = two-local q (drop 3 (b ∷ s)) (drop 3 t) (rest-of-three (suc u) (b ∷ s) t all) in
     let opens : (not h && triple q (b ∷ f .rest)) ≡ true = rw (← f .is, marks) e in
     ap (mlTail q h) (f .is) ∙ ml-closed q h b (f .rest) opens
     ∙ ap (λ (l : List ℕ). 3 + upToTwo q (drop 3 l)) (sym (f .is)) ∙ ap (λ (n : ℕ). 3 + n) two)
@@ -188,22 +187,23 @@ extent-local LeftSquareBracket b s t a = refl
 extent-local RightSquareBracket b s t a = refl
 extent-local LeftCurlyBracket b s t a = refl
 extent-local RightCurlyBracket b s t a = refl
-extent-local Whitespace b s t a = ap suc (run-local wschar s (drop 1 t) (behind (suc (run wschar s)) (b ∷ s) t a))
-extent-local Comment b s t a = ap suc (run-local inComment s (drop 1 t) (behind (suc (run inComment s)) (b ∷ s) t a))
+extent-local Whitespace b s t a = ap suc (run-local wschar s (drop 1 t) (rest-of-one (suc (run wschar s)) (b ∷ s) t a))
+extent-local Comment b s t a = ap suc (run-local inComment s (drop 1 t) (rest-of-one (suc (run inComment s)) (b ∷ s) t a))
 extent-local Newline b s t a =
     ap suc (newline-local (b ∷ s) t (fewer 2 (suc (suc (newlineTail (b ∷ s)))) (b ∷ s) t (omega arith) a))
-extent-local LiteralString b s t a = ap suc (line-local 39 false s (drop 1 t) (behind (suc (lineTail 39 false s)) (b ∷ s) t a))
-extent-local BasicString b s t a = ap suc (line-local 34 false s (drop 1 t) (behind (suc (lineTail 34 false s)) (b ∷ s) t a))
+extent-local LiteralString b s t a =
+    ap suc (line-local 39 false s (drop 1 t) (rest-of-one (suc (lineTail 39 false s)) (b ∷ s) t a))
+extent-local BasicString b s t a = ap suc (line-local 34 false s (drop 1 t) (rest-of-one (suc (lineTail 34 false s)) (b ∷ s) t a))
 extent-local MlLiteralString b s t a =
     let m = mlTail 39 false (drop 3 (b ∷ s)) in
-    ap (λ (n : ℕ). suc (suc (suc n))) (ml-local 39 false (drop 3 (b ∷ s)) (drop 3 t) (behind-three (suc m) (b ∷ s) t a))
+    ap (λ (n : ℕ). suc (suc (suc n))) (ml-local 39 false (drop 3 (b ∷ s)) (drop 3 t) (rest-of-three (suc m) (b ∷ s) t a))
 extent-local MlBasicString b s t a =
     let m = mlTail 34 false (drop 3 (b ∷ s)) in
-    ap (λ (n : ℕ). suc (suc (suc n))) (ml-local 34 false (drop 3 (b ∷ s)) (drop 3 t) (behind-three (suc m) (b ∷ s) t a))
-extent-local Atom b s t a = ap suc (run-local inAtom s (drop 1 t) (behind (suc (run inAtom s)) (b ∷ s) t a))
+    ap (λ (n : ℕ). suc (suc (suc n))) (ml-local 34 false (drop 3 (b ∷ s)) (drop 3 t) (rest-of-three (suc m) (b ∷ s) t a))
+extent-local Atom b s t a = ap suc (run-local inAtom s (drop 1 t) (rest-of-one (suc (run inAtom s)) (b ∷ s) t a))
 extent-local Eof b s t a = refl
 
--- the kind of a byte that is no quote mark does not ask for three
+-- the kind by a byte that is no quote mark does not depend on whether three marks stand there
 no-quote : (b : ℕ) (x y : Bool) → eqb b 39 ≡ false → eqb b 34 ≡ false → kindBy b x ≡ kindBy b y
 unfolding kindBy
 no-quote b x y l m = rw (l, m)
@@ -216,7 +216,7 @@ no-second q s e = rw e (go (stands q s))
     go true = refl
     go false = refl
 
--- two quote marks are at least two bytes of a token
+-- a token that begins with two quote marks has at least two bytes
 two-long : (b : ℕ) (s : List ℕ) → (b ≡ 39) ⊎ (b ≡ 34) → 2 ≤ tokenLen (b ∷ b ∷ s)
 unfolding tokenLen kindOf kindBy wschar extent lineTail
 two-long b s (inl e) =
@@ -258,7 +258,7 @@ kind-local b s t a =
           (a-quote b)
     ]
 
--- a token depends on its own bytes and one byte behind it only
+-- a token depends only on its own bytes and on the byte after them
 pub token-local : (s t : List ℕ) → Agree (suc (tokenLen s)) s t → (kindOf t ≡ kindOf s) × (tokenLen t ≡ tokenLen s)
 unfolding tokenLen kindOf extent
 token-local [] t a = rw (nothing 0 t a) (refl, refl)

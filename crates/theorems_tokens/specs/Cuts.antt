@@ -1,4 +1,5 @@
--- A place at which no character is cut: the end, before an ASCII byte, or behind one. Not to be believed but proved.
+-- A place at which no character is cut: the end, or right before or after an ASCII byte. `clean-cut` in proofs/Lexing.antt
+-- proves that cutting UTF-8 there leaves UTF-8 on both sides.
 -- Assumes nothing.
 use Prim.Native.Nat.{ℕ, suc, _<_}
 use mathlib.Core.List.{List, [], _∷_}

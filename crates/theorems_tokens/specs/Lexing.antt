@@ -22,16 +22,16 @@ use Rattle.lexer.specs.declared.Step.the-variants.{Token as Next, End, Refused}
 
 -- ---- steps and whole lexing
 
--- the next cursor; behind an end or a refusal the caller has the same one
-abbrev pub cursorBehind : Cursor → Step → Cursor
-cursorBehind c (Next t d) = d
-cursorBehind c End = c
-cursorBehind c (Refused r) = c
+-- the cursor after a step from c; after the end or a refusal it is c still
+abbrev pub nextCursor : Cursor → Step → Cursor
+nextCursor c (Next t d) = d
+nextCursor c End = c
+nextCursor c (Refused r) = c
 
 -- the answers of k steps, each at the cursor that the one before it left
 unfoldable pub stepsFrom : ℕ → List ℕ → Cursor → List Step
 stepsFrom zero doc c = []
-stepsFrom (suc k) doc c = stepOf doc c ∷ stepsFrom k doc (cursorBehind c (stepOf doc c))
+stepsFrom (suc k) doc c = stepOf doc c ∷ stepsFrom k doc (nextCursor c (stepOf doc c))
 
 -- answers that give these tokens, one after the other, then the end for ever, and never a refusal
 abbrev pub Gives : List Token → List Step → Type 0
@@ -54,16 +54,16 @@ StepsWhole =
 abbrev pub TokenLine : Type 0
 TokenLine = (doc : List ℕ) (t : Token) → List·Memᴰ t (tokensOf doc) → t .line ≡ lineOf doc (t .span .start)
 
--- the last number of each record is the line that `position_of` answers for the second
+-- the last number of each record, its line, is the line that `position_of` answers for its second, the start
 abbrev pub OnLines : List ℕ → List (List ℕ) → Type 0
 OnLines doc [] = Unit
 OnLines doc (r ∷ rs) = (getD r 3 0 ≡ positionLine (positionAnswer doc (getD r 1 0))) × OnLines doc rs
 
--- `record-lines`: it is so in the records of whole lexing
+-- `record-lines`: that holds of the records of whole lexing
 abbrev pub RecordLines : Type 0
 RecordLines = (doc : List ℕ) → length doc ≤ limit → OnLines doc (recordsOf doc)
 
--- a cursor, and a step's answer, d lines on
+-- a cursor, and a step's answer, with d added to each line
 abbrev pub movedCursor : ℕ → Cursor → Cursor
 movedCursor d c = cursorOf (c .place) (c .line + d) (c .ended)
 
@@ -72,15 +72,16 @@ movedStep d (Next t c) = Next (tokenOf (t .kind) (t .span .start) (t .span .end)
 movedStep d End = End
 movedStep d (Refused r) = Refused r
 
--- `steps-moved`: from a cursor d lines on, which its place still allows, all steps answer the same but d lines on
+-- `steps-moved`: where d is added to a cursor's line, which its place still allows, it is added to the lines of all answers, and
+-- nothing else changes
 abbrev pub StepsMoved : Type 0
 StepsMoved =
     (doc : List ℕ) (c : Cursor) (d : ℕ) → c .line + d ≤ c .place + 1
     → (k : ℕ) → stepsFrom k doc (movedCursor d c) ≡ map (movedStep d) (stepsFrom k doc c)
 
--- ---- the tokens together
+-- ---- the tokens of a document
 
--- each begins where the one before it ends
+-- each token begins where the one before it ends, the first at `at`; the last ends at `end`
 abbrev pub Follow : ℕ → List Token → ℕ → Type 0
 Follow at [] end = at ≡ end
 Follow at (t ∷ ts) end = (t .span .start ≡ at) × Follow (t .span .end) ts end
@@ -97,8 +98,8 @@ NotEmpty = (doc : List ℕ) (t : Token) → List·Memᴰ t (tokensOf doc) → (t
 abbrev pub Uncut : Type 0
 Uncut = (doc : List ℕ) → Utf8 doc → (t : Token) → List·Memᴰ t (tokensOf doc) → Utf8 (textOf doc t)
 
--- ---- how far a token looks
+-- ---- which bytes a token depends on
 
--- `local`: a token depends on its own bytes and one byte behind it only
+-- `local`: a token depends only on its own bytes and on the byte after them
 abbrev pub Local : Type 0
 Local = (s t : List ℕ) → take (suc (tokenLen s)) s ≡ take (suc (tokenLen s)) t → (kindOf t ≡ kindOf s) × (tokenLen t ≡ tokenLen s)

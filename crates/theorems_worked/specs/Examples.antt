@@ -1,5 +1,5 @@
--- STATEMENT. The worked examples of the project's scope that are to be proved, of tokens and of strings: a document and its tokens, or a
--- kind number and a text with its bytes and its errors. proofs/Worked.antt proves all of them, as one claim.
+-- STATEMENT. The worked examples of tokens and of strings that the project's scope wants proved: a document with its tokens, or
+-- a kind number and a text with its bytes and its errors. proofs/Worked.antt proves all of them, as one claim.
 -- Assumes nothing.
 use Prim.Native.Nat.{ℕ}
 use mathlib.Core.Path.{_≡_}
@@ -38,9 +38,9 @@ examples =
     ∷ lexes (0x27 ∷ 0x27 ∷ 0x27 ∷ 0x61 ∷ 0x27 ∷ 0x27 ∷ 0x27 ∷ 0x27 ∷ 0x27 ∷ []) (token 1 0 9 1 ∷ token 4 9 9 1 ∷ [])
     ∷ lexes (0x27 ∷ 0x27 ∷ 0x27 ∷ 0x61 ∷ 0x27 ∷ 0x27 ∷ 0x27 ∷ 0x27 ∷ 0x27 ∷ 0x27 ∷ [])
     (token 1 0 9 1 ∷ token 39 9 10 1 ∷ token 4 10 10 1 ∷ [])
-    -- 'a CR LF: only the LF stops it
+    -- 'a CR LF: only the LF ends an unclosed literal string
     ∷ lexes (0x27 ∷ 0x61 ∷ 0x0D ∷ 0x0A ∷ []) (token 39 0 3 1 ∷ token 10 3 4 1 ∷ token 4 4 4 2 ∷ [])
-    -- basic "\u\u\u": U+FFFD three times, nine bytes of eight
+    -- basic "\u\u\u": U+FFFD three times, so that eight bytes decode to nine
     ∷ decodes 34 (0x22 ∷ 0x5C ∷ 0x75 ∷ 0x5C ∷ 0x75 ∷ 0x5C ∷ 0x75 ∷ 0x22 ∷ [])
     (0xEF ∷ 0xBF ∷ 0xBD ∷ 0xEF ∷ 0xBF ∷ 0xBD ∷ 0xEF ∷ 0xBF ∷ 0xBD ∷ []) (at 9 3 ∷ at 9 5 ∷ at 9 7 ∷ [])
     -- basic "\uD7FF", the last scalar value before the surrogates
@@ -49,11 +49,11 @@ examples =
     ∷ decodes 34 (0x22 ∷ 0x5C ∷ 0x75 ∷ 0x44 ∷ 0x38 ∷ 0x30 ∷ 0x30 ∷ 0x22 ∷ []) (0xEF ∷ 0xBF ∷ 0xBD ∷ []) (at 10 3 ∷ [])
     -- basic "\q"
     ∷ decodes 34 (0x22 ∷ 0x5C ∷ 0x71 ∷ 0x22 ∷ []) (0x5C ∷ 0x71 ∷ []) (at 8 2 ∷ [])
-    -- basic "a\": the last mark closes, though a lexer would not end there
+    -- basic "a\": decoding takes the last mark for the closing, though lexing would not end the token there
     ∷ decodes 34 (0x22 ∷ 0x61 ∷ 0x5C ∷ 0x22 ∷ []) (0x61 ∷ 0x5C ∷ []) (at 8 3 ∷ [])
-    -- ml-literal '''a'': all trailing apostrophes go
+    -- ml-literal '''a'', not closed: all trailing apostrophes are dropped
     ∷ decodes 1 (0x27 ∷ 0x27 ∷ 0x27 ∷ 0x61 ∷ 0x27 ∷ 0x27 ∷ []) (0x61 ∷ []) (at 3 6 ∷ [])
-    -- ml-basic """a"": its quotation marks stay
+    -- ml-basic """a"", not closed: its trailing quotation marks are kept
     ∷ decodes 2 (0x22 ∷ 0x22 ∷ 0x22 ∷ 0x61 ∷ 0x22 ∷ 0x22 ∷ []) (0x61 ∷ 0x22 ∷ 0x22 ∷ []) (at 11 6 ∷ [])
     -- ml-basic """a CR b"""
     ∷ decodes 2 (0x22 ∷ 0x22 ∷ 0x22 ∷ 0x61 ∷ 0x0D ∷ 0x62 ∷ 0x22 ∷ 0x22 ∷ 0x22 ∷ []) (0x61 ∷ 0x0D ∷ 0x62 ∷ []) (at 4 5 ∷ [])

@@ -1,4 +1,5 @@
--- `plan` is right because one lent record is answered with the tokens needed, or refused for what no record mends.
+-- `plan` is right because whole lexing into one record answers how many tokens are needed, or a refusal that more records would
+-- not change.
 -- Assumes nothing.
 use Prim.Native.Nat.{ℕ}
 use mathlib.Core.Path.{sym, ap, _∙_}
