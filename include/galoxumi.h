@@ -1,28 +1,29 @@
 /* TOML tokens and strings: the functions of libgaloxumi.a (`rt staticlib galoxumi`).
  *
  * Every function returns, for all arguments, and reads and writes only what it is lent: that is proved.
- * The caller's part: a pointer stands for as many elements as the length behind it says, it is not null
- * even where that length is 0, and lent memory does not overlap what is read or lent besides.
+ * The caller sees to the rest: a pointer points to as many elements as the length after it says, it is not null
+ * even where that length is 0, and lent memory overlaps nothing else that is read or lent.
  *
- * An answer has `refusal`, 0 where the call answered and else the refusal's number; `value`; and `length`, which
- * is 0 but with refusal 1:
+ * An answer has `refusal`, which is 0 where the call answered and else the refusal's number; `value`; and `length`,
+ * which is 0 except with refusal 1:
  *
  *   refusal  given exactly when                                      value
  *   0        answered                                                tokens, bytes, or 0: see the call
  *   1        the bytes are not UTF-8                                 length of the longest valid prefix
- *   2        more than GALOXUMI_LIMIT bytes                              GALOXUMI_LIMIT
+ *   2        more than GALOXUMI_LIMIT bytes                          GALOXUMI_LIMIT
  *   3        fewer token records than tokens, Eof counted            tokens needed
  *   4        the output is shorter than the decoded bytes            bytes needed
  *   5        fewer error records than errors                         records needed
  *   6        a place beyond the document; for a cursor also a line   the document's length
  *            past its place plus 1; for a span also a start after
  *            the end, or an end at a byte 80 to BF
- *   7        a number that is no kind of the call's, or no error's   that number
+ *   7        a number that is no kind that the call knows, or the    that number
+ *            number of no error
  *   9        a number that is no edition of TOML                     that number
  *
- * With refusal 1 `length` is that of the faulty sequence behind the valid prefix: the bytes, 1 to 3, that begin no
- * character with what follows them; or 0 where the bytes end inside a character, which further bytes could mend.
- * It is what Rust's core::str::Utf8Error tells as error_len, with 0 for none.
+ * With refusal 1 `length` is the length, 1 to 3, of the faulty sequence after the valid prefix: of the bytes that, with
+ * what follows them, begin no character; or 0 where the bytes end inside a character, which further bytes could mend.
+ * It is what Rust's core::str::Utf8Error gives as error_len, with 0 for none.
  *
  * A refused call has written nothing, and its other results are 0. Where several refusals fit, the
  * order beside the call says which is given.
@@ -59,7 +60,7 @@ enum {
     GALOXUMI_EOF = 4
 };
 
-/* Which refusal, 0 for none, the number returned with it, and with refusal 1 the faulty sequence's length. */
+/* Which refusal, 0 for none; the value returned with it; and with refusal 1 the length of the faulty sequence. */
 typedef struct {
     size_t refusal;
     size_t value;
@@ -76,8 +77,8 @@ typedef struct {
 typedef struct {
     size_t kind;
     size_t start;
-    size_t end;  /* the place behind it */
-    size_t line; /* that of its first byte: 1 plus the LFs before it */
+    size_t end;  /* the place after its last byte */
+    size_t line; /* the line of its first byte: 1 plus the LFs before it */
 } galoxumi_token;
 
 /* Whether all of doc is UTF-8. Refusals 2, 1; value 0 where it is. */
@@ -91,10 +92,10 @@ typedef struct {
 
 galoxumi_started galoxumi_start(const uint8_t *doc, size_t doc_len);
 
-/* One token at a cursor, which may be made by hand; ended is 0, or anything else for an ended one. The line is the
- * token's, right or wrong, and the next cursor's is counted on from it.
- * found is 1 for a token, with the next cursor; 0 at the end, where an ended cursor stands at the document's
- * end, and all behind it is 0 then. A byte order mark is not skipped, and UTF-8 is not tested. Refusals 2, 6. */
+/* The token at a cursor, whose numbers the caller may choose freely; `ended` is 0, or anything else for an ended
+ * cursor. The token bears `line` as it is given, right or wrong, and the next cursor's line is counted on from it.
+ * found is 1 with a token and the next cursor. It is 0 where an ended cursor stands at the document's end; all fields
+ * after found are then 0. A byte order mark is not skipped, and UTF-8 is not tested. Refusals 2, 6. */
 typedef struct {
     galoxumi_answer answer;
     size_t found;
@@ -102,12 +103,11 @@ typedef struct {
     galoxumi_cursor cursor;
 } galoxumi_stepped;
 
-galoxumi_stepped galoxumi_step(const uint8_t *doc, size_t doc_len, size_t place, size_t ended,
-                       size_t line);
+galoxumi_stepped galoxumi_step(const uint8_t *doc, size_t doc_len, size_t place, size_t ended, size_t line);
 
-/* All tokens, Eof last, each as kind, start, end, line, into the lent records from the front; records behind
- * them keep their contents. value is the tokens. Refusals 2, 1, 3. With more records than the document
- * has bytes nothing is counted first. */
+/* All tokens, Eof last, each as kind, start, end, line, into the lent records from the front; records after
+ * them keep their contents. value is the count of tokens. Refusals 2, 1, 3. Where more records are lent than the
+ * document has bytes, the tokens are not counted first, which saves a pass. */
 galoxumi_answer galoxumi_lex(const uint8_t *doc, size_t doc_len, size_t (*records)[4], size_t records_len);
 
 /* Whether start..end lies in the document and neither end is inside a character. Refusals 2, 6. */
@@ -133,8 +133,9 @@ galoxumi_positioned galoxumi_position(const uint8_t *doc, size_t doc_len, size_t
 
 /* The bytes of a text of a kind (39, 34, 1, 2, or 3 for a key) into output from its front, and its errors,
  * each as number, start, end, into the lent records from the front; the rest keeps its contents. value is
- * the bytes, errors the errors. Refusals 2, 1, 7, 4, 5. With an output of three halves of the text's length
- * and two records more than it has bytes nothing is counted first. Errors:
+ * the count of bytes, errors the count of errors. Refusals 2, 1, 7, 4, 5. Where the output is one and a half times as
+ * long as the text, and two more records are lent than it has bytes, nothing is counted first, which saves a pass.
+ * Errors:
  *
  *   1, 3, 6, 11  a quote mark is missing: literal, multi-line literal, basic, multi-line basic
  *   2, 5         a byte is not allowed: literal, multi-line literal
@@ -151,15 +152,15 @@ typedef struct {
 } galoxumi_decoded;
 
 galoxumi_decoded galoxumi_decode(const uint8_t *text, size_t text_len, size_t kind, uint8_t *output, size_t output_len,
-                         size_t (*errors)[3], size_t errors_len);
+                                 size_t (*errors)[3], size_t errors_len);
 
 /* The same in the edition of TOML that a number names, 10 for TOML 1.0 or 11 for TOML 1.1; galoxumi_decode reads 10.
  * Edition 11 adds \e (U+001B) and \x with two hex digits (U+0000 to U+00FF) to the basic kinds: error 8 where the
  * escape is neither those nor 1.0's, and 9 for an \x with fewer digits. Refusals 2, 1, 7, 9, 4, 5. */
 galoxumi_decoded galoxumi_decode_in(const uint8_t *text, size_t text_len, size_t edition, size_t kind, uint8_t *output,
-                            size_t output_len, size_t (*errors)[3], size_t errors_len);
+                                    size_t output_len, size_t (*errors)[3], size_t errors_len);
 
-/* The words for a kind: their length, and the words with zeros behind; all zero where refused. Refusal 7. */
+/* The words for a kind: their length, and the words with zeros after them; all zero where refused. Refusal 7. */
 typedef struct {
     galoxumi_answer answer;
     size_t length;
@@ -168,7 +169,7 @@ typedef struct {
 
 galoxumi_described galoxumi_description(size_t kind);
 
-/* The kind that a decode takes for a token of this kind: the same for the four string kinds, else 0.
+/* The kind by which a token of this kind is decoded: the same for the four string kinds, else 0.
  * Refusal 7. */
 typedef struct {
     galoxumi_answer answer;

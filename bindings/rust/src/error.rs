@@ -1,4 +1,4 @@
-//! Errors of decoding: a number stands for a description and what was expected, together. The library has the words.
+//! Errors of decoding: an error's number stands for its description and for what was expected. The library has the words.
 
 use crate::{ffi, Edition, Span};
 use std::sync::OnceLock;
@@ -91,7 +91,7 @@ impl ParseError {
     }
 
     /// What was expected there. The list of escapes has no `t`, though `\t` is accepted: it is
-    /// toml_parser's list, after which TOML 1.1 has its own two.
+    /// toml_parser's list, to which TOML 1.1 adds its own two.
     pub fn expected(&self) -> &'static [Expected] {
         &self.words().expected
     }

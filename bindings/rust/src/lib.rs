@@ -36,7 +36,7 @@ pub enum Refusal {
     NotUtf8 {
         /// The length of the longest prefix that is UTF-8.
         valid: usize,
-        /// How many bytes behind it are the faulty sequence; none where the text ends inside a character.
+        /// How many bytes after it are the faulty sequence; none where the text ends inside a character.
         error_len: Option<core::num::NonZeroUsize>,
     },
     /// 2: more than [`LIMIT`] bytes.
@@ -66,7 +66,7 @@ pub enum Refusal {
         /// That number.
         number: usize,
     },
-    /// 9: a number that is no edition of TOML. No call of this crate is given it: an [`Edition`] is one.
+    /// 9: a number that is no edition of TOML. No call of this crate gives it, since an [`Edition`] always is one.
     NoEdition {
         /// That number.
         number: usize,
@@ -74,7 +74,7 @@ pub enum Refusal {
 }
 
 impl Refusal {
-    /// The number returned with an answer, or the refusal.
+    /// The value of an answer, or the refusal.
     fn read(answer: ffi::Answer) -> Result<usize, Self> {
         let value = answer.value;
         match answer.refusal {
@@ -118,14 +118,14 @@ pub fn check_utf8(doc: &[u8]) -> Result<(), Refusal> {
 
 /// All tokens of a document, `Eof` last.
 pub fn lex(doc: &[u8]) -> Result<Vec<Token>, Refusal> {
-    // No document has more tokens than bytes and one, and with so many records nothing is counted first.
+    // A document has at most one token more than bytes; with so many records the tokens are not counted first.
     let mut records = vec![[0usize; 4]; doc.len().min(LIMIT) + 1];
     let count = lex_into(doc, &mut records)?;
     records[..count].iter().map(|record| Token::from_record(*record)).collect()
 }
 
 /// The tokens of a document as records of kind number, start, end and line, in lent memory from its front.
-/// Answers how many; records behind them keep their contents.
+/// Answers how many tokens there are; records after the last of them keep their contents.
 pub fn lex_into(doc: &[u8], records: &mut [[usize; 4]]) -> Result<usize, Refusal> {
     Refusal::read(ffi::lex(doc, records))
 }
@@ -148,8 +148,8 @@ impl<'i> Lexer<'i> {
         Ok(Self::at(doc, start.cursor.place, start.cursor.ended != 0, start.cursor.line))
     }
 
-    /// At any place of a document, on any line; lines are counted on from it. A place beyond the document, and a line past the
-    /// place plus 1, are refused when a token is asked for.
+    /// At any place of a document, with any number as its line; lines are counted on from there. A place beyond the document,
+    /// and a line past the place plus 1, are refused when a token is asked for.
     pub fn at(doc: &'i [u8], place: usize, ended: bool, line: usize) -> Self {
         Self { doc, place, ended, line, refused: false }
     }
@@ -190,19 +190,19 @@ pub fn check_span(doc: &[u8], span: Span) -> Result<(), Refusal> {
     Refusal::read(ffi::check_span(doc, span.start(), span.end())).map(|_| ())
 }
 
-/// The text of a span: that part of the document, or why it is none.
+/// The text of a span: that part of the document, or why the span is refused.
 pub fn text(doc: &[u8], span: Span) -> Result<&[u8], Refusal> {
     check_span(doc, span)?;
     let part = ffi::text(doc, span.start(), span.end());
     Ok(&doc[part.start..part.start + part.length])
 }
 
-/// A place in words that a reader of a document uses; both count from 1.
+/// A place as a reader of the document names it: line and column, both counted from 1.
 #[derive(Copy, Clone, PartialEq, Eq, Debug)]
 pub struct Position {
     /// 1 plus the line feeds before the offset.
     pub line: usize,
-    /// 1 plus the characters that begin on the line before the offset; a byte order mark at byte 0 is none.
+    /// 1 plus the characters that begin on the line before the offset; a byte order mark at byte 0 is not counted.
     pub column: usize,
 }
 
@@ -216,7 +216,7 @@ pub fn position(doc: &[u8], offset: usize) -> Result<Position, Refusal> {
 /// What a text decodes to.
 #[derive(Clone, PartialEq, Eq, Debug)]
 pub struct Decoded {
-    /// The bytes. Where there are errors they are what was recovered, and not a value of TOML's.
+    /// The bytes. Where there are errors, the bytes are what was recovered, and no value that TOML gives the text.
     pub bytes: Vec<u8>,
     /// The errors: opening mark, closing mark, then the body from left to right.
     pub errors: Vec<ParseError>,
@@ -240,7 +240,7 @@ pub fn decode(text: &[u8], encoding: Encoding) -> Result<Decoded, Refusal> {
 
 /// The bytes and the errors of a text of a kind, read as an edition of TOML.
 pub fn decode_in(text: &[u8], encoding: Encoding, edition: Edition) -> Result<Decoded, Refusal> {
-    // So much room always suffices, and with it nothing is counted first.
+    // This much room always suffices; with it neither bytes nor errors are counted first.
     let len = text.len().min(LIMIT);
     let mut bytes = vec![0u8; len + len / 2];
     let mut records = vec![[0usize; 3]; len + 2];

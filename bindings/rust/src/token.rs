@@ -2,7 +2,7 @@
 
 use crate::{decode_in, ffi, text, Decoded, Refusal};
 
-/// A token: its kind, its span and the line of its first byte. Its text is not judged.
+/// A token: its kind, its span and the line of its first byte. Whether its text is valid is not said.
 #[derive(Copy, Clone, PartialEq, Eq, Hash, Debug)]
 pub struct Token {
     kind: TokenKind,
@@ -48,7 +48,7 @@ impl Token {
     }
 }
 
-/// From a start up to an end, which is not counted.
+/// The bytes from a start up to an end, which is not included.
 #[derive(Copy, Clone, PartialEq, Eq, Hash, Debug)]
 pub struct Span {
     start: usize,
@@ -66,17 +66,17 @@ impl Span {
         self.start
     }
 
-    /// The place behind it.
+    /// The place after its last byte.
     pub const fn end(&self) -> usize {
         self.end
     }
 
-    /// How many bytes it has; 0 where it starts behind its end.
+    /// How many bytes it has; 0 where its start is after its end.
     pub const fn len(&self) -> usize {
         self.end.saturating_sub(self.start)
     }
 
-    /// Whether it has none.
+    /// Whether it has no byte.
     pub const fn is_empty(&self) -> bool {
         self.len() == 0
     }
@@ -153,7 +153,7 @@ impl TokenKind {
         String::from_utf8_lossy(&words.bytes[..words.length]).into_owned()
     }
 
-    /// Which decoder takes a token of this kind.
+    /// How a token of this kind is decoded; none for a kind that is no string.
     pub fn encoding(self) -> Option<Encoding> {
         match ffi::encoding(self.number()).encoding {
             39 => Some(Encoding::LiteralString),
@@ -181,7 +181,7 @@ pub enum Encoding {
 }
 
 impl Encoding {
-    /// The kind number that a decode takes.
+    /// The number of the kind that a text is decoded as.
     pub const fn number(self) -> usize {
         match self {
             Self::LiteralString => 39,
@@ -204,7 +204,7 @@ pub enum Edition {
 }
 
 impl Edition {
-    /// The number that a decode takes.
+    /// The number that names the edition.
     pub const fn number(self) -> usize {
         match self {
             Self::Toml10 => 10,

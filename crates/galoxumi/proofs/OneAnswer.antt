@@ -33,7 +33,7 @@ galoxumi-position κs a x y s t p q = p ∙ sym q
 pub galoxumi-decode : OneOutcome promised.galoxumi_decode.Reads.Learnt (λ κs r s. r and now (s .1 .1 .0) and now (s .1 .1 .1 .0))
 galoxumi-decode κs a x y s t p q = both (p .0 ∙ sym (q .0)) (both (p .1 .0 ∙ sym (q .1 .0)) (p .1 .1 ∙ sym (q .1 .1)))
 
--- the same
+-- the same of the call that names an edition
 pub galoxumi-decode-in :
     OneOutcome promised.galoxumi_decode_in.Reads.Learnt (λ κs r s. r and now (s .1 .1 .1 .0) and now (s .1 .1 .1 .1 .0))
 galoxumi-decode-in κs a x y s t p q = both (p .0 ∙ sym (q .0)) (both (p .1 .0 ∙ sym (q .1 .0)) (p .1 .1 ∙ sym (q .1 .1)))

@@ -1,4 +1,4 @@
--- The start and length that are told are those of the text that is handed back within the language.
+-- The start and the length that are answered are those of the text that `text_of` returns.
 -- Assumes nothing.
 use Prim.Native.Nat.{ℕ}
 use mathlib.Core.Path.{_≡_, refl, ap, _∙_}

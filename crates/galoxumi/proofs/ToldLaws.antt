@@ -1,4 +1,4 @@
--- The exported numbers are those in which the answers are told: each field is the number of its name.
+-- The exported numbers are the numbers of the answers as Told.antt of each crate defines them: each field is the one of its name.
 -- Assumes nothing.
 use mathlib.Core.Path.{_≡_, refl}
 use Rattle.text.specs.Told.{checkNumber, checkValue, checkLength}

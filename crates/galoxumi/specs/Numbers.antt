@@ -1,4 +1,4 @@
--- FOLLOWS. Each call's answer as the numbers that are exported: the refusal's number, 0 where answered; the number returned;
+-- FOLLOWS. Each call's answer as the numbers that are exported: the refusal's number, 0 where answered; the value returned;
 -- with refusal 1 the length of the faulty sequence; and the call's own results, zero where refused. That each field is the
 -- number of that name of the answer is proved in proofs/ToldLaws.antt.
 -- Assumes nothing.
@@ -17,15 +17,15 @@ use Rattle.decoder_rules.specs.declared.{Decoded.Decoded, Decoded.the-variants.
 use Rattle.decoder_words.specs.declared.{Said.Said, Said.the-variants.Message, Said.the-variants.Literal, Said.the-variants.Description as Wanted, Said.the-variants.Nothing, Words.Words}
 use Rattle.galoxumi.specs.declared.{AnswerNumbers.AnswerNumbers, CursorNumbers.CursorNumbers, StartNumbers.StartNumbers, StepNumbers.StepNumbers, PartNumbers.PartNumbers, PositionNumbers.PositionNumbers, DecodeNumbers.DecodeNumbers, DescribedNumbers.DescribedNumbers, EncodedNumbers.EncodedNumbers, WordsNumbers.WordsNumbers}
 
--- a flag is 0 or 1 as an answer (`bitOf`), and anything but 0 says yes as an argument
+-- a flag in an answer is 0 or 1 (`bitOf`); as an argument, anything but 0 means true
 abbrev pub flag : ℕ → Bool
 flag n = not (eqb n 0)
 
--- an answer with its number
+-- an answer, with its value
 abbrev pub answerOf : ℕ → AnswerNumbers
 answerOf value = record { refusal = 0; value = value; length = 0 }
 
--- a refusal with its numbers
+-- a refusal, with its number, its value and its length
 abbrev pub refusedBy : Refusal → AnswerNumbers
 refusedBy r = record { refusal = refusalNumber r; value = refusalValue r; length = refusalLength r }
 
@@ -42,7 +42,7 @@ abbrev pub startNumbers : Start → StartNumbers
 startNumbers (At c) = record { answer = answerOf 0; cursor = cursorNumbers c }
 startNumbers (Unstarted r) = record { answer = refusedBy r; cursor = cursorNumbers (cursorOf 0 0 false) }
 
--- a step: `given` is 1 with a token, and all behind it zero without one
+-- a step: `found` is 1 with a token; without one it and all fields after it are 0
 abbrev pub noToken : AnswerNumbers → StepNumbers
 noToken answer =
     record {
@@ -63,7 +63,7 @@ stepNumbers (Token t c) =
 stepNumbers End = noToken (answerOf 0)
 stepNumbers (Unstepped r) = noToken (refusedBy r)
 
--- whole lexing: the tokens
+-- whole lexing: the value is the count of tokens
 abbrev pub lexNumbers : Lexed → AnswerNumbers
 lexNumbers (Tokens n) = answerOf n
 lexNumbers (Unlexed r) = refusedBy r
@@ -90,12 +90,12 @@ abbrev pub positionNumbers : Position → PositionNumbers
 positionNumbers (Placed line column) = record { answer = answerOf 0; line = line; column = column }
 positionNumbers (Unplaced r) = record { answer = refusedBy r; line = 0; column = 0 }
 
--- decode: the bytes, and the errors
+-- decode: the value is the count of bytes, beside it the count of errors
 abbrev pub decodeNumbers : Decoded → DecodeNumbers
 decodeNumbers (Written bytes errors) = record { answer = answerOf bytes; errors = errors }
 decodeNumbers (Undecoded r) = record { answer = refusedBy r; errors = 0 }
 
--- decode a text of an edition and a kind into lent memory that held `output` and `errors`: the answer, and what each of the
+-- `text` decoded as `edition` and `kind`, into lent memory that held `output` and `errors`: the answer, and what each of the
 -- two holds afterwards
 abbrev pub decodeAnswer : List ℕ → ℕ → ℕ → List ℕ → List (List ℕ) → DecodeNumbers
 decodeAnswer text edition kind output errors = decodeNumbers (decodeIn text edition kind (length output) (length errors))

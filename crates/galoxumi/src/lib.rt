@@ -1,5 +1,6 @@
-// What C and Rust link: every call as an exported function, its answer in numbers. Each makes the
-// call and spells its answer; include/galoxumi.h says the same in words. Rule: specs/Numbers.antt.
+// What C and Rust link: every call as an exported function that answers in numbers. Each function
+// makes its call and puts the answer into a struct; it decides nothing itself. include/galoxumi.h says
+// in words what each answers. Rule: specs/Numbers.antt.
 ghost use mathlib.Core.Path.{_≡_};
 ghost use lib.ListN.{length};
 ghost use Rattle.text.specs.CheckMeans.{checkOf};
@@ -30,8 +31,8 @@ use lexer_token::TokenKind;
 use text::Refusal;
 use text::Utf8Check;
 
-// 0 where the call answered and else its refusal's number, the number returned with it, and the length
-// of the faulty sequence, which only refusal 1 has.
+// `refusal` is 0 where the call answered, else the refusal's number; `value` is the value returned with
+// it; `length` is the length of the faulty sequence with refusal 1, else 0.
 #[repr(C)]
 pub struct AnswerNumbers {
     pub refusal: usize,
@@ -39,7 +40,7 @@ pub struct AnswerNumbers {
     pub length: usize,
 }
 
-// A cursor; `ended` is 0 or 1.
+// A cursor; `ended` is 1 where it is ended, else 0.
 #[repr(C)]
 pub struct CursorNumbers {
     pub place: usize,
@@ -61,7 +62,7 @@ pub struct TokenNumbers {
     pub line: usize,
 }
 
-// `given` is 1 with a token, and all behind it 0 without one.
+// `found` is 1 with a token; without one it is 0, and so are all fields after it.
 #[repr(C)]
 pub struct StepNumbers {
     pub answer: AnswerNumbers,
@@ -70,7 +71,7 @@ pub struct StepNumbers {
     pub cursor: CursorNumbers,
 }
 
-// A part of a document.
+// A part of a document: `length` bytes from `start` on.
 #[repr(C)]
 pub struct PartNumbers {
     pub start: usize,
@@ -84,7 +85,7 @@ pub struct PositionNumbers {
     pub column: usize,
 }
 
-// The answer's value is the count of bytes.
+// `answer.value` is the count of bytes, `errors` the count of errors.
 #[repr(C)]
 pub struct DecodeNumbers {
     pub answer: AnswerNumbers,
@@ -140,7 +141,7 @@ pub extern "C" fn galoxumi_start(doc: &[u8]) -> StartNumbers
     }
 }
 
-// The cursor may be made by hand; one is ended if `ended` is not 0.
+// The caller may make the cursor of any numbers; it is ended if `ended` is not 0.
 #[no_mangle]
 pub extern "C" fn galoxumi_step(doc: &[u8], place: usize, ended: usize, line: usize) -> StepNumbers
     ensures { λ r. ⌜ r ≡ stepNumbers (stepOf (now (doc .entry)) (cursorOf place line (flag ended))) ⌝ }
@@ -191,7 +192,7 @@ pub extern "C" fn galoxumi_check_span(doc: &[u8], start: usize, end: usize) -> A
     }
 }
 
-// The text of a span is told by its start and length: no reference is handed out.
+// The text of a span is answered by its start and length, since an exported function returns no reference.
 #[no_mangle]
 pub extern "C" fn galoxumi_text(doc: &[u8], start: usize, end: usize) -> PartNumbers
     ensures answer { λ r. ⌜ r ≡ partOf (spanAnswer (now (doc .entry)) (spanOf start end)) start end ⌝ }
@@ -240,7 +241,7 @@ pub extern "C" fn galoxumi_decode(
     decode_numbers(decoder::decode(text, kind, output, errors))
 }
 
-// The same in the edition of TOML that a number names: 10 for TOML 1.0, 11 for TOML 1.1.
+// Decodes as the edition of TOML that `edition` names: 10 for TOML 1.0, 11 for TOML 1.1.
 #[no_mangle]
 pub extern "C" fn galoxumi_decode_in(
     text: &[u8],
@@ -382,7 +383,7 @@ fn no_token(answer: AnswerNumbers) -> StepNumbers
     }
 }
 
-// From a start to an end that is not before it; none where it is.
+// The bytes from `start` up to `end`; none where `end` is before `start`.
 fn part_from(start: usize, end: usize) -> PartNumbers
     ensures { λ r. ⌜ r ≡ partFrom start end ⌝ }
 {
@@ -395,7 +396,7 @@ fn part_from(start: usize, end: usize) -> PartNumbers
     }
 }
 
-// 1 for yes.
+// A flag as a number: 1 for true, 0 for false.
 fn bit(b: bool) -> usize
     ensures { λ r. ⌜ r ≡ bitOf b ⌝ }
 {
