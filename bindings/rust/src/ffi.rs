@@ -137,13 +137,7 @@ pub(crate) fn position(doc: &[u8], offset: usize) -> Positioned {
     unsafe { archive::galoxumi_position(doc.as_ptr(), doc.len(), offset) }
 }
 
-pub(crate) fn decode_in(
-    text: &[u8],
-    edition: usize,
-    kind: usize,
-    output: &mut [u8],
-    errors: &mut [[usize; 3]],
-) -> Decoded {
+pub(crate) fn decode_in(text: &[u8], edition: usize, kind: usize, output: &mut [u8], errors: &mut [[usize; 3]]) -> Decoded {
     unsafe {
         archive::galoxumi_decode_in(
             text.as_ptr(),

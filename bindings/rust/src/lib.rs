@@ -94,8 +94,12 @@ impl Refusal {
 impl core::fmt::Display for Refusal {
     fn fmt(&self, f: &mut core::fmt::Formatter<'_>) -> core::fmt::Result {
         match self {
-            Self::NotUtf8 { valid, error_len: Some(n) } => write!(f, "refused 1: {n} bytes from byte {valid} on are not UTF-8"),
-            Self::NotUtf8 { valid, error_len: None } => write!(f, "refused 1: the text ends inside the character at byte {valid}"),
+            Self::NotUtf8 { valid, error_len: Some(n) } => {
+                write!(f, "refused 1: {n} bytes from byte {valid} on are not UTF-8")
+            }
+            Self::NotUtf8 { valid, error_len: None } => {
+                write!(f, "refused 1: the text ends inside the character at byte {valid}")
+            }
             Self::TooLong => write!(f, "refused 2: more than {LIMIT} bytes"),
             Self::FewTokens { needed } => write!(f, "refused 3: {needed} token records are needed"),
             Self::ShortOutput { needed } => write!(f, "refused 4: {needed} bytes of output are needed"),

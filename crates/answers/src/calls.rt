@@ -1,5 +1,5 @@
-// One function for each call: makes it, and hands what it answers to `forms`. The call's own promise
-// says what that is, and `forms` promises what it comes to.
+// One function for each call: it makes the call, and hands its answer to `answers_forms`. The call's
+// own promise says what the answer is, and `answers_forms` promises what is written of it.
 ghost use Prim.Native.Nat.{_≤_};
 use answers_asking::Call;
 use answers_spelling::Reply;
@@ -55,7 +55,7 @@ fn lexcap(numbers: [usize; 3], doc: &[u8], tokens: &mut [[usize; 4]]) -> Reply {
     answers_forms::token_count(lexer::lex(doc, &mut tokens[..lent]))
 }
 
-// What is asked for, as far as it is there.
+// As many as are asked for, but no more than there are.
 fn least(asked: usize, there: usize) -> usize
     ensures { λ r. ⌜ r ≤ there ⌝ }
 {
@@ -66,13 +66,13 @@ fn dec(numbers: [usize; 3], doc: &[u8], bytes: &mut [u8], errors: &mut [[usize; 
     answers_forms::decoded(decoder::decode(doc, numbers[0], bytes, errors))
 }
 
-// The numbers are the edition's and the kind's.
+// The numbers are the edition and the kind.
 fn decin(numbers: [usize; 3], doc: &[u8], bytes: &mut [u8], errors: &mut [[usize; 3]]) -> Reply {
     let decoded = decoder::decode_in(doc, numbers[0], numbers[1], bytes, errors);
     answers_forms::decoded(decoded)
 }
 
-// The numbers are the kind, the bytes of output and the records lent.
+// The numbers are the kind, and how many bytes of output and how many records are lent.
 fn deccap(numbers: [usize; 3], doc: &[u8], bytes: &mut [u8], errors: &mut [[usize; 3]]) -> Reply {
     let output = least(numbers[1], bytes.len());
     let lent = least(numbers[2], errors.len());
@@ -111,7 +111,7 @@ fn cursor_of(place: usize, ended: usize, line: usize) -> Cursor {
     }
 }
 
-// The line of a place; 1 where it has none.
+// The line of `place`; 1 where the place is refused.
 fn line_at(doc: &[u8], place: usize) -> usize {
     match lexer_place::position_of(doc, place) {
         Position::At { line, column: _ } => line,
@@ -151,7 +151,7 @@ fn desc(numbers: [usize; 3], bytes: &mut [u8]) -> Reply {
     )
 }
 
-// To the front of the memory, as far as it reaches: how many.
+// Copies `part` to the front of `bytes`, as far as both reach, and answers how many bytes that are.
 fn copy(part: &[u8], bytes: &mut [u8]) -> usize {
     let mut i = 0;
     while i < part.len() && i < bytes.len() {

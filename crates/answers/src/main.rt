@@ -1,7 +1,7 @@
 // Answers calls: reads standard input line by line, and writes each line, ` => ` and its answer.
-// tests/README.md says which lines there are. What a line asks for is `asking`'s work, how an answer
-// is spelled `spelling`'s; here the calls are made. The lent memory is made once, and a line uses no
-// more of it than its own length asks for.
+// tests/README.md says which lines there are. `answers_asking` reads what a line asks for,
+// `answers_spelling` writes an answer; here the calls are made. The memory that is lent to them is made
+// once, and a line uses no more of it than its own length asks for.
 mod calls;
 
 ghost use Prim.Native.Nat.{_≤_};
@@ -15,7 +15,7 @@ use answers_spelling::Reply;
 
 fn main() {
     let mut input = [0u8; 65536];
-    // a document of 65,536 bytes in hex, and the words before it
+    // room for a document of 65,536 bytes in hex, and the words before it
     let mut line = [0u8; 131200];
     let mut bytes = [0u8; OUTPUT];
     let mut errors = [[0usize; 3]; RECORDS];
@@ -23,7 +23,7 @@ fn main() {
     answer_all(&mut input, &mut line, &mut bytes, &mut errors, &mut tokens);
 }
 
-// A proved loop has to end, and nothing says that the input does: so it counts down from a number
+// A proved loop has to end, and nothing says that the input does: so the loop counts down from a number
 // that no run uses up.
 fn answer_all(
     input: &mut [u8],

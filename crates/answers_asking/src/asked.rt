@@ -1,5 +1,5 @@
-// What a line asks for: the call that its first word names, the numbers behind it, and the bytes
-// that its last word spells; or why it is no call.
+// What a line asks for: the call that its first word names, the numbers after it, and the bytes that
+// its last word spells; or why the line is no call.
 ghost use Prim.Native.Nat.{_≤_};
 use crate::lines;
 use crate::lines::Reading;
@@ -9,13 +9,13 @@ use crate::words::Word;
 // The longest document that is taken.
 const DOCUMENT: usize = 65536;
 
-// One more than the most that such a document can need: half as many bytes again, and its length
-// and two errors.
+// One more than such a document can need: decoded it has at most one and a half times its bytes, and
+// at most two errors more than bytes. Lexed it has at most one token more than bytes.
 pub const OUTPUT: usize = 98305;
 
 pub const RECORDS: usize = 65539;
 
-// For a number that may be any.
+// The limit of a number that may be any.
 const ANY: usize = usize::MAX;
 
 pub enum Call {
@@ -37,10 +37,10 @@ pub enum Call {
     Unknown,
 }
 
-// Whether the line is a call, and if not, why.
+// Why a line is no call; `Nothing` where it is one.
 pub enum LineFault {
     Nothing,
-    // the input's end
+    // the input has ended: there is no line
     NoLine,
     TooLong,
     UnknownCall,
@@ -49,11 +49,11 @@ pub enum LineFault {
     NotHex,
     // a step's second number is a flag
     NotFlag,
-    // a call may lend what the program has, and no more
+    // a call can lend no more than the program has
     TooMuch,
 }
 
-// What was read. The last word spells the document.
+// What was read of a line; `document` is its last word, which spells the document.
 pub struct Question {
     pub fault: LineFault,
     pub call: Call,
@@ -84,7 +84,7 @@ pub(crate) fn read(reading: Reading, memory: &[u8]) -> Question {
     }
 }
 
-// The numbers of the words behind the name.
+// The numbers of the `count` words after the name.
 fn read_numbers(line: &[u8], name: Word, count: usize) -> Numbers
     requires { ⌜ count ≤ 3 ⌝ }
 {
@@ -102,7 +102,7 @@ fn read_numbers(line: &[u8], name: Word, count: usize) -> Numbers
     Numbers { good, values, last }
 }
 
-// The name's bytes, as `words::name_key` has them.
+// The call whose name has this key: the bytes of the name, as `words::name_key` joins them.
 fn call_of(key: usize) -> Call {
     match key {
         0x6C_65_78 => Call::Lex,
@@ -124,7 +124,7 @@ fn call_of(key: usize) -> Call {
     }
 }
 
-// How many numbers stand behind the name.
+// How many numbers follow the name.
 fn numbers_of(call: Call) -> usize
     ensures { λ r. ⌜ r ≤ 3 ⌝ }
 {
@@ -146,7 +146,7 @@ fn limits_of(call: Call) -> [usize; 3] {
     }
 }
 
-// A description is asked for by a number alone.
+// Whether the last word is a document: a description is asked for by a number alone.
 fn has_bytes(call: Call) -> bool {
     if let Call::Desc = call {
         return false;
@@ -154,7 +154,7 @@ fn has_bytes(call: Call) -> bool {
     true
 }
 
-// Why the line is no call: the first that holds of its words, its bytes and its numbers.
+// Why the line is no call: the first fault of its words, then of its bytes, then of its numbers.
 fn fault_of(line: &[u8], call: Call, numbers: Numbers, document: Word) -> LineFault {
     let values = numbers.values;
     let in_words = word_fault(call, words::count(line), numbers.good);
@@ -182,7 +182,7 @@ fn word_fault(call: Call, count: usize, good: bool) -> LineFault {
     LineFault::NotNumber
 }
 
-// The name, the numbers and the bytes.
+// How many words a line of this call has: the name, the numbers, and the document if it has one.
 fn words_of(call: Call) -> usize {
     if has_bytes(call) {
         return numbers_of(call) + 2;
@@ -203,7 +203,7 @@ fn byte_fault(call: Call, text: &[u8]) -> LineFault {
     LineFault::NotHex
 }
 
-// Is a number more than the call can take?
+// The fault of a number that is more than the call can take.
 fn number_fault(call: Call, numbers: [usize; 3]) -> LineFault {
     if within(numbers, limits_of(call)) {
         return LineFault::Nothing;

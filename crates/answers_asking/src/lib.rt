@@ -1,5 +1,5 @@
-// What standard input asks for, line by line: the next line is read, written to standard output with
-// what stands between it and its answer, and taken apart. tests/README.md says which lines there are.
+// What standard input asks for, line by line: the next line is read, written to standard output, with
+// ` => ` after it, and taken apart. tests/README.md says which lines there are.
 mod asked;
 mod lines;
 mod words;
@@ -13,15 +13,15 @@ pub use lines::Reading;
 ghost use Prim.Native.Nat.{_≤_};
 ghost use lib.ListN.{length};
 
-// What a line asks for, and where the reading then stands. The document is the front of the line's
-// memory, `len` bytes of it.
+// What a line asks for, and how far the input was read. The document is the first `len` bytes of the
+// line's memory.
 pub struct Request {
     pub reading: Reading,
     pub asked: Question,
     pub len: usize,
 }
 
-// The request of the next line. What was read decides it, of which no contract can speak: so it
+// The request of the next line. What is read decides it, and no contract can speak of that: so it
 // promises only that the document lies in the line's memory.
 pub fn next_request(start: Reading, input: &mut [u8], line: &mut [u8]) -> Request
     ensures { λ r. ⌜ r .len ≤ length (now (line .exit)) ⌝ }

@@ -1,5 +1,5 @@
-// Standard input as lines. A line that is too long to be kept is written as it comes, so that it
-// too is answered whole.
+// Standard input as lines. A line that is too long to be kept is written while it is read, so that it
+// too is written whole before its answer.
 ghost use Prim.Native.Nat.{_+_, _≤_};
 ghost use lib.ListN.{length};
 use crate::asked::LineFault;
@@ -8,8 +8,8 @@ use crate::words::Word;
 use libc::STDIN_FILENO;
 use libc::STDOUT_FILENO;
 
-// What of the input's memory is not yet taken, from `at` up to `end`; how much of the line is kept;
-// whether the line goes on; whether there may be more input.
+// How far the input was read: its memory holds bytes not yet taken from `at` up to `end`; `len` bytes
+// of the line are kept; `open` says whether the line goes on, `more` whether there may be more input.
 pub struct Reading {
     pub at: usize,
     pub end: usize,
@@ -18,11 +18,11 @@ pub struct Reading {
     pub more: bool,
 }
 
-// The length of a line that is too long to be kept: no memory has as much.
+// The `len` of a line that is too long to be kept: no memory has so many bytes.
 const TOO_LONG: usize = usize::MAX;
 
 // Reads up to an LF or the input's end, and writes the line. A proved loop has to end, and nothing
-// says that the input does: so it counts down from a number that no run uses up.
+// says that the input does: so the loop counts down from a number that no run uses up.
 pub(crate) fn next_line(start: Reading, input: &mut [u8], line: &mut [u8]) -> Reading {
     let mut reading = begin(start);
     let mut turns = u64::MAX;
@@ -34,7 +34,7 @@ pub(crate) fn next_line(start: Reading, input: &mut [u8], line: &mut [u8]) -> Re
     reading
 }
 
-// Before a line's first byte.
+// The reading before a line's first byte.
 fn begin(reading: Reading) -> Reading {
     let mut begun = reading;
     begun.len = 0;
@@ -73,7 +73,7 @@ fn take(reading: Reading, input: &[u8], line: &mut [u8]) -> Reading {
     taken
 }
 
-// More of the line, kept where there is room for it.
+// Keeps more of the line, where there is room for it.
 fn keep(reading: Reading, part: &[u8], line: &mut [u8]) -> Reading {
     let len = reading.len;
     if line.len() < len {
@@ -88,7 +88,7 @@ fn keep(reading: Reading, part: &[u8], line: &mut [u8]) -> Reading {
     kept
 }
 
-// A part for which there is no room: the first brings all that was kept before it.
+// Writes a part for which there is no room; before the first such part, all that was kept.
 fn spill(reading: Reading, part: &[u8], line: &[u8]) -> Reading {
     io::write_all(STDOUT_FILENO, words::front(line, reading.len));
     io::write_all(STDOUT_FILENO, part);
@@ -107,7 +107,7 @@ fn copy(part: &[u8], line: &mut [u8], to: usize)
     }
 }
 
-// The line, unless it was written as it came, and what stands between it and its answer.
+// Writes the line, unless it was written while it was read, and then ` => `.
 fn echo(reading: Reading, line: &[u8]) {
     if let LineFault::NoLine = fault_of(reading) {
         return;
@@ -116,7 +116,7 @@ fn echo(reading: Reading, line: &[u8]) {
     io::write_all(STDOUT_FILENO, b" => ");
 }
 
-// The input's end begins no line.
+// Why there is no line to be answered; the input's end is no line.
 pub(crate) fn fault_of(reading: Reading) -> LineFault {
     if reading.len == TOO_LONG {
         return LineFault::TooLong;

@@ -2,13 +2,13 @@
 ghost use Prim.Native.Nat.{_≤_};
 ghost use lib.ListN.{length};
 
-// From its first byte up to a space or the line's end, which is not counted.
+// A word of a line: from `start` up to `end`, where a space stands or the line ends.
 pub struct Word {
     pub start: usize,
     pub end: usize,
 }
 
-// What a word spells as a number, if it is a good one.
+// The number that a word spells; `good` says whether it spells one.
 pub struct Number {
     pub good: bool,
     pub value: usize,
@@ -27,7 +27,7 @@ pub(crate) fn count(line: &[u8]) -> usize {
     n
 }
 
-// The next place that has this byte, or the text's end.
+// The first place from `start` on that has the byte `b`, or the text's end.
 pub(crate) fn until(text: &[u8], start: usize, b: u8) -> usize {
     let mut end = start;
     while end < text.len() {
@@ -39,13 +39,13 @@ pub(crate) fn until(text: &[u8], start: usize, b: u8) -> usize {
     end
 }
 
-// The word that begins at a place, empty at the line's end.
+// The word that begins at `start`; it is empty at the line's end.
 pub(crate) fn word_at(line: &[u8], start: usize) -> Word {
     let end = until(line, start, b' ');
     Word { start, end }
 }
 
-// The word behind another, past one space.
+// The word after `word`, past one space.
 pub(crate) fn word_after(line: &[u8], word: Word) -> Word {
     let end = word.end;
     if end < line.len() {
@@ -67,13 +67,13 @@ pub(crate) fn text_of(line: &[u8], word: Word) -> &[u8] {
     &line[start..end]
 }
 
-// The first bytes of a text, or none where it has fewer.
+// The first `len` bytes of a text, or none where it has fewer.
 pub(crate) fn front(text: &[u8], len: usize) -> &[u8] {
     text_of(text, Word { start: 0, end: len })
 }
 
-// A name of up to eight bytes as one number. 0 for a longer name, and for one with a zero byte in it:
-// so no two names have one number but 0.
+// A name of up to eight bytes as one number. It is 0 for a longer name, and for one with a zero byte in
+// it, so that no two names have the same number other than 0.
 pub(crate) fn name_key(text: &[u8]) -> usize {
     if 8 < text.len() {
         return 0;
@@ -94,7 +94,7 @@ fn with_byte(key: usize, b: u8) -> usize {
     key % 0x100_0000_0000_0000 * 256 + b as usize
 }
 
-// A number in decimal digits, one at least, that 64 bits hold.
+// The number that a text of at least one decimal digit spells, if 64 bits hold it.
 pub(crate) fn read_number(text: &[u8]) -> Number {
     let mut number = Number {
         good: 0 < text.len(),
@@ -108,7 +108,7 @@ pub(crate) fn read_number(text: &[u8]) -> Number {
     number
 }
 
-// The number with one digit more behind it. What is bad stays so.
+// The number with one more digit appended. A number that is not good stays so.
 fn with_digit(number: Number, b: u8) -> Number {
     let d = hex_value(b);
     let value = number.value;
@@ -155,8 +155,7 @@ pub(crate) fn is_hex(text: &[u8]) -> bool {
     true
 }
 
-// The bytes that the word spells, to the front of the line, whose own bytes they take the place of:
-// how many.
+// Writes the bytes that the word spells over the front of the line, and answers how many they are.
 pub(crate) fn read_bytes(line: &mut [u8], word: Word) -> usize
     ensures { λ r. ⌜ r ≤ length (now (line .exit)) ⌝ }
 {

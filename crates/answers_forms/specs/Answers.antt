@@ -1,4 +1,5 @@
--- What the result of each call, and a line's fault, come to as an answer: a form and the numbers that fill it.
+-- The reply to a line: for the result of each call, and for each fault of a line, the form in which it is written and the
+-- numbers that fill the form. The comments name the calls as a line does; tests/README.md lists them.
 -- Assumes nothing.
 use Prim.Native.Nat.{ℕ}
 use mathlib.Core.Bool.{cond}
@@ -33,23 +34,23 @@ use Rattle.answers_spelling.specs.declared.Reply.{Reply}
 use Rattle.answers_spelling.specs.declared.Form.{Form}
 use Rattle.answers_spelling.specs.declared.Form.the-variants as form
 
--- two numbers, and zeros behind them
+-- two numbers, and zeros after them
 abbrev pub filledBy : Form → ℕ → ℕ → Reply
 filledBy f a b = record { form = f; numbers = a ∷ b ∷ 0 ∷ 0 ∷ 0 ∷ 0 ∷ 0 ∷ 0 ∷ [] }
 
--- two numbers behind 0 and 0
+-- two numbers after 0 and 0
 abbrev pub answeredBy : Form → ℕ → ℕ → Reply
 answeredBy f a b = record { form = f; numbers = 0 ∷ 0 ∷ a ∷ b ∷ 0 ∷ 0 ∷ 0 ∷ 0 ∷ [] }
 
--- three numbers, and zeros behind them
+-- three numbers, and zeros after them
 abbrev pub threeBy : Form → ℕ → ℕ → ℕ → Reply
 threeBy f a b c = record { form = f; numbers = a ∷ b ∷ c ∷ 0 ∷ 0 ∷ 0 ∷ 0 ∷ 0 ∷ [] }
 
--- a refusal's number and the number returned, and zeros for the call's other results
+-- a refusal's number and the value returned with it, and zeros for the call's other results
 abbrev pub refusedAs : Form → Refusal → Reply
 refusedAs f r = filledBy f (refusalNumber r) (refusalValue r)
 
--- a refusal in a line of its own: with 1 the length of the faulty sequence too
+-- a refusal in the form that only refusals have: with refusal 1 also the length of the faulty sequence
 abbrev pub refusedWhole : Refusal → Reply
 refusedWhole r =
     cond (eqb (refusalNumber r) 1) (threeBy form.Broken 1 (refusalValue r) (refusalLength r)) (refusedAs form.Refused r)
@@ -81,7 +82,7 @@ abbrev pub checkedAs : Utf8Check → Reply
 checkedAs Valid = filledBy form.Two 0 0
 checkedAs (Unchecked r) = refusedAs form.Two r
 
--- fault: the check's number, and both numbers returned
+-- fault: the refusal's number, the value and the length
 abbrev pub faultedAs : Utf8Check → Reply
 faultedAs Valid = threeBy form.Three 0 0 0
 faultedAs (Unchecked r) = threeBy form.Three (refusalNumber r) (refusalValue r) (refusalLength r)
@@ -110,7 +111,7 @@ steppedAs (Next t c) = nextAs t c
 steppedAs End = filledBy form.Ended 0 0
 steppedAs (Unstepped r) = refusedAs form.NoStep r
 
--- stepline: both with their lines
+-- stepline: the token and the next cursor with their lines
 abbrev pub nextLineAs : Token → Cursor → Reply
 nextLineAs t c =
     record { form = form.SteppedLine; numbers = recordOf t ++ (c .place ∷ bitOf (c .ended) ∷ c .line ∷ 0 ∷ []) }
@@ -133,7 +134,7 @@ describedAs (Undescribed r) len n e =
       numbers = refusalNumber r ∷ refusalValue r ∷ len ∷ n ∷ e ∷ 0 ∷ 0 ∷ 0 ∷ [];
     }
 
--- each fault has a form of its own; no fault and the input's end have nothing to say
+-- each fault has a form of its own; where there is no fault, and at the input's end, nothing is written
 abbrev pub faultForm : LineFault → Form
 faultForm fault.TooLong = form.TooLong
 faultForm fault.UnknownCall = form.UnknownCall

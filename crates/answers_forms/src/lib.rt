@@ -1,5 +1,5 @@
-// What the result of each call, and a line's fault, come to as an answer: a form and the numbers that
-// fill it. Definitions: specs/Answers.antt.
+// The reply to a line: for the result of each call, and for each fault of a line, the form in which it
+// is written and the numbers that fill the form. Definitions: specs/Answers.antt.
 ghost use mathlib.Core.Path.{_≡_};
 ghost use Rattle.lexer.specs.Told.{bitOf};
 ghost use Rattle.answers_forms.specs.Answers.{filledBy, answeredBy, threeBy, refusedAs, refusedWhole, faultAs, faultForm};
@@ -21,7 +21,7 @@ use lexer_token::Token;
 use text::Refusal;
 use text::Utf8Check;
 
-// Two numbers, and zeros behind them.
+// A reply with two numbers, and zeros after them.
 fn filled(form: Form, a: usize, b: usize) -> Reply
     ensures { λ r. ⌜ r ≡ filledBy form a b ⌝ }
 {
@@ -31,7 +31,7 @@ fn filled(form: Form, a: usize, b: usize) -> Reply
     }
 }
 
-// The same behind 0 and 0.
+// A reply with 0, 0 and two numbers, and zeros after them.
 fn answered(form: Form, a: usize, b: usize) -> Reply
     ensures { λ r. ⌜ r ≡ answeredBy form a b ⌝ }
 {
@@ -41,7 +41,7 @@ fn answered(form: Form, a: usize, b: usize) -> Reply
     }
 }
 
-// Three numbers, and zeros behind them.
+// A reply with three numbers, and zeros after them.
 fn three(form: Form, a: usize, b: usize, c: usize) -> Reply
     ensures { λ r. ⌜ r ≡ threeBy form a b c ⌝ }
 {
@@ -51,14 +51,15 @@ fn three(form: Form, a: usize, b: usize, c: usize) -> Reply
     }
 }
 
-// A refused call: the refusal's number, the number returned, and zeros for its other results.
+// A refused call: the refusal's number, the value returned with it, and zeros for the other results.
 fn refused(form: Form, why: Refusal) -> Reply
     ensures { λ r. ⌜ r ≡ refusedAs form why ⌝ }
 {
     filled(form, why.number(), why.value())
 }
 
-// The same in a line of its own, where refusal 1 tells the length of the faulty sequence too.
+// A refused call in the form that only refusals have: with refusal 1 also the length of the faulty
+// sequence.
 fn refused_whole(why: Refusal) -> Reply
     ensures { λ r. ⌜ r ≡ refusedWhole why ⌝ }
 {
@@ -77,7 +78,7 @@ pub fn tokens(lexed: Lexed) -> Reply
     }
 }
 
-// The same with their lines.
+// The tokens with their lines.
 pub fn token_lines(lexed: Lexed) -> Reply
     ensures { λ r. ⌜ r ≡ tokenLinesAs lexed ⌝ }
 {
@@ -87,7 +88,7 @@ pub fn token_lines(lexed: Lexed) -> Reply
     }
 }
 
-// 0 and the count.
+// 0 and the count of tokens.
 pub fn token_count(lexed: Lexed) -> Reply
     ensures { λ r. ⌜ r ≡ tokenCountAs lexed ⌝ }
 {
@@ -106,7 +107,7 @@ pub fn decoded(result: Decoded) -> Reply
     }
 }
 
-// 0 and both counts.
+// 0, the count of bytes and the count of errors.
 pub fn decoded_count(result: Decoded) -> Reply
     ensures { λ r. ⌜ r ≡ decodedCountAs result ⌝ }
 {
@@ -125,7 +126,7 @@ pub fn checked(check: Utf8Check) -> Reply
     }
 }
 
-// What part of a character is broken.
+// The refusal's number, the value and the length that are returned with it.
 pub fn faulted(check: Utf8Check) -> Reply
     ensures { λ r. ⌜ r ≡ faultedAs check ⌝ }
 {
@@ -172,7 +173,7 @@ pub fn stepped(step: Step) -> Reply
     }
 }
 
-// The same with the lines of the token and of the cursor.
+// A step with the lines of its token and of the next cursor.
 pub fn stepped_line(step: Step) -> Reply
     ensures { λ r. ⌜ r ≡ steppedLineAs step ⌝ }
 {
@@ -263,7 +264,7 @@ fn fault_form(why: LineFault) -> Form
     }
 }
 
-// 1 for yes.
+// A flag as a number: 1 for true, 0 for false.
 fn bit(b: bool) -> usize
     ensures { λ r. ⌜ r ≡ bitOf b ⌝ }
 {

@@ -1,4 +1,4 @@
--- The promise of this crate admits one answer only: there is but one thing to return.
+-- The promise of this crate admits one answer only: its function returns nothing.
 -- Assumes nothing.
 use mathlib.Core.Path.{sym, _∙_}
 use Rattle.text_classes.proofs.OneAnswer.{OneAnswer}

@@ -1,9 +1,9 @@
-// Answers as text. An answer is a form and the numbers that fill it; it is collected in a buffer,
-// and what is collected is written to standard output whenever the buffer is full.
+// Replies as text. A reply is a form and the numbers that fill it; its text is collected in a buffer,
+// which is written to standard output whenever it is full.
 ghost use mathlib.Core.Path.{_≡_};
 use libc::STDOUT_FILENO;
 
-// How an answer is spelled. The numbers of tests/README.md's tables, in their order, fill it.
+// How a reply is written. The numbers that tests/README.md lists for a call fill it in their order.
 pub enum Form {
     Tokens,
     TokenLines,
@@ -19,7 +19,7 @@ pub enum Form {
     Ended,
     NoStep,
     Described,
-    // a line that is no call, and why
+    // why a line is no call
     TooLong,
     UnknownCall,
     WordCount,
@@ -27,7 +27,7 @@ pub enum Form {
     NotHex,
     NotFlag,
     TooMuch,
-    // the input's end, which is no line
+    // nothing is written: the input has ended
     Nothing,
 }
 
@@ -49,7 +49,7 @@ const DECODED: Text = *b"$ | %\n__________________";
 
 const REFUSED: Text = *b"refused # #\n____________";
 
-// a refusal with a second number
+// a refusal with a value and a length
 const BROKEN: Text = *b"refused # # #\n__________";
 
 const TWO: Text = *b"# #\n____________________";
@@ -86,7 +86,7 @@ const TOO_MUCH: Text = *b"? more than can be lent\n";
 
 const NOTHING: Text = *b"________________________";
 
-// Writes an answer. It returns: of what is written no contract can speak.
+// Writes a reply. It promises that it returns; no contract can speak of what is written.
 pub fn print_answer(answer: Reply, bytes: &[u8], errors: &[[usize; 3]], tokens: &[[usize; 4]])
     ensures { λ r. ⌜ r ≡ tt ⌝ }
 {
@@ -126,8 +126,8 @@ fn text_of(form: Form) -> Text {
     }
 }
 
-// Fills an empty buffer: how much of it is used. Each other `put_` below takes the buffer and how much
-// is used, and answers how much is used afterwards.
+// Puts a form's text, filled with the numbers, into an empty buffer, and answers how much of it is used.
+// Each `put_` below takes a buffer and how much of it is used, and answers how much is used afterwards.
 fn put_text(
     out: &mut [u8],
     text: Text,
@@ -155,7 +155,7 @@ fn number_at(numbers: [usize; 8], k: usize) -> usize {
     0
 }
 
-// Which number comes next, behind this byte of the text.
+// Which number comes next, after the byte `b` of the text.
 fn next_number(k: usize, b: u8) -> usize {
     if k < 8 && takes_number(b) {
         return k + 1;
@@ -225,7 +225,7 @@ fn put_records(out: &mut [u8], used: usize, records: &[[usize; 3]], count: usize
     n
 }
 
-// The same for tokens, with their lines or without.
+// The first `count` tokens, joined by `; `, or `-` for none; with their lines where `lines` says so.
 fn put_tokens(
     out: &mut [u8],
     used: usize,
@@ -254,7 +254,7 @@ fn put_token(out: &mut [u8], used: usize, token: [usize; 4], lines: bool) -> usi
     n
 }
 
-// What stands before the record of this index.
+// What joins the record of index `i` to the one before it.
 fn put_joint(out: &mut [u8], used: usize, i: usize) -> usize {
     if i == 0 {
         return used;
@@ -268,7 +268,7 @@ fn put_record(out: &mut [u8], used: usize, record: [usize; 3]) -> usize {
     put_next(out, m, record[2])
 }
 
-// A number behind another.
+// A space and a number.
 fn put_next(out: &mut [u8], used: usize, number: usize) -> usize {
     let n = put_byte(out, used, b' ');
     put_number(out, n, number)
@@ -290,7 +290,7 @@ fn put_all(out: &mut [u8], used: usize, text: &[u8]) -> usize {
     n
 }
 
-// A full buffer is written, and used anew.
+// One byte. Where the buffer is full, it is written first, and used anew.
 fn put_byte(out: &mut [u8], used: usize, b: u8) -> usize {
     if used < out.len() {
         out[used] = b;

@@ -1,4 +1,4 @@
--- The promises of this crate admit one answer only: there is but one thing to return.
+-- The promises of this crate admit one answer only: its functions return nothing.
 -- Assumes nothing.
 use mathlib.Core.Path.{sym, _∙_}
 use Rattle.text_classes.proofs.OneAnswer.{OneAnswer}

@@ -1,6 +1,6 @@
-// The lister's work: the tokens of standard input, a line for each: kind, start, end, line, in
-// decimal, one space between, LF after; on refusal the one line `refused`, number, returned number,
-// and with number 1 the second one that it returns.
+// The lister's work: it writes a line for each token of standard input: kind, start, end and line, in
+// decimal, with one space between them and an LF after them. Where lexing refuses, it writes one line:
+// `refused`, the refusal's number, the value returned with it, and with refusal 1 the length too.
 // What a program prints is tested, not proved; proved is that this ends and stays in its buffers.
 ghost use mathlib.Core.Path.{_≡_};
 ghost use Prim.Native.Nat.{_+_, _≤_};
@@ -13,7 +13,7 @@ use libc::STDOUT_FILENO;
 const MOST: usize = 65536;
 
 // The bytes that are collected before they are written, and the most that one line takes: four
-// numbers of at most 20 digits, and a byte behind each.
+// numbers of at most 20 digits, and a byte after each.
 const ROOM: usize = 16384;
 
 const LINE: usize = 84;
@@ -22,7 +22,7 @@ const LINE: usize = 84;
 pub fn list_input()
     ensures { λ r. ⌜ r ≡ tt ⌝ }
 {
-    // One byte more than the most, so that a longer input shows itself.
+    // One byte more than the most, so that a longer input is noticed.
     let mut doc = [0u8; 65537];
     let n = io::read_full(STDIN_FILENO, &mut doc);
     list(&doc[..n]);
@@ -36,7 +36,7 @@ pub fn list(doc: &[u8])
         print_refused(2, MOST, 0);
         return;
     }
-    // As many records as bytes and one: enough for every document that comes here.
+    // One record more than bytes: enough for every document that comes here.
     let mut records = [[0usize; 4]; 65537];
     match lexer::lex(doc, &mut records) {
         Lexed::Tokens(count) => print_records(&records, count),
@@ -65,7 +65,7 @@ fn print_records(records: &[[usize; 4]], count: usize) {
     write_lines(lines, at);
 }
 
-// The place for one more line: where it might not fit, what is collected is written first.
+// The place for one more line, where `at` bytes are collected: if it might not fit, these are written first.
 fn make_room(lines: &[u8], at: usize) -> usize
     requires { ⌜ (at ≤ length (now lines)) × (84 ≤ length (now lines)) ⌝ }
     ensures { λ r. ⌜ r + 84 ≤ length (now (lines .entry)) ⌝ }
@@ -95,18 +95,18 @@ fn print_refused(number: usize, value: usize, length: usize) {
     io::write_all(STDOUT_FILENO, b"\n");
 }
 
-// A line of a record's four numbers at a place of the buffer: the place behind it.
+// Puts a line with a record's four numbers at `at`, and answers the place after it.
 fn put_line(out: &mut [u8], at: usize, record: [usize; 4]) -> usize
     requires { ⌜ at + 84 ≤ length (now out) ⌝ }
     ensures { λ r. ⌜ r ≤ at + 84 ⌝ }
 {
-    let behind_kind = put_number(out, at, record[0], b' ');
-    let behind_start = put_number(out, behind_kind, record[1], b' ');
-    let behind_end = put_number(out, behind_start, record[2], b' ');
-    put_number(out, behind_end, record[3], b'\n')
+    let after_kind = put_number(out, at, record[0], b' ');
+    let after_start = put_number(out, after_kind, record[1], b' ');
+    let after_end = put_number(out, after_start, record[2], b' ');
+    put_number(out, after_end, record[3], b'\n')
 }
 
-// A number in decimal and one byte behind it: the place behind both.
+// Puts a number in decimal and the byte `last` at `at`, and answers the place after both.
 fn put_number(out: &mut [u8], at: usize, n: usize, last: u8) -> usize
     requires { ⌜ at + 21 ≤ length (now out) ⌝ }
     ensures { λ r. ⌜ r ≤ at + 21 ⌝ }
@@ -122,7 +122,7 @@ fn put_number(out: &mut [u8], at: usize, n: usize, last: u8) -> usize
     at + k + 1
 }
 
-// A count of digits, of which there are never more than the buffer has.
+// The count `k`, but 20 at the most: so many digits fit.
 fn at_most_twenty(k: usize) -> usize
     ensures { λ r. ⌜ r ≤ 20 ⌝ }
 {
