@@ -28,8 +28,8 @@ struct Work {
     std::string doc;
     std::vector<uint8_t> out;
     std::vector<size_t> records, errors; // four numbers a token, three an error
-    std::vector<galoxumi_token> encoded;     // its strings, or in their place its Atoms, which are decoded as keys
-    size_t doc_bytes, encoded_bytes = 0, parsed_bytes; // what there is to read: at all, for a decode, for toml++
+    std::vector<galoxumi_token> encoded; // its strings, or its Atoms where a document's keys are decoded
+    size_t doc_bytes, encoded_bytes = 0, parsed_bytes; // the bytes that are read: of the document, by decoding, by toml++
 
     explicit Work(const Document &document)
         : doc(document.text), out(doc.size() * 3 / 2), records(4 * (doc.size() + 1)), errors(3 * (doc.size() + 2)),
@@ -108,7 +108,7 @@ const std::vector<Phase> phases = {
 };
 enum { MEMCPY, FROM_UTF8, CHECK, LEXING, STEP, POSITION, DECODING, PARSE };
 
-// What is computed is used.
+// Takes what a phase computes, so that the compiler does not leave the computation out.
 volatile size_t sink;
 
 // bench/count.c's MARK

@@ -1,5 +1,5 @@
 // Generated manifests of one kind each, the same bytes in every run. All are valid TOML but those of the kind "keys",
-// which are right token by token and open the same ten tables again and again.
+// whose tokens are all valid, but which open the same ten tables again and again.
 #pragma once
 
 #include <cstdio>

@@ -5,7 +5,7 @@
 
 Well-formed sequences are table 3-7 of the Unicode standard, section 3.9. Of a text that is not UTF-8, Rust's documentation
 says (core::str::Utf8Error): `valid_up_to` is the length of the longest valid prefix; `error_len` is none where the end of
-the input was reached unexpectedly, and else the length, 1 to 3, of the invalid byte sequence that starts there, behind which
+the input was reached unexpectedly, and else the length, 1 to 3, of the invalid byte sequence that starts there, after which
 decoding should go on: the longest beginning of a well-formed sequence, or one byte. None is written as 0.
 """
 
@@ -24,7 +24,7 @@ TABLE_3_7 = [
 
 
 def begun(row, rest):
-    """How many bytes in front are as the row asks."""
+    """How many bytes at the front of `rest` are as the row asks."""
     n = 0
     while n < min(len(row), len(rest)) and rest[n] in row[n]:
         n += 1
@@ -45,16 +45,16 @@ def answer(text):
 
 
 def low(lead):
-    """The lowest second byte that may stand behind a first byte."""
+    """The lowest second byte that may follow the first byte `lead`."""
     return {0xE0: 0xA0, 0xF0: 0x90}.get(lead, 0x80)
 
 
-def varied(front, behind):
-    """The answers for each byte between what stands in front and behind, a word for each run of bytes with one answer."""
+def varied(before, after):
+    """The answers for each byte between `before` and `after`, a word for each run of bytes with the same answer."""
     words, first = [], 0
     for b in range(256):
-        here = answer(front + [b] + behind)
-        if b == 255 or answer(front + [b + 1] + behind) != here:
+        here = answer(before + [b] + after)
+        if b == 255 or answer(before + [b + 1] + after) != here:
             words.append(f' {first:02x}-{b:02x} {here}')
             first = b + 1
     return ''.join(words)

@@ -46,7 +46,7 @@ def read_lines(name):
     return agreed([tuple(line.split(b' => ')) for line in (TESTS / name).read_bytes().splitlines()])
 
 
-# ---- 1: document 01's texts; 3: the vectors
+# ---- 1: the texts of the project's scope, with their answers; 3: the vectors
 
 def scope():
     return read_lines('scope.txt')
@@ -119,7 +119,7 @@ def invalid_utf8():
 
 
 def invalid_strings():
-    """Of each case the string tokens that report an error: one at least."""
+    """The string tokens of each case that have an error: at least one of them."""
     out = []
     for case in invalid_cases('string'):
         lines = by_reference(*[call('dec', kind, text) for kind, text in token_texts(case)])
@@ -140,7 +140,7 @@ def out_of_sight():
 # ---- 4: boundaries, by the second implementation
 
 def around(n):
-    """None, one short, exact, one more."""
+    """Lent none, one short, exactly as many as are needed, and one more."""
     return sorted({0, max(n - 1, 0), n, n + 1})
 
 
@@ -181,7 +181,7 @@ def every_call(doc):
 
 PLACES = [b'', b'a', '\u00e9=1'.encode(), BOM + b'a', b'a\nb\r\n\nc', 'a\u20ac\U0001f600'.encode(), b'\x80\xbf', b'"a\\"\n']
 
-# and what only a column can tell: a mark that stands elsewhere, half a mark, an accent behind a mark and behind an LF
+# documents that differ in their columns only: a byte order mark not at the start, half of one, an accent after one and after an LF
 COLUMNS = [BOM + BOM + b'a', BOM[:2] + b'a', b'a' + BOM + b'b', BOM + '\u00e9\n\u00e9x'.encode(), b'\xc3\n\xa9\xa9z', BOM + b'\n']
 
 
@@ -219,7 +219,7 @@ def kinds():
 
 
 def editions():
-    """What the editions differ in, and what they do not; and the numbers that are none."""
+    """Escapes in which the editions differ, and others; and numbers that are no edition."""
     texts = [mark + b'\\' + bytes(t) + mark for mark in (b'"', b'"""') for n in range(4) for t in itertools.product(b'exuU4g\\', repeat=n)]
     both = [call('decin', edition, 2 if text.startswith(b'"""') else 34, text) for text in texts for edition in (10, 11)]
     rest = [call('decin', 11, kind, mark + b'\\e\\x41' + mark) for kind, mark in ((39, b"'"), (1, b"'''"), (3, b''))]
@@ -230,9 +230,9 @@ def editions():
 
 
 def faults():
-    """Each first byte beyond ASCII, with good and wrong bytes behind it and with none; and the calls that hand a fault on."""
-    behind = [b'', b'x', b'\x80', b'\x80x', b'\x9f', b'\xa0', b'\xa0x', b'\x90\x80', b'\x90\x80x', b'\xa0\x80x', b'\x80\x80\x80', b'\xbf\xbf\xc0']
-    docs = [b'a' + bytes([lead]) + tail for lead in range(0x80, 0x100) for tail in behind]
+    """Each first byte beyond ASCII, followed by good bytes, by wrong ones and by none; and the calls that hand a fault on."""
+    tails = [b'', b'x', b'\x80', b'\x80x', b'\x9f', b'\xa0', b'\xa0x', b'\x90\x80', b'\x90\x80x', b'\xa0\x80x', b'\x80\x80\x80', b'\xbf\xbf\xc0']
+    docs = [b'a' + bytes([lead]) + tail for lead in range(0x80, 0x100) for tail in tails]
     some = [b'\xff', b'a\xc3', b'a\xe2\x82', b'a\xe2\x82=', b'\xed\xa0\x80', b'\xf0\x90\x80', b'\xf0\x90\x80z', b'']
     return by_reference(*[call('fault', doc) for doc in docs + some], *[call('lex', doc) for doc in some],
                         *[call('dec', 34, doc) for doc in some], *[call('decin', 11, 2, doc) for doc in some],
@@ -254,7 +254,7 @@ def short_texts():
 
 
 def wrong_lines():
-    """Lines that are no call. The last has no LF behind it."""
+    """Lines that are no call. The last has no LF after it."""
     over = b'0' * 131200
     return by_reference(
         b'', b' ', b'-', b'lexx -', b'Lex -', b'le', b'lex\t-', b'\x00', b'\xff\xfe', b' lex -', b'=> 4 0 0', b'span0 0 -',
@@ -293,7 +293,7 @@ def main():
 
 
 def check(made):
-    """Says which files are not what is made, and how many are; whether any is not."""
+    """Prints which files are not what is made, and how many are; answers whether any is not."""
     wrong = [path for path, data in made.items() if not path.exists() or path.read_bytes() != data]
     for path in wrong:
         print('FAILED: %s is not what this script makes: run tests/make_answers.py and read the difference' % path.relative_to(TESTS.parent))

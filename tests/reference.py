@@ -4,7 +4,7 @@
 It answers the same lines as the program `answers`: reads calls from standard input, a call a line, and
 writes each with ` => ` and its answer. Tests take expected answers from here where neither the rules'
 own examples nor the published suite have them. It is slow and plain on purpose: it shares no structure
-with the proved code (no pieces, no blocks, no tables), so that the two fail apart.
+with the proved code (no pieces, no blocks, no tables), so that the two do not share a mistake.
 
     tests/reference.py < calls > answers
 """
@@ -49,7 +49,7 @@ def find(doc, at, targets):
 
 
 def quoted(doc, at, closing, stop):
-    """Behind an opening mark: through the closing, escapes observed for the quotation mark."""
+    """The place after a string whose opening mark ends at `at`, and whether it is closed; `stop`: an LF ends it."""
     basic = closing[:1] == b'"'
     while True:
         i, which = find(doc, at, [closing] + ([b'\\'] if basic else []) + ([b'\n'] if stop else []))
@@ -131,7 +131,7 @@ def strip(text, mark, number, trims, newline):
 
 
 def escape(text, at, end, errors, edition):
-    """An escape whose backslash stands before `at`: its bytes, and the place behind it."""
+    """An escape whose backslash stands before `at`: its bytes, and the place after it."""
     b = text[at] if at < end else None
     if edition == 11 and b == 0x65:
         return b'\x1b', at + 1
@@ -156,7 +156,7 @@ def escape(text, at, end, errors, edition):
 
 
 def line_ending(text, at, end, errors):
-    """A line-ending escape whose backslash stands before `at`: the place behind all that it drops."""
+    """A line-ending escape whose backslash stands before `at`: the place after all that it drops."""
     while at < end and text[at] in b' \t':
         at += 1
     if at < end and text[at] == 0x0A:
@@ -248,7 +248,7 @@ def refused(refusal, doc=b''):
 
 
 def fault_length(doc):
-    """The bytes behind the valid prefix that are at fault, 0 where the text ends inside a character: by Python's own decoder."""
+    """How many bytes after the valid prefix are at fault, by Python's own decoder; 0 where the text ends inside a character."""
     try:
         doc.decode()
     except UnicodeDecodeError as e:
@@ -325,7 +325,7 @@ def stepline(place, ended, line, doc):
 
 
 def step(place, ended, doc):
-    """Without lines, from the line that the place has."""
+    """Answers without lines; the cursor has the line of its place."""
     parts = stepline(place, ended, line_of(doc, place) if place <= len(doc) else 1, doc).split(' | ')
     without = [part if part in ('end', '-') or i == 0 else part.rpartition(' ')[0] for i, part in enumerate(parts)]
     return ' | '.join(without)
@@ -372,13 +372,13 @@ def fault(doc):
     return '%d %d %d' % (no, number, fault_length(doc) if no == 1 else 0)
 
 
-# The name, and what stands behind it: n a number, b a flag, r records lent, o output lent, x bytes in hex.
+# For each name its function and the words after it: n a number, b a flag, r records lent, o output lent, x bytes in hex.
 CALLS = {b'lex': (lex, 'x'), b'lexline': (lexline, 'x'), b'lexcap': (lexcap, 'rx'), b'dec': (dec, 'nx'), b'deccap': (deccap, 'norx'),
          b'decin': (decin, 'nnx'), b'utf8': (utf8, 'x'), b'fault': (fault, 'x'),
          b'start': (start, 'x'), b'step': (step, 'nbx'), b'stepline': (stepline, 'nbnx'), b'span': (span, 'nnx'), b'text': (text, 'nnx'), b'pos': (pos, 'nx'),
          b'desc': (desc, 'n')}
 
-# What the program has: for a line, a document, output and records.
+# The most that the program takes: bytes of a line, bytes of a document, bytes of output, records.
 LINE, DOCUMENT, OUTPUT, RECORDS = 131200, 65536, 98305, 65539
 MOST = {'o': OUTPUT, 'r': RECORDS}
 

@@ -1,4 +1,4 @@
-/* Counting what is expected: each expectation stands behind a FROM that names its source, and a failure
+/* Counting what is expected: each expectation follows a FROM that names its source, and a failure
  * prints the source with it. A test is a function of such expectations: it passed where they all hold. */
 #ifndef EXPECT_H
 #define EXPECT_H

@@ -7,7 +7,7 @@
 
 /* ---- lexing */
 
-/* Lexed with records to spare: the tokens, and the record behind them kept. With as many as there are
+/* Lexed with records to spare: the tokens, and the record after them kept. With as many as there are
  * tokens: the same. With one fewer, and with none: refusal 3, and nothing written. */
 static int lexes(const uint8_t *doc, size_t len, const size_t (*tokens)[4], size_t count)
 {
@@ -51,7 +51,7 @@ static void lexing(void)
     EXPECT(answers(galoxumi_check_utf8(BYTES("a\xED\xA0\x80")), 1, 1));
 }
 
-/* A multi-line string of n bytes between its marks, every k-th of them an LF, and Eof behind it: two tokens, and the
+/* A multi-line string of n bytes between its marks, every k-th of them an LF, and Eof after it: two tokens, and the
  * line of the second is 1 plus those LFs. */
 static int counts_lines(size_t n, size_t k)
 {
@@ -68,7 +68,7 @@ static int counts_lines(size_t n, size_t k)
 
 static void lines_of_long_strings(void)
 {
-    FROM("docs/RULES.md, 1 plus the LFs before it: through blocks of 128 bytes, and the rest behind them");
+    FROM("docs/RULES.md, 1 plus the LFs before it: through blocks of 128 bytes, and the rest after them");
     for (size_t n = 0; n <= 300; n++) {
         for (size_t k = 1; k <= 18; k++) {
             EXPECT(counts_lines(n, k));
@@ -107,7 +107,7 @@ static void stepping(void)
     FROM("docs/RULES.md, the refusals: 6 with the document's length");
     EXPECT(steps_nowhere(galoxumi_step(BYTES("a"), 2, 0, 1), 6, 1));
     EXPECT(steps_nowhere(galoxumi_step(BYTES("a"), SIZE_MAX, 1, 1), 6, 1));
-    FROM("the request for lines: a wrong line is counted on from; 6 for a line past the place plus 1");
+    FROM("docs/RULES.md, line and column: a wrong line is counted on from; the refusals: 6 for a line past the place plus 1");
     EXPECT(steps(galoxumi_step(BYTES("a\n\nb"), 2, 0, 3), (galoxumi_token)T(10, 2, 3, 3), (galoxumi_cursor){3, 0, 4}));
     EXPECT(steps(galoxumi_step(BYTES("a\n\nb"), 3, 0, 0), (galoxumi_token)T(3, 3, 4, 0), (galoxumi_cursor){4, 0, 0}));
     EXPECT(steps_nowhere(galoxumi_step(BYTES("a\n\nb"), 2, 0, 4), 6, 4));
@@ -115,7 +115,7 @@ static void stepping(void)
 
 /* ---- decoding */
 
-/* Decoded with room to spare, and with just enough: the bytes and the errors, and what is behind them kept.
+/* Decoded with room to spare, and with just enough: the bytes and the errors, and what stands after them kept.
  * With a byte or a record too few, and with none: refusal 4 or 5, and nothing written. */
 static int decodes(size_t kind, const uint8_t *text, size_t len, const uint8_t *bytes, size_t n, const size_t (*errors)[3], size_t m)
 {
@@ -220,7 +220,7 @@ static void places(void)
     FROM("tests/scope.txt, pos");
     EXPECT(is_position(galoxumi_position(BYTES("\xC3\xA9=1"), 2), 0, 0, 1, 2));
     FROM("crates/lexer_place/specs/Positions.antt");
-    FROM("the request for columns of characters: offsets 0 to 3 of a document with a byte order mark are all column 1");
+    FROM("docs/RULES.md, line and column: offsets 0 to 3 of a document with a byte order mark are all column 1");
     for (size_t i = 0; i <= 3; i++)
         EXPECT(is_position(galoxumi_position(BYTES("\xEF\xBB\xBF" "a"), i), 0, 0, 1, 1));
     EXPECT(is_position(galoxumi_position(BYTES("\xEF\xBB\xBF" "a"), 4), 0, 0, 1, 2));
@@ -438,7 +438,7 @@ static void faults(void)
     EXPECT(galoxumi_check_utf8(BYTES("a")).length == 0 && galoxumi_lex(BYTES("a"), tokens, 0).length == 0);
 }
 
-/* The editions: 10 is galoxumi_decode's own, 11 adds two escapes, and another number is refused behind a kind's. */
+/* The editions: 10 is galoxumi_decode's own, 11 adds two escapes, and another number is refused after a wrong kind. */
 static void editions(void)
 {
     uint8_t out[16];
@@ -448,12 +448,12 @@ static void editions(void)
     FROM("the ABNF of TOML 1.1.0: escape-seq-char has e (U+001B) and x with two hex digits besides");
     galoxumi_decoded d = galoxumi_decode_in(text, len, 11, 34, out, 16, records, 4);
     EXPECT(answers(d.answer, 0, 2) && d.errors == 0 && out[0] == 0x1B && out[1] == 0x41);
-    FROM("docs/RULES.md, the errors: 8 behind the backslash");
+    FROM("docs/RULES.md, the errors: 8 after the backslash");
     d = galoxumi_decode_in(text, len, 10, 34, out, 16, records, 4);
     EXPECT(answers(d.answer, 0, 6) && d.errors == 2 && records[0][0] == 8 && records[0][1] == 2 && records[1][1] == 4);
     d = galoxumi_decode(text, len, 34, out, 16, records, 4);
     EXPECT(answers(d.answer, 0, 6) && d.errors == 2 && records[0][0] == 8 && records[0][1] == 2 && records[1][1] == 4);
-    FROM("docs/RULES.md, the refusals: 9 with the number named, behind 7 and before 4");
+    FROM("docs/RULES.md, the refusals: 9 with the number named, after 7 and before 4");
     out[0] = 0xA5;
     EXPECT(answers(galoxumi_decode_in(text, len, 12, 34, out, 0, records, 4).answer, 9, 12));
     EXPECT(answers(galoxumi_decode_in(text, len, 12, 39, out, 16, records, 4).answer, 9, 12));

@@ -81,7 +81,7 @@ fn no_leads() {
     lone(0xF5, 0x100);
 }
 
-// Each byte from a up to e, with three continuation bytes behind it.
+// Each byte from `a` up to `e`, which is not included, with three continuation bytes after it.
 fn lone(a: usize, e: usize) {
     let mut b = a;
     while b < e {
@@ -109,7 +109,7 @@ fn wrong_tails() {
     check(b"\xF1\x80\x80\xC0");
 }
 
-// Faults behind runs of ASCII of every length around the blocks of the scan, and behind characters.
+// Faults after runs of ASCII that are about as long as a word or a block of the scan, and after characters.
 fn after_others() {
     check(b"1234567\xFF");
     check(b"12345678\xFF");

@@ -1,6 +1,6 @@
-// Prints, for each byte class, the ranges of bytes that its function says yes to, over all 256
-// bytes. The expected ranges, in the file stdout, are copied by hand from the ABNF of TOML 1.0.0, but
-// for token-start, which is the lexer's own, and continuation, which is UTF-8's.
+// Prints, for each byte class, the ranges of bytes for which its function answers true, over all 256
+// bytes. The expected ranges, in the file stdout, are copied by hand from the ABNF of TOML 1.0.0, except
+// token-start, which is the lexer's own, and continuation, which is UTF-8's.
 use libc::STDOUT_FILENO;
 
 fn main() {
@@ -47,7 +47,7 @@ fn ranges(class: u8, name: &[u8]) {
     io::write_all(STDOUT_FILENO, b"\n");
 }
 
-// Opens or closes a range at b, and answers whether b is in the class.
+// Opens or closes a range at `b`, and answers whether `b` is in the class.
 fn next(class: u8, b: u8, before: bool) -> bool {
     let yes = in_class(class, b);
     if yes && !before {
@@ -59,7 +59,7 @@ fn next(class: u8, b: u8, before: bool) -> bool {
     yes
 }
 
-// The byte before b, which ends a range.
+// Prints the byte before `b`, with which a range ends.
 fn last(b: u8) {
     if 0 < b {
         byte(b"-", b - 1);

@@ -1,7 +1,7 @@
 // Runs the worked examples of `decode`, and each of its refusals but 2 (whose texts no program's stack
-// can hold), through the compiled code. A line for each call: kind, bytes and records lent, then the
-// answer's number and two values, and with 1 a third; below it what the lent memory holds afterwards,
-// where 2A and 0 0 0 were before. `stdout` is written from the rules.
+// can hold), through the compiled code. A line for each call: the kind, the bytes and the records that are
+// lent, then the answer's number and two values, with refusal 1 a third; below it what the lent memory
+// holds afterwards, which held 2A and 0 0 0 before. The file stdout is written from the rules.
 ghost use Prim.Native.Nat.{_≤_, _<_};
 use decoder::Decoded;
 
@@ -62,7 +62,7 @@ fn print_answer(answer: Decoded) {
     line();
 }
 
-// One call, with all of the output and the records lent.
+// One call, to which all of `output` and `errors` is lent.
 fn run(kind: usize, text: &[u8], output: &mut [u8], errors: &mut [[usize; 3]]) {
     io::print_decimal(1, kind as u64);
     number(output.len());
@@ -74,7 +74,7 @@ fn run(kind: usize, text: &[u8], output: &mut [u8], errors: &mut [[usize; 3]]) {
     print_records(errors);
 }
 
-// The same, with `room` bytes and `slots` records.
+// One call, to which `room` bytes and `slots` records are lent.
 fn show(kind: usize, text: &[u8], room: usize, slots: usize)
     requires { ⌜ (room ≤ 16) × (slots ≤ 4) ⌝ }
 {
@@ -104,7 +104,7 @@ fn others() {
     show(3, b"\xC3\xA9", 3, 3);
 }
 
-// Nine bytes and three errors: none, one short, exactly enough, and one more of each.
+// A text that needs nine bytes and three errors: with none of each, one short, exactly enough, and one more.
 fn lent() {
     show(34, b"\"\\u\\u\\u\"", 0, 3);
     show(34, b"\"\\u\\u\\u\"", 8, 3);
@@ -117,7 +117,7 @@ fn lent() {
     show(34, b"\"\\u\\u\\u\"", 16, 4);
 }
 
-// Not UTF-8, another kind number, and the order of the refusals.
+// Texts that are not UTF-8, numbers that are no kind, and the order of the refusals.
 fn refused() {
     show(34, b"\"a\xFF\"", 4, 2);
     show(4, b"\"a\xFF\"", 0, 0);

@@ -1,12 +1,12 @@
-// What part of a character is broken: each byte that is not ASCII as a first byte, with every second,
-// third and fourth byte behind it, the bytes between being right, where the text ends there and
-// where an ASCII byte follows. An answer is `ok`, or the length of the longest valid prefix and that
-// of the faulty sequence. The expected lines, in the file stdout, are made by tests/faults.py from
-// the Unicode standard's table 3-7 and from what Rust documents of Utf8Error's error_len.
+// Which bytes the UTF-8 check finds at fault: each byte that is not ASCII comes first, with every byte
+// as the second, the third and the fourth; the bytes between are right, and the text ends there, or an
+// ASCII byte follows. An answer is `ok`, or the length of the longest valid prefix and that of the
+// faulty sequence. The expected lines, in the file stdout, are made by tests/faults.py from the Unicode
+// standard's table 3-7 and from what Rust documents of Utf8Error's error_len.
 use libc::STDOUT_FILENO;
 use text::Utf8Check;
 
-// The bytes in front of the one that varies: the first n, one to three.
+// The bytes before the one that varies: the first `n` of `a`, `b` and `c`.
 struct Opening {
     n: usize,
     a: u8,
@@ -29,7 +29,7 @@ fn main() {
     }
 }
 
-// All that may be wrong behind one first byte.
+// The answers for all texts that begin with the byte `a`.
 fn faults(a: u8) {
     hex(a);
     io::write_all(STDOUT_FILENO, b" ");
@@ -58,7 +58,7 @@ fn faults(a: u8) {
     });
 }
 
-// The lowest second byte that may stand behind a first byte.
+// The lowest second byte that may follow the first byte `a`.
 fn lowest(a: u8) -> u8 {
     match a {
         0xE0 => 0xA0,
@@ -67,7 +67,8 @@ fn lowest(a: u8) -> u8 {
     }
 }
 
-// Every byte behind those: the text ends there, and then an ASCII byte follows.
+// The answers for every byte after the opening `f`: first where the text ends there, then where an ASCII
+// byte follows.
 fn varied(f: Opening) {
     bytes(f);
     io::write_all(STDOUT_FILENO, b"..");
@@ -91,7 +92,7 @@ fn bytes(f: Opening) {
     }
 }
 
-// Runs of bytes with one answer, a word for each.
+// The answers for every byte after `f`, a word for each run of bytes with the same answer.
 fn runs(f: Opening, followed: bool) {
     let mut first: usize = 0;
     let mut b: usize = 0;
@@ -115,7 +116,7 @@ fn answer_to(f: Opening, v: usize, followed: bool) -> Told {
     ended_by(f, b)
 }
 
-// The text ends with the byte v.
+// The answer for `f` and the byte `v`, with which the text ends.
 fn ended_by(f: Opening, v: u8) -> Told {
     let n = f.n;
     match n {
@@ -125,7 +126,7 @@ fn ended_by(f: Opening, v: u8) -> Told {
     }
 }
 
-// An ASCII byte stands behind it.
+// The answer for `f`, the byte `v` and an ASCII byte after it.
 fn followed_by(f: Opening, v: u8) -> Told {
     let n = f.n;
     match n {

@@ -1,5 +1,5 @@
-// Whole lexing into token structs, run: documents and their tokens, as kind, start, end and line, and a
-// document of more tokens than are lent. The expected lines are in the file stdout.
+// Runs whole lexing into token structs: documents with their tokens, as kind, start, end and line, and a
+// document that has more tokens than records are lent. The expected lines are in the file stdout.
 ghost use Prim.Native.Nat.{_≤_};
 use lexer::Lexed;
 use lexer_token::Token;

@@ -51,7 +51,7 @@ fn rows(records: &[[usize; 4]], count: usize) {
     }
 }
 
-// Whole lexing, with more records than tokens: those behind the last written are still 9 9 9 9.
+// Whole lexing, with more records than tokens: the records after the last written one still hold 9 9 9 9.
 fn tokens(doc: &[u8]) {
     let mut records = [[9usize; 4]; 8];
     match lexer::lex(doc, &mut records) {
