@@ -1,5 +1,5 @@
--- FOLLOWS. The numbers in which span check and position are told: each follows from the answer, and promises say besides
--- what they come to for the arguments. Proved by `span-checked` and `positioned` in proofs/NumberLaws.antt.
+-- FOLLOWS. The answers of span check and position in numbers, first by the answer and then by the arguments. Promises say that
+-- both are the same; `span-checked` and `positioned` in proofs/NumberLaws.antt prove it.
 -- Assumes nothing.
 use Prim.Native.Nat.{ℕ}
 use mathlib.Core.{Bool.cond, List.List}
@@ -11,7 +11,7 @@ use Rattle.lexer_place.specs.declared.{SpanCheck.SpanCheck, SpanCheck.th
 
 -- ---- the span check
 
--- its number, and the number returned
+-- by the answer: the refusal's number, 0 for none, and the value returned
 abbrev pub spanNumber : SpanCheck → ℕ
 spanNumber Whole = 0
 spanNumber (Refused r) = refusalNumber r
@@ -20,7 +20,7 @@ abbrev pub spanValue : SpanCheck → ℕ
 spanValue Whole = 0
 spanValue (Refused r) = refusalValue r
 
--- the two numbers for a document and a span: 2 with the limit, 6 with the document's length, else 0
+-- by a document and a span: 2 with the limit, 6 with the document's length, else 0
 abbrev pub spanRefusal : List ℕ → Span → ℕ
 spanRefusal doc s = cond (ltb limit (length doc)) 2 (cond (misplaced doc s) 6 0)
 
@@ -29,7 +29,7 @@ spanReturned doc s = cond (ltb limit (length doc)) limit (cond (misplaced doc s)
 
 -- ---- the position
 
--- its number, the number returned, and its line: 0 where refused
+-- by the answer: the refusal's number, the value returned, and the line, 0 where refused
 abbrev pub positionNumber : Position → ℕ
 positionNumber (At line column) = 0
 positionNumber (Unplaced r) = refusalNumber r
@@ -42,7 +42,7 @@ abbrev pub positionLine : Position → ℕ
 positionLine (At line column) = line
 positionLine (Unplaced r) = 0
 
--- the first two for a document and an offset: 2 with the limit, 6 with the document's length, else 0
+-- the first two by a document and an offset: 2 with the limit, 6 with the document's length, else 0
 abbrev pub positionRefusal : List ℕ → ℕ → ℕ
 positionRefusal doc offset = cond (ltb limit (length doc)) 2 (cond (ltb (length doc) offset) 6 0)
 

@@ -1,4 +1,4 @@
--- STATEMENT. What is said of both forms of whole lexing, each proved in proofs/Agreement.antt under the name that
+-- STATEMENT. Theorems about both forms of whole lexing, each proved in proofs/Agreement.antt under the name that
 -- its comment gives.
 -- Assumes nothing.
 use Prim.Native.Nat.{ℕ}

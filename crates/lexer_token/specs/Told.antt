@@ -1,6 +1,5 @@
--- FOLLOWS. The numbers in which the answers of this crate are told: each follows from the answer, and promises say besides
--- what they come to for a number that is read as a kind. Proved by `read-numbers`, `described-numbers` and `encoded-numbers`
--- in proofs/NumberLaws.antt.
+-- FOLLOWS. The answers of this crate in numbers, first by the answer and then by the number that is read as a kind. Promises
+-- say that both are the same; `read-numbers`, `described-numbers` and `encoded-numbers` in proofs/NumberLaws.antt prove it.
 -- Assumes nothing.
 use Prim.Native.Nat.{ℕ}
 use mathlib.Core.{Bool.Bool, Bool.true, Bool.false, Bool.cond}
@@ -8,7 +7,7 @@ use Rattle.text.specs.{Refusals.refusalNumber, Refusals.refusalValue}
 use Rattle.lexer_token.specs.{KindNumbers.kindOfNumber}
 use Rattle.lexer_token.specs.declared.{KindRead.KindRead, KindRead.the-variants.Kind, KindRead.the-variants.Refused as Unread, Answer.Answer, Answer.the-variants.Found, Answer.the-variants.Refused}
 
--- the number with which a reading is answered, 0 or the refusal's, and the number returned
+-- by what a number is read as: the refusal's number, 0 for none, and the value returned
 abbrev pub kindReadNumber : KindRead → ℕ
 kindReadNumber (Kind k) = 0
 kindReadNumber (Unread r) = refusalNumber r
@@ -17,7 +16,7 @@ abbrev pub kindReadValue : KindRead → ℕ
 kindReadValue (Kind k) = 0
 kindReadValue (Unread r) = refusalValue r
 
--- the same two numbers of an answer
+-- by an answer: the same two numbers
 abbrev pub answerNumber : Answer → ℕ
 answerNumber Found = 0
 answerNumber (Refused r) = refusalNumber r

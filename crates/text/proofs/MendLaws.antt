@@ -1,4 +1,4 @@
--- What the second value of a refusal tells. No character stands after the longest valid prefix, so further bytes mend what is
+-- What the length of a refusal tells. No character stands after the longest valid prefix, so further bytes mend what is
 -- left exactly where all of it begins a character.
 -- Assumes nothing.
 use Prim.Native.Nat.{ℕ, _+_, _≤_}

@@ -1,6 +1,6 @@
 -- RULE. What the calls of this crate answer, and what each answer of the UTF-8 check says of the bytes. The check's promise is
 -- an equation with the computed `checkOf`; `check-means`, in proofs/AnswerLaws.antt, proves that the equation says just what
--- `CheckMeans` says. The length that goes with refusal 1 is what Rust's own UTF-8 error tells: its `error_len`, 0 for none.
+-- `CheckMeans` says. The length returned with refusal 1 is the `error_len` of Rust's own UTF-8 error, 0 for none.
 use Prim.Native.Nat.{ℕ, _-_, _≤_, _<_}
 use mathlib.Core.{Path._≡_, Bool.cond, List.List, List.[], List._++_}
 use lib.{ListN.length, ListN.take, ListN.drop, ListN.replicate, Dec.ltb, Dec.eqb}

@@ -1,4 +1,4 @@
--- STATEMENT. What the second value tells that is returned with a refusal. Proved in proofs/MendLaws.antt.
+-- STATEMENT. What the length that is returned with a refusal tells. Proved in proofs/MendLaws.antt.
 -- Assumes nothing.
 use Prim.Native.Nat.{ℕ, _≤_}
 use mathlib.Core.{Path._≡_, Logic._↔_, List.List, List._++_}
@@ -9,10 +9,10 @@ use Rattle.text.specs.declared.{refusal.Refusal.Refusal, refusal.Refusal
 abbrev pub Mendable : List ℕ → Type 0
 Mendable s = (more : List ℕ) × Utf8 (s ++ more)
 
--- `length-tells`: with refusal 1 it is at most 3, and 0 exactly where some further bytes would mend the text
+-- `length-tells`: with refusal 1 the length is at most 3, and 0 exactly where some further bytes would mend the text
 abbrev pub LengthTells : Type 0
 LengthTells = (s : List ℕ) (n r : ℕ) → CheckMeans s (Refused (NotUtf8 n r)) → (r ≤ 3) × ((r ≡ 0) ↔ Mendable s)
 
--- `length-else`: with every other refusal it is 0
+-- `length-else`: with every other refusal the length is 0
 abbrev pub LengthElse : Type 0
 LengthElse = (r : Refusal) → (refusalNumber r ≡ 1 → ⊥) → refusalLength r ≡ 0

@@ -1,5 +1,5 @@
--- FOLLOWS. The numbers in which the UTF-8 check is told: each follows from its answer, and the promise of `check_utf8` says
--- besides what they come to for the bytes. Proved by `told` in proofs/AnswerLaws.antt.
+-- FOLLOWS. The answer of the UTF-8 check in numbers, first by the answer and then by the bytes. The promise of `check_utf8`
+-- says that both are the same; `told` in proofs/AnswerLaws.antt proves it.
 -- Assumes nothing.
 use Prim.Native.Nat.{ℕ}
 use mathlib.Core.{Bool.cond, List.List}
@@ -7,7 +7,7 @@ use lib.{ListN.length, ListN.drop, Dec.ltb, Dec.eqb}
 use Rattle.text.specs.{Refusals.limit, Refusals.refusalNumber, Refusals.refusalValue, Refusals.refusalLength, Utf8Read.validPrefix, Lead.faultLen}
 use Rattle.text.specs.declared.{utf8.Utf8Check.Utf8Check, utf8.Utf8Check.the-variants.Valid, utf8.Utf8Check.the-variants.Refused}
 
--- its number and the number returned, and the second one, which only refusal 1 returns
+-- by the answer: the refusal's number, 0 for none; the value returned; and the length, which only refusal 1 returns
 abbrev pub checkNumber : Utf8Check → ℕ
 checkNumber Valid = 0
 checkNumber (Refused r) = refusalNumber r
@@ -20,8 +20,7 @@ abbrev pub checkLength : Utf8Check → ℕ
 checkLength Valid = 0
 checkLength (Refused r) = refusalLength r
 
--- what they come to for the bytes s: 2 with the limit, 1 with the lengths of the longest valid prefix and of the faulty
--- sequence, else 0
+-- by the bytes s: 2 with the limit, 1 with the lengths of the longest valid prefix and of the faulty sequence, else 0
 abbrev pub checkRefusal : List ℕ → ℕ
 checkRefusal s = cond (ltb limit (length s)) 2 (cond (eqb (validPrefix s) (length s)) 0 1)
 

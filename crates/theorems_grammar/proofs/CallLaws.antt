@@ -1,4 +1,4 @@
--- Demand 3 said of the call: what `decode` answers for a text within the limit, of a kind of string.
+-- What demand 3 says of the call: what `decode_in` answers for a text of a kind of string, within the limit.
 -- Assumes nothing.
 use Prim.Native.Nat.{ℕ, _≤_, _<_}
 use mathlib.Core.Path.{_≡_, refl, sym, _∙_, ap, subst}

@@ -1,4 +1,4 @@
--- STATEMENT. What is said of lexing, each proved in proofs/Lexing.antt under the name that its comment gives.
+-- STATEMENT. Theorems about lexing, each proved in proofs/Lexing.antt under the name that its comment gives.
 -- Assumes nothing.
 use Prim.Native.Nat.{ℕ, zero, suc, _+_, _-_, _≤_, _<_}
 use mathlib.Core.Path.{_≡_}

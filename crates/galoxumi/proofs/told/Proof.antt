@@ -1,4 +1,4 @@
--- `told` is right because each case is spelled as the definition has it.
+-- `told` is right because it has the cases of the definition.
 -- Assumes nothing.
 use mathlib.Core.Path.{sym, ap, _∙_}
 use Rattle.galoxumi.specs.Numbers.{toldBy}
