@@ -79,9 +79,9 @@ module _ (ed : Edition) where
   put-char : (c : ℕ) (cs : List ℕ) → Scalar c → basicUnescaped c ≡ true → Chars cs → Chars (c ∷ cs)
   put-char c cs scalar class (v, chars, names) = (c ∷ v, more (basic-unescaped (basic-is c scalar class)) chars, (tt, names))
 
-  put-escape : (s : List ℕ) (escape : EscapedAt ed s) (r : List ℕ) → Chars r → Chars (0x5C ∷ (escape .t ++ r))
+  put-escape : (s : List ℕ) (escape : EscapedAt ed s) (r : List ℕ) → Chars r → Chars (0x5C ∷ (escape .text ++ r))
   put-escape s escape r (v, chars, names) =
-      (escape .v ∷ v, more (escaped-char (escaped (escape .char))) chars, (escape .names, names))
+      (escape .value ∷ v, more (escaped-char (escaped (escape .char))) chars, (escape .names, names))
 
   -- code points without error are derived
   abbrev CharsIf : List ℕ → Type 0
@@ -96,16 +96,16 @@ module _ (ed : Edition) where
 
     escape-clean : (escape : EscapedAt ed (encodes cs)) → ErrorFree pieces false at (0x5C ∷ encodes cs) → Chars (0x5C ∷ cs)
     escape-clean escape clean-escape =
-        let led = ascii-led (escape .t) cs (escape .rest) (escape-ascii (escape .char)) (escape .split) in
+        let led = ascii-led (escape .text) cs (escape .rest) (escape-ascii (escape .char)) (escape .split) in
         let reading =
-        escape-reads pieces (escape .char) (escape .names) at (escape .rest) (slash at (escape .t ++ escape .rest)) in
+        escape-reads pieces (escape .char) (escape .names) at (escape .rest) (slash at (escape .text ++ escape .rest)) in
         let clean-left : ErrorFree pieces false (reading .to) (encodes (led .rest)) =
         rw (led .bytes)
         (sym (reading .quiet) ∙ (sym (ap (λ y. collect pieces notesAt 0 false at (0x5C ∷ y)) (escape .split)) ∙ clean-escape)) in
         let scalars-left : All Scalar (led .rest) =
-        all-parts Scalar (escape .t) (led .rest) (subst (All Scalar) (led .text) (scalars .1)) .1 in
-        let lengths : length cs ≡ length (escape .t) + length (led .rest) =
-        ap length (led .text) ∙ length-append (escape .t) (led .rest) in
+        all-parts Scalar (escape .text) (led .rest) (subst (All Scalar) (led .text) (scalars .1)) .1 in
+        let lengths : length cs ≡ length (escape .text) + length (led .rest) =
+        ap length (led .text) ∙ length-append (escape .text) (led .rest) in
         let chars = shorter (led .rest) (omega arith) scalars-left (reading .to) clean-left in
         subst (λ y. Chars (0x5C ∷ y)) (sym (led .text)) (put-escape (encodes cs) escape (led .rest) chars)
 

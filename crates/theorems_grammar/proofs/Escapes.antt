@@ -78,12 +78,12 @@ abbrev pub Harmless : ℕ → Type 0
 Harmless c = (0x30 ≤ c) × (c < 0x80) × (c ≡ 0x5C → ⊥)
 
 pub record Shape (t : List ℕ) : Type 0 where
-  pub b : ℕ
-  pub r : List ℕ
-  pub is : t ≡ b ∷ r
-  pub visible : 0x22 ≤ b
-  pub low : b < 0x80
-  pub each : All Harmless r
+  pub letter : ℕ
+  pub digits : List ℕ
+  pub is : t ≡ letter ∷ digits
+  pub visible : 0x22 ≤ letter
+  pub low : letter < 0x80
+  pub each : All Harmless digits
 
 digits-harmless : {n a v : ℕ} {t : List ℕ} → HexDigits n a t v → All Harmless t
 digits-harmless stop = tt
@@ -95,7 +95,11 @@ digits-harmless (more first rest) = (digit-harmless first, digits-harmless rest)
     digit-harmless {c} {d} (HexDig.lower code least most) = (omega arith, omega arith, λ is-slash. omega arith)
 
 one-shape : (b : ℕ) → 0x22 ≤ b → b < 0x80 → Shape (b ∷ [])
-one-shape b least most = record { b = b; r = []; is = refl; visible = least; low = most; each = tt }
+one-shape b least most = record { letter = b; digits = []; is = refl; visible = least; low = most; each = tt }
+
+digits-shape : (b : ℕ) → 0x22 ≤ b → b < 0x80 → {n a v : ℕ} {t : List ℕ} → HexDigits n a t v → Shape (b ∷ t)
+digits-shape b least most {t = t} digits =
+    record { letter = b; digits = t; is = refl; visible = least; low = most; each = digits-harmless digits }
 
 pub shape : {ed : Edition} {t : List ℕ} {v : ℕ} → EscapeSeqChar ed t v → Shape t
 shape x22 = one-shape 0x22 (omega arith) (omega arith)
@@ -105,15 +109,15 @@ shape x66 = one-shape 0x66 (omega arith) (omega arith)
 shape x6E = one-shape 0x6E (omega arith) (omega arith)
 shape x72 = one-shape 0x72 (omega arith) (omega arith)
 shape x74 = one-shape 0x74 (omega arith) (omega arith)
-shape (x75 {t = t} d) = record { b = 0x75; r = t; is = refl; visible = omega arith; low = omega arith; each = digits-harmless d }
-shape (x55 {t = t} d) = record { b = 0x55; r = t; is = refl; visible = omega arith; low = omega arith; each = digits-harmless d }
+shape (x75 digits) = digits-shape 0x75 (omega arith) (omega arith) digits
+shape (x55 digits) = digits-shape 0x55 (omega arith) (omega arith) digits
 shape x65 = one-shape 0x65 (omega arith) (omega arith)
-shape (x78 {t = t} d) = record { b = 0x78; r = t; is = refl; visible = omega arith; low = omega arith; each = digits-harmless d }
+shape (x78 digits) = digits-shape 0x78 (omega arith) (omega arith) digits
 
 pub escape-ascii : {ed : Edition} {t : List ℕ} {v : ℕ} → EscapeSeqChar ed t v → AllAscii t
 escape-ascii char =
     let form = shape char in
-    subst AllAscii (sym (form .is)) (form .low, all-weaken (λ c harmless. harmless .1) (form .r) (form .each))
+    subst AllAscii (sym (form .is)) (form .low, all-weaken (λ c harmless. harmless .1) (form .digits) (form .each))
 
 -- ---- an escape is one piece that gives its character
 
@@ -155,11 +159,11 @@ escape-reads pieces {t = t} {v = v} char names at s slash =
 -- ---- where an escape is read without error, the grammar derives it
 
 pub record EscapedAt (ed : Edition) (s : List ℕ) : Type 0 where
-  pub t : List ℕ
+  pub text : List ℕ
   pub rest : List ℕ
-  pub v : ℕ
-  pub split : s ≡ t ++ rest
-  pub char : EscapeSeqChar ed t v
+  pub value : ℕ
+  pub split : s ≡ text ++ rest
+  pub char : EscapeSeqChar ed text value
   pub names : Names char
 
 -- the grammar's escape of the text t, with the value v
@@ -222,9 +226,9 @@ hex-front ed b n at s named clean =
     let digits = hex-clean n at s clean in
     let escape = named (take n s) (hexFrom 0 (take n s)) (digits-of n 0 s (digits .0)) (digits .1) in
     record {
-      t = b ∷ take n s;
+      text = b ∷ take n s;
       rest = drop n s;
-      v = hexFrom 0 (take n s);
+      value = hexFrom 0 (take n s);
       split = ap (b ∷_) (sym (take-append-drop n s));
       char = escape .0;
       names = escape .1;
@@ -232,7 +236,7 @@ hex-front ed b n at s named clean =
 
 simple-front : (ed : Edition) (b v : ℕ) (s : List ℕ) → Right ed b (Stands v) → EscapedAt ed (b ∷ s)
 unfolding Right
-simple-front ed b v s escape = record { t = b ∷ []; rest = s; v = v; split = refl; char = escape .0; names = escape .1 }
+simple-front ed b v s escape = record { text = b ∷ []; rest = s; value = v; split = refl; char = escape .0; names = escape .1 }
 
 pub escape-inv : (ed : Edition) (at : ℕ) (s : List ℕ) → escapePiece ed at s .verdict ≡ Clean → EscapedAt ed s
 unfolding escapePiece

@@ -97,9 +97,9 @@ module _ (ed : Edition) where
       → lineTail 34 false (92 ∷ (t ++ s)) ≡ suc (length t) + lineTail 34 false s
   escape-line {t} char s =
       let form = shape char in
-      let digits = all-weaken digit-in (form .r) (form .each) in
-      let hidden = line-hidden (form .b) (form .r ++ s) (λ is-lf. omega (arith, form .visible)) in
-      let others = pass-all (lineTail 34 false) (InLine 34) (line-pass 34) (form .r) digits s in
+      let digits = all-weaken digit-in (form .digits) (form .each) in
+      let hidden = line-hidden (form .letter) (form .digits ++ s) (λ is-lf. omega (arith, form .visible)) in
+      let others = pass-all (lineTail 34 false) (InLine 34) (line-pass 34) (form .digits) digits s in
       ap (λ x. lineTail 34 false (92 ∷ (x ++ s))) (form .is) ∙ omega (arith, ap length (form .is))
 
   basic-tail : {s v : List ℕ} → BasicChars ed s v → (rest : List ℕ)

@@ -82,14 +82,14 @@ line-at at {w} {n} blanks line s = rw (ws-run blanks line s, drop-at w (n ++ s) 
     by-line x0A = ap dropPiece (omega arith)
     by-line x0D-0A = ap dropPiece (omega arith)
 
--- after a line-ending backslash the bytes r are blanks w, a newline n, and `rest`
+-- after a line-ending backslash the bytes r are blanks, a newline, and `rest`
 pub record Ended (r : List ℕ) : Type 0 where
-  pub w : List ℕ
-  pub n : List ℕ
+  pub blanks : List ℕ
+  pub line : List ℕ
   pub rest : List ℕ
-  pub split : r ≡ w ++ (n ++ rest)
-  pub ws : Ws w
-  pub nl : Newline n
+  pub split : r ≡ blanks ++ (line ++ rest)
+  pub are-blanks : Ws blanks
+  pub is-newline : Newline line
 
 ws-taken : (r : List ℕ) → Ws (take (run wschar r) r)
 unfolding run
@@ -103,34 +103,34 @@ ws-taken (b ∷ r) = by-test (wschar b) refl (ws-taken r)
 ended : (at : ℕ) (r : List ℕ) → escapedNl at r .verdict ≡ Clean → Ended r
 ended at r =
     rw escaped-nl-is
-    (by-eq (IfClean (Ended r)) (getD r blanks 0) 0x0A
+    (by-eq (IfClean (Ended r)) (getD r blank-len 0) 0x0A
     (λ is clean. let split = first-splits onward 0x0A (omega arith) (zeroth ∙ is) in found (0x0A ∷ []) (split .0) x0A (split .1))
-    λ _. by-eq (IfClean (Ended r)) (getD r blanks 0) 0x0D
-    (λ is. by-eq (IfClean (Ended r)) (getD r (blanks + 1) 0) 0x0A
+    λ _. by-eq (IfClean (Ended r)) (getD r blank-len 0) 0x0D
+    (λ is. by-eq (IfClean (Ended r)) (getD r (blank-len + 1) 0) 0x0A
     (λ lf clean.
-    let split = two-split onward 0x0D 0x0A (omega arith) (omega arith) (zeroth ∙ is) (getD-drop blanks r 1 0 ∙ lf) in
+    let split = two-split onward 0x0D 0x0A (omega arith) (omega arith) (zeroth ∙ is) (getD-drop blank-len r 1 0 ∙ lf) in
     found (0x0D ∷ (0x0A ∷ [])) (split .0) x0D-0A (split .1))
     (λ not-lf clean. absurd (wrong≢clean clean)))
     (λ not-cr clean. absurd (wrong≢clean clean)))
   where
-    blanks : ℕ
-    blanks = run wschar r
+    blank-len : ℕ
+    blank-len = run wschar r
 
     onward : List ℕ
-    onward = drop blanks r
+    onward = drop blank-len r
 
-    zeroth : getD onward 0 0 ≡ getD r blanks 0
-    zeroth = getD-drop blanks r 0 0 ∙ ap (λ (i : ℕ). getD r i 0) (add-zero blanks)
+    zeroth : getD onward 0 0 ≡ getD r blank-len 0
+    zeroth = getD-drop blank-len r 0 0 ∙ ap (λ (i : ℕ). getD r i 0) (add-zero blank-len)
 
     found : (n rest : List ℕ) → Newline n → onward ≡ n ++ rest → Ended r
     found n rest line splits =
         record {
-          w = take blanks r;
-          n = n;
+          blanks = take blank-len r;
+          line = n;
           rest = rest;
-          split = sym (take-append-drop blanks r) ∙ ap (λ text. take blanks r ++ text) splits;
-          ws = ws-taken r;
-          nl = line;
+          split = sym (take-append-drop blank-len r) ∙ ap (λ text. take blank-len r ++ text) splits;
+          are-blanks = ws-taken r;
+          is-newline = line;
         }
 
 -- ---- what a line-ending backslash drops
@@ -185,7 +185,7 @@ module _ (ed : Edition) where
   escape-piece {t} char at s =
       let form = shape char in
       let out : firstIs skips (t ++ s) ≡ false =
-      ap (λ x. firstIs skips (x ++ s)) (form .is) ∙ visible-out (form .b) (omega (arith, form .visible)) in
+      ap (λ x. firstIs skips (x ++ s)) (form .is) ∙ visible-out (form .letter) (omega (arith, form .visible)) in
       slash-piece at (t ++ s) ∙ rw out
 
   -- ---- a line-ending backslash is read, and what it drops

@@ -145,8 +145,8 @@ module _ (ed : Edition) where
   newline-blank x0D-0A r = refl
 
   slash-out : (t : List ℕ) → AllAscii t → (at : ℕ) (s : List ℕ) → Meets (0x5C ∷ t) at s
-  slash-out t ascii-text at s =
-      leaves (rw (slash-text t s ascii-text) (out-reads ed at 0x5C (t ++ s) (visible-out 0x5C (omega arith))))
+  slash-out t all-ascii at s =
+      leaves (rw (slash-text t s all-ascii) (out-reads ed at 0x5C (t ++ s) (visible-out 0x5C (omega arith))))
 
   meets : {t w : List ℕ} → MlbContent ed t w → (at : ℕ) (s : List ℕ) → Meets t at s
   meets (mlb-char (mlb-unescaped {c} class)) at s = elim (unescaped-skips class) [
@@ -234,7 +234,8 @@ module _ (ed : Edition) where
       let reading = content-reads (newline line) names at (encodes r) in
       reading .bytes ∙ ap (λ x. encodes w ++ x) (rest (reading .to))
   content-gives {w = w} {r} (escaped-nl e) names run drops rest at =
-      let reading = content-reads (escaped-nl e) names at (encodes r) in let ended = run-out run drops (reading .to) in
+      let reading = content-reads (escaped-nl e) names at (encodes r) in
+      let ended = run-out run drops (reading .to) in
       reading .bytes ∙ (ended .1 ∙ rest (ended .0))
 
   mark-bytes : (t v : List ℕ) → Bytes t v → Bytes (0x22 ∷ t) (0x22 ∷ v)
@@ -266,8 +267,8 @@ module _ (ed : Edition) where
   escape-passed {t} k char =
       let form = shape char in
       subst (λ x. Passed 0x22 k (0x5C ∷ x)) (sym (form .is))
-      (slash-passed k (form .b) (form .r) (subst AllAscii (form .is) (escape-ascii char))
-      (all-weaken (λ c harmless. digit-in c harmless .0) (form .r) (form .each)))
+      (slash-passed k (form .letter) (form .digits) (subst AllAscii (form .is) (escape-ascii char))
+      (all-weaken (λ c harmless. digit-in c harmless .0) (form .digits) (form .each)))
 
   spaces-passed : (k : Seen) (t : List ℕ) → 0 < length t → All Space t → Passed 0x22 k (0x5C ∷ t)
   spaces-passed k [] some spaces = absurd (omega arith)
@@ -303,21 +304,21 @@ module _ (ed : Edition) where
 
   -- what a line-ending escape drops of m, and what it leaves
   record Trim (m : List ℕ) : Type 0 where
-    r : List ℕ
+    cut : List ℕ
     rest : List ℕ
-    v : List ℕ
-    split : m ≡ r ++ rest
-    blanks : WscharNewlines r
+    value : List ℕ
+    split : m ≡ cut ++ rest
+    blanks : WscharNewlines cut
     unblank : startsBlank rest ≡ false
-    left : Run ed true seen0 rest v
+    left : Run ed true seen0 rest value
 
   trim-more : {t : List ℕ} → WscharNewline t → (m : List ℕ) → Trim m → Trim (t ++ m)
   trim-more {t} blank m trim =
       record {
-        r = t ++ trim .r;
+        cut = t ++ trim .cut;
         rest = trim .rest;
-        v = trim .v;
-        split = ap (λ y. t ++ y) (trim .split) ∙ sym (append-assoc t (trim .r) (trim .rest));
+        value = trim .value;
+        split = ap (λ y. t ++ y) (trim .split) ∙ sym (append-assoc t (trim .cut) (trim .rest));
         blanks = WscharNewlines.more blank (trim .blanks);
         unblank = trim .unblank;
         left = trim .left;
@@ -325,13 +326,13 @@ module _ (ed : Edition) where
 
   put-ended : {w n : List ℕ} → Ws w → Newline n → (k : Seen) (m : List ℕ) → Trim m → Strict k ((0x5C ∷ (w ++ n)) ++ m)
   put-ended {w} {n} blanks line k m trim =
-      let t : List ℕ = 0x5C ∷ (w ++ (n ++ trim .r)) in
+      let t : List ℕ = 0x5C ∷ (w ++ (n ++ trim .cut)) in
       let text : (0x5C ∷ (w ++ n)) ++ m ≡ t ++ trim .rest =
       ap (λ tail. (0x5C ∷ (w ++ n)) ++ tail) (trim .split)
       ∙ ap (0x5C ∷_)
-      (sym (append-assoc (w ++ n) (trim .r) (trim .rest)) ∙ ap (λ text. text ++ trim .rest) (append-assoc w n (trim .r))) in
+      (sym (append-assoc (w ++ n) (trim .cut) (trim .rest)) ∙ ap (λ text. text ++ trim .rest) (append-assoc w n (trim .cut))) in
       subst (Strict k) (sym text) (put 0x22 (Kept ed true) k t [] (trim .rest)
-      (kept (escaped-nl (mlb-escaped-nl blanks line (trim .blanks))) tt (λ strict. trim .unblank)) (trim .v, trim .left))
+      (kept (escaped-nl (mlb-escaped-nl blanks line (trim .blanks))) tt (λ strict. trim .unblank)) (trim .value, trim .left))
 
   not-blank : (c : ℕ) (s : List ℕ) → skips c ≡ false → startsBlank (c ∷ s) ≡ false
   unfolding skips wschar startsBlank startsNewline
@@ -369,8 +370,15 @@ module _ (ed : Edition) where
       out-trim visible =
           let reading = char-out ed c at (encodes cs) visible in
           let run = shorter (c ∷ cs) few scalars seen0 (reading .to) (sym (reading .quiet) ∙ clean) through in
-          let out = not-blank c cs visible in
-          record { r = []; rest = c ∷ cs; v = run .0; split = refl; blanks = WscharNewlines.stop; unblank = out; left = run .1 }
+          record {
+            cut = [];
+            rest = c ∷ cs;
+            value = run .0;
+            split = refl;
+            blanks = WscharNewlines.stop;
+            unblank = not-blank c cs visible;
+            left = run .1;
+          }
 
       skip-trim : (t ds : List ℕ) → WscharNewline t → c ∷ cs ≡ t ++ ds → Trim (c ∷ cs)
       skip-trim t ds blank split =
@@ -406,7 +414,7 @@ module _ (ed : Edition) where
 
     no-trim : Trim []
     unfolding startsBlank
-    no-trim = record { r = []; rest = []; v = []; split = refl; blanks = WscharNewlines.stop; unblank = refl; left = end }
+    no-trim = record { cut = []; rest = []; value = []; split = refl; blanks = WscharNewlines.stop; unblank = refl; left = end }
 
     trim-clean : (n : ℕ) → ShorterRuns n → (m : List ℕ) → TrimIf n m
     trim-clean n shorter m =
@@ -447,26 +455,26 @@ module _ (ed : Edition) where
 
       ended-clean : c ≡ 0x5C → (ending : Ended (encodes cs)) → Strict k (c ∷ cs)
       ended-clean is-slash ending =
-          let line : List ℕ = ending .w ++ ending .n in
+          let line : List ℕ = ending .blanks ++ ending .line in
           let t : List ℕ = 0x5C ∷ line in
-          let spaces : All Space line = line-space (ending .ws) (ending .nl) in
+          let spaces : All Space line = line-space (ending .are-blanks) (ending .is-newline) in
           let led =
           ascii-led line cs (ending .rest) (space-ascii line spaces)
-          (ending .split ∙ sym (append-assoc (ending .w) (ending .n) (ending .rest))) in
+          (ending .split ∙ sym (append-assoc (ending .blanks) (ending .line) (ending .rest))) in
           let ds = led .rest in
           let split : c ∷ cs ≡ t ++ ds = ap (λ d. d ∷ cs) is-slash ∙ ap (0x5C ∷_) (led .text) in
           let reading : Reads (pieces ed) false at (encodes t ++ encodes ds) [] true (encodes ds) =
           subst (λ text. Reads (pieces ed) false at text [] true (encodes ds))
           (sym (slash-text line (encodes ds) (space-ascii line spaces)))
-          (line-reads ed (ending .ws) (ending .nl) at (encodes ds)) in
+          (line-reads ed (ending .are-blanks) (ending .is-newline) at (encodes ds)) in
           let clean-left = left-clean (pieces ed) 0x22 (Kept ed true) rest (c ∷ cs) t ds [] true at reading split clean in
           let small = left-small (pieces ed) 0x22 (Kept ed true) rest n (c ∷ cs) t ds split (omega arith) (omega arith) scalars in
           let passed : Passed 0x22 k t =
-          subst (λ line. Passed 0x22 k (0x5C ∷ (ending .w ++ line))) (append-nil (ending .n))
-          (line-passed k (ending .ws) (ending .nl) [] tt) in
+          subst (λ line. Passed 0x22 k (0x5C ∷ (ending .blanks ++ line))) (append-nil (ending .line))
+          (line-passed k (ending .are-blanks) (ending .is-newline) [] tt) in
           let through-left = through-rest 0x22 rest k t ds passed (subst (Through 0x22 rest k) split through) in
           subst (Strict k) (sym split)
-          (put-ended (ending .ws) (ending .nl) k ds
+          (put-ended (ending .are-blanks) (ending .is-newline) k ds
           (trim-clean n shorter ds (small .0) (small .1) (reading .to) clean-left through-left))
 
       pick-clean : Content ed c (encodes cs) → Strict k (c ∷ cs)
@@ -478,10 +486,10 @@ module _ (ed : Edition) where
           content-front t t (led .rest) (newline x0D-0A) tt tt refl (omega arith)
           (ap (λ d. d ∷ cs) is-cr ∙ ap (0x0D ∷_) (led .text))
       pick-clean (is-escape is-slash escape) =
-          let led = ascii-led (escape .t) cs (escape .rest) (escape-ascii (escape .char)) (escape .split) in
-          let text : c ∷ cs ≡ (0x5C ∷ escape .t) ++ led .rest = ap (λ d. d ∷ cs) is-slash ∙ ap (0x5C ∷_) (led .text) in
+          let led = ascii-led (escape .text) cs (escape .rest) (escape-ascii (escape .char)) (escape .split) in
+          let text : c ∷ cs ≡ (0x5C ∷ escape .text) ++ led .rest = ap (λ d. d ∷ cs) is-slash ∙ ap (0x5C ∷_) (led .text) in
           let char = mlb-char (escaped-char (escaped (escape .char))) in
-          content-front (0x5C ∷ escape .t) (escape .v ∷ []) (led .rest) char (escape .names) tt refl (omega arith) text
+          content-front (0x5C ∷ escape .text) (escape .value ∷ []) (led .rest) char (escape .names) tt refl (omega arith) text
       pick-clean (is-ended is-slash ending) = ended-clean is-slash ending
 
       some-clean : Strict k (c ∷ cs)

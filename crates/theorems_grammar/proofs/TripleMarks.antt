@@ -63,33 +63,34 @@ threes-inv q s marks =
 -- ---- the newline at the front of s, if there is one, and what follows it
 
 pub record Split (s : List ℕ) : Type 0 where
-  pub n : List ℕ
+  pub newline : List ℕ
   pub rest : List ℕ
-  pub opt : OptNewline n
-  pub text : s ≡ n ++ rest
-  pub long : newlineLen s ≡ length n
+  pub opt : OptNewline newline
+  pub text : s ≡ newline ++ rest
+  pub long : newlineLen s ≡ length newline
 
 newline-split : (s : List ℕ) → Split s
 unfolding newlineLen
-newline-split [] = record { n = []; rest = []; opt = absent; text = refl; long = refl }
+newline-split [] = record { newline = []; rest = []; opt = absent; text = refl; long = refl }
 newline-split (b ∷ s) = by-tests (eqb b 10) (eqb b 13) refl refl s
   where
     by-tests : (is-lf is-cr : Bool) → eqb b 10 ≡ is-lf → eqb b 13 ≡ is-cr → (s : List ℕ) → Split (b ∷ s)
-    by-tests true is-cr lf cr s = record { n = 10 ∷ []; rest = s; opt = present x0A; text = rw (eqb-true b 10 lf); long = rw lf }
-    by-tests false false lf cr s = record { n = []; rest = b ∷ s; opt = absent; text = refl; long = rw (lf, cr) }
-    by-tests false true lf cr [] = record { n = []; rest = b ∷ []; opt = absent; text = refl; long = rw (lf, cr) }
+    by-tests true is-cr lf cr s =
+        record { newline = 10 ∷ []; rest = s; opt = present x0A; text = rw (eqb-true b 10 lf); long = rw lf }
+    by-tests false false lf cr s = record { newline = []; rest = b ∷ s; opt = absent; text = refl; long = rw (lf, cr) }
+    by-tests false true lf cr [] = record { newline = []; rest = b ∷ []; opt = absent; text = refl; long = rw (lf, cr) }
     by-tests false true lf cr (c ∷ s) = by-next (eqb c 10) refl
       where
         by-next : (is-next : Bool) → eqb c 10 ≡ is-next → Split (b ∷ (c ∷ s))
         by-next true next =
             record {
-              n = 13 ∷ (10 ∷ []);
+              newline = 13 ∷ (10 ∷ []);
               rest = s;
               opt = present x0D-0A;
               text = rw (eqb-true b 13 cr, eqb-true c 10 next);
               long = rw (lf, cr, next);
             }
-        by-next false next = record { n = []; rest = b ∷ (c ∷ s); opt = absent; text = refl; long = rw (lf, cr, next) }
+        by-next false next = record { newline = []; rest = b ∷ (c ∷ s); opt = absent; text = refl; long = rw (lf, cr, next) }
 
 pub newline-ascii : {n : List ℕ} → Newline n → AllAscii n
 newline-ascii x0A = (omega arith, tt)
@@ -180,11 +181,11 @@ module _ (trims : Bool) (q : ℕ) where
 
   -- the parts of a text that has both its marks
   record Fenced (t : List ℕ) : Type 0 where
-    n : List ℕ
-    m : List ℕ
-    opt : OptNewline n
-    text : t ≡ fenced q n m
-    long : newlineLen (n ++ (m ++ delim q)) ≡ length n
+    newline : List ℕ
+    body : List ℕ
+    opt : OptNewline newline
+    text : t ≡ fenced q newline body
+    long : newlineLen (newline ++ (body ++ delim q)) ≡ length newline
 
   ml-inv : (t : List ℕ) → mlEnds trims q t .opened ≡ true → mlEnds trims q t .closed ≡ true → Fenced t
   unfolding mlEnds mlStart mlClosed
@@ -192,10 +193,10 @@ module _ (trims : Bool) (q : ℕ) where
       let front = threes-inv q t opened in
       by-front (front .0) (front .1) (rw opened at closed)
     where
-      split-there : (s : List ℕ) → t ≡ q ∷ (q ∷ (q ∷ s)) → (line : Split s) → (3 + length (line .n)) + 3 ≤ length t
+      split-there : (s : List ℕ) → t ≡ q ∷ (q ∷ (q ∷ s)) → (line : Split s) → (3 + length (line .newline)) + 3 ≤ length t
           → (r : List ℕ) × (drop (length t - 3) t ≡ q ∷ (q ∷ (q ∷ r))) → Fenced t
       split-there s text line long (r, last) =
-          let front : List ℕ = delim q ++ line .n in
+          let front : List ℕ = delim q ++ line .newline in
           let start = length (line .rest) - 3 in
           let whole : t ≡ front ++ line .rest = text ∙ ap (λ x. delim q ++ x) (line .text) in
           let lengths : length t ≡ length front + length (line .rest) = ap length whole ∙ length-append front (line .rest) in
@@ -205,16 +206,16 @@ module _ (trims : Bool) (q : ℕ) where
           ∙ ap (drop start) (ap (drop (length front)) whole ∙ drop-at front (line .rest) (length front) refl)) in
           let last-is : drop start (line .rest) ≡ q ∷ (q ∷ (q ∷ r)) = sym last-of ∙ last in
           let nothing : r ≡ [] = nil r (omega (arith, length-drop start (line .rest), ap length last-is)) in
-          let m = take start (line .rest) in
+          let body = take start (line .rest) in
           let closing : drop start (line .rest) ≡ delim q = last-is ∙ ap (λ x. delim q ++ x) nothing in
-          let rest-is : line .rest ≡ m ++ delim q = sym (take-append-drop start (line .rest)) ∙ ap (λ x. m ++ x) closing in
-          let inner : s ≡ line .n ++ (m ++ delim q) = line .text ∙ ap (λ x. line .n ++ x) rest-is in
+          let rest-is : line .rest ≡ body ++ delim q =
+          sym (take-append-drop start (line .rest)) ∙ ap (λ x. body ++ x) closing in
+          let inner : s ≡ line .newline ++ (body ++ delim q) = line .text ∙ ap (λ x. line .newline ++ x) rest-is in
           record {
-            n = line .n;
-            m = m;
+            newline = line .newline;
+            body = body;
             opt = line .opt;
-            text = text
-                ∙ ap (λ x. delim q ++ x) inner;
+            text = text ∙ ap (λ x. delim q ++ x) inner;
             long = ap newlineLen (sym inner) ∙ line .long;
           }
 
@@ -225,7 +226,7 @@ module _ (trims : Bool) (q : ℕ) where
       by-front : (s : List ℕ) → t ≡ q ∷ (q ∷ (q ∷ s)) → (roomy && threes q (drop (length t - 3) t)) ≡ true → Fenced t
       by-front s text closed =
           let line = newline-split s in
-          let newline : newlineLen (drop 3 t) ≡ length (line .n) = ap (λ y. newlineLen (drop 3 y)) text ∙ line .long in
+          let newline : newlineLen (drop 3 t) ≡ length (line .newline) = ap (λ y. newlineLen (drop 3 y)) text ∙ line .long in
           let long = leb-true ((3 + newlineLen (drop 3 t)) + 3) (length t) (both-left roomy _ closed) in
           split-there s text line (omega arith) (threes-inv q (drop (length t - 3) t) (both-right roomy _ closed))
 
@@ -296,7 +297,7 @@ module _ {trims : Bool} {e : Encoding} {q : ℕ} (fences : Fences trims e q) whe
     kept-errors : (b : List ℕ) → errorsOf e (encodes (fenced q [] b)) ≡ collect (pieceOf e) notesAt 0 false 3 (encodes b)
     kept-errors b =
         let line = newline-split b in
-        let n = line .n in
+        let n = line .newline in
         let r = encodes (line .rest) in
         let text : fenced q [] b ≡ fenced q n (line .rest) =
         ap (λ x. delim q ++ x) (ap (λ x. x ++ delim q) (line .text) ∙ append-assoc n (line .rest) (delim q)) in
@@ -316,11 +317,11 @@ module _ {trims : Bool} {e : Encoding} {q : ℕ} (fences : Fences trims e q) whe
 
   -- a text without error has a body without error
   pub record MlText (cs : List ℕ) : Type 0 where
-    pub n : List ℕ
+    pub newline : List ℕ
     pub body : List ℕ
-    pub opt : OptNewline n
+    pub opt : OptNewline newline
     pub trimmed : Trimmed opt body
-    pub text : cs ≡ fenced q n body
+    pub text : cs ≡ fenced q newline body
     pub each : All Scalar body
     pub at : ℕ
     pub clean : ErrorFree (pieceOf e) false at (encodes body)
@@ -331,19 +332,20 @@ module _ {trims : Bool} {e : Encoding} {q : ℕ} (fences : Fences trims e q) whe
       let parts =
       ml-inv trims q (encodes cs) (rw (fences .ends (encodes cs)) at (marks .0)) (rw (fences .ends (encodes cs)) at (marks .1)) in
       let low : q < 0x80 = fences .mark .low in
-      let before : AllAscii (delim q ++ parts .n) = (low, (low, (low, option-ascii (parts .opt)))) in
-      let inside = between (delim q ++ parts .n) (delim q) cs (parts .m) before (low, (low, (low, tt))) scalars (parts .text) in
-      let whole : Whole (parts .n) (inside .inner) =
+      let before : AllAscii (delim q ++ parts .newline) = (low, (low, (low, option-ascii (parts .opt)))) in
+      let inside =
+      between (delim q ++ parts .newline) (delim q) cs (parts .body) before (low, (low, (low, tt))) scalars (parts .text) in
+      let whole : Whole (parts .newline) (inside .inner) =
       sym (whole-bytes (parts .opt) (inside .inner))
-      ∙ (ap (λ x. newlineLen (parts .n ++ (x ++ delim q))) (inside .bytes) ∙ parts .long) in
+      ∙ (ap (λ x. newlineLen (parts .newline ++ (x ++ delim q))) (inside .bytes) ∙ parts .long) in
       record {
-        n = parts .n;
+        newline = parts .newline;
         body = inside .inner;
         opt = parts .opt;
         trimmed = whole-trimmed (parts .opt) (inside .inner) whole;
         text = inside .text;
         each = inside .each;
-        at = 3 + length (parts .n);
+        at = 3 + length (parts .newline);
         clean =
             sym (errors-of (parts .opt) (inside .inner) whole) ∙ (ap (λ x. errorsOf e (encodes x)) (sym (inside .text)) ∙ clean);
       }
