@@ -14,6 +14,9 @@ strip-start-newline κs a x y s t p q = p ∙ sym q
 pub plain-run : OneAnswer promised.plain_run.Reads.Learnt
 plain-run κs a x y s t p q = p ∙ sym q
 
+pub is-plain : OneAnswer promised.scan.is_plain.Reads.Learnt
+is-plain κs a x y s t p q = p ∙ sym q
+
 pub plain-few : OneAnswer promised.scan.plain_few.Reads.Learnt
 plain-few κs a x y s t p q = p ∙ sym q
 

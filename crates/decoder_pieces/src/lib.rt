@@ -10,6 +10,7 @@ mod scan;
 mod string;
 
 use crate::piece::copy_piece;
+pub use crate::scan::is_plain;
 pub use crate::scan::plain_few;
 pub use crate::string::Escape;
 use crate::string::basic_unescaped;

@@ -139,6 +139,13 @@ fn is_marked(mask: Mask, b: u8) -> bool
     mask.high
 }
 
+// Does the byte stand for itself?
+pub fn is_plain(e: Encoding, b: u8) -> bool
+    ensures { λ r. ⌜ r ≡ plain e b ⌝ }
+{
+    is_marked(mask_of(e), b)
+}
+
 // The place of the first byte from `start` on that does not stand for itself, or the end: one by one.
 pub(crate) fn plain_rest(e: Encoding, s: &[u8], start: usize) -> usize
     requires { ⌜ start ≤ length (now s) ⌝ }

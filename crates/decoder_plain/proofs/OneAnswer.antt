@@ -7,7 +7,8 @@ use mathlib.Core.Logic.{inl}
 use mathlib.Core.List.{List, [], _∷_}
 use native.Mathlib.Omega.{arith}
 use lib.ListN.{length, getD}
-use Rattle.decoder_rules.proofs.PlainLaws.{Plain, Copied, copied, untouched}
+use Rattle.text_classes.specs.Classes.{literalChar}
+use Rattle.decoder_rules.proofs.PlainLaws.{OwnLine, lineOf, clear-line, Plain, Copied, copied, untouched}
 
 -- two apostrophes
 abbrev pub empty : List ℕ
@@ -15,7 +16,10 @@ empty = 0x27 ∷ 0x27 ∷ []
 
 -- its body is copied, which is no byte, or it is left, and its two bytes are counted
 pub copy-plain : ((x y : ℕ) → Copied (Plain 39 empty) empty [] x [] → Copied (Plain 39 empty) empty [] y [] → x ≡ y) → ⊥
+unfolding lineOf
 copy-plain one =
-    let plain : Plain 39 empty = inl (refl, record { few = omega arith; two = omega arith; opens = refl; closes = refl; clear = λ k l h. absurd (omega arith) }) in
+    let line : OwnLine 0x27 literalChar empty =
+    clear-line {z = 0x27} (inl (refl, refl)) empty (omega arith) (omega arith) refl refl (λ k l h. absurd (omega arith)) in
+    let plain : Plain 39 empty = inl (refl, line) in
     let same : _≡_ {A = ℕ} 0 2 = one 0 2 (copied plain refl (omega arith) refl) (untouched refl refl) in
     omega arith

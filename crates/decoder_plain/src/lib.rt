@@ -1,17 +1,24 @@
-// The common text: a string on a line, its marks there, and between them ASCII that stands for
-// itself. It decodes to its body, so that nothing has to be checked or counted first. Law:
-// `plain-decodes` in PlainLaws.antt of crate `decoder_rules`. The bytes are asked for, and copied, eight or
-// four at a time; the last such part reaches back over bytes that were met before.
+// The common text: a string on a line, its marks there, and between them characters that stand for
+// themselves. It decodes to its body, so that nothing has to be checked or counted first. Law:
+// `plain-decodes` in PlainLaws.antt of crate `decoder_rules`. Printable ASCII is asked for, and the body
+// copied, eight or four bytes at a time; the last such part reaches back over bytes that were met
+// before. A short line with a tab or with characters beyond ASCII is asked for one by one.
 ghost use mathlib.Core.Path.{_≡_};
 ghost use mathlib.Core.Bool.{true};
 ghost use Prim.Native.Nat.{_+_, _<_, _≤_};
 ghost use lib.ListN.{length, drop};
 ghost use mathlib.Core.List.{_++_};
-ghost use Rattle.decoder_rules.proofs.PlainLaws.{Clear, ClearIn, Least, PlainLine, Plain, middle, Copied, Part, Held};
+ghost use Rattle.decoder_rules.specs.Encodings.{plain};
+ghost use Rattle.decoder_rules.proofs.PlainLaws.{OwnLine, Clear, ClearIn, LineMarks, lineOf, Least, Plain, middle, Copied, Part, Held};
+ghost use Rattle.decoder_rules.proofs.OwnLaws.{Closed, OwnTo};
+use decoder_pieces::is_plain;
+use decoder_rules::Edition;
+use decoder_rules::Encoding;
 use lexer_token::TokenKind;
 use std::num::wrapping_add_u8;
 use std::num::wrapping_sub_u8;
 use text::LIMIT;
+use text::wide_at;
 
 // Copies the body of such a text to the front of the output, and says how many bytes that is. Of any
 // other text, and where there is no room, nothing is copied, and all its bytes are counted.
@@ -26,7 +33,8 @@ pub fn copy_plain(kind: usize, text: &[u8], output: &mut [u8]) -> usize
 }
 
 fn copy_line(q: u8, z: u8, text: &[u8], output: &mut [u8]) -> usize
-    ensures { λ r. ⌜ Copied (PlainLine q z (now (text .entry))) (now (text .entry)) (now (output .entry)) r (now (output .exit)) ⌝ }
+    requires { ⌜ LineMarks q z ⌝ }
+    ensures { λ r. ⌜ Copied (OwnLine q (plain (lineOf z)) (now (text .entry))) (now (text .entry)) (now (output .entry)) r (now (output .exit)) ⌝ }
 {
     if !is_plain_line(q, z, text) {
         return text.len();
@@ -39,9 +47,11 @@ fn copy_line(q: u8, z: u8, text: &[u8], output: &mut [u8]) -> usize
     n
 }
 
-// A mark q at each end, and between them no byte but printable ASCII, no q and no z.
+// A mark q at each end, and between them printable ASCII, no q and no z; or, in a line of up to 40 bytes, any characters
+// that stand for themselves. A longer one that is not ASCII is quicker read in blocks.
 fn is_plain_line(q: u8, z: u8, text: &[u8]) -> bool
-    ensures { λ r. ⌜ (r ≡ true → PlainLine q z (now (text .entry))) ⌝ }
+    requires { ⌜ LineMarks q z ⌝ }
+    ensures { λ r. ⌜ (r ≡ true → OwnLine q (plain (lineOf z)) (now (text .entry))) ⌝ }
 {
     let n = text.len();
     if n < 2 {
@@ -56,7 +66,48 @@ fn is_plain_line(q: u8, z: u8, text: &[u8]) -> bool
     if text[n - 1] != q {
         return false;
     }
-    is_clear(q, z, text, n - 1)
+    if is_clear(q, z, text, n - 1) {
+        return true;
+    }
+    if 40 < n {
+        return false;
+    }
+    own_run(line_of(z), text) + 1 == n
+}
+
+// The kind of a line, by the second of the two bytes.
+fn line_of(z: u8) -> Encoding
+    ensures { λ r. ⌜ r ≡ lineOf z ⌝ }
+{
+    if z == b'\\' {
+        Encoding::BasicString(Edition::Toml10)
+    } else {
+        Encoding::LiteralString
+    }
+}
+
+// The first place, from 1 on, at which no character stands that stands for itself. No end is asked for: the closing mark is
+// such a place.
+fn own_run(e: Encoding, s: &[u8]) -> usize
+    requires { ⌜ Closed (plain e) (now s) ⌝ }
+    ensures { λ r. ⌜ OwnTo (plain e) (now (s .entry)) r ⌝ }
+{
+    let mut i = 1;
+    loop {
+        let b = s[i];
+        if b < 0x80 {
+            if !is_plain(e, b) {
+                return i;
+            }
+            i += 1;
+        } else {
+            let n = wide_at(s, i);
+            if n == 0 {
+                return i;
+            }
+            i += n;
+        }
+    }
 }
 
 // Is all from place 1 to `end` clear?

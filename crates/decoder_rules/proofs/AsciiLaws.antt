@@ -11,7 +11,7 @@ use lib.Dec.{eqb, leb}
 use lib.ListN.{length, take, drop, getD, take-append-drop, length-append}
 use lib.Seq.{take-add}
 use borrow.Author.Tests.{eqb-true, leb-true, le-leb}
-use Rattle.text_classes.specs.Classes.{among, wschar, basicUnescaped, mlbUnescaped, hexdig, unquotedChar}
+use Rattle.text_classes.specs.Classes.{among, wschar, literalChar, basicUnescaped, mlbUnescaped, hexdig, unquotedChar}
 use Rattle.text_classes.specs.Runs.{run}
 use Rattle.text_classes.proofs.Conds.{not-both, both-right, or-left, or-right, or-inv}
 use Rattle.text.specs.Utf8.{Scalar, encodeScalar, Utf8}
@@ -38,6 +38,11 @@ last-high b h =
 pub basic-high : High basicUnescaped
 unfolding basicUnescaped
 basic-high b h = last-high b h
+
+pub literal-high : High literalChar
+unfolding literalChar
+literal-high b h =
+    or-right (eqb b 0x09) _ (or-right (among 0x20 0x26 b) _ (or-right (among 0x28 0x7E b) _ (le-leb 0x80 b h)))
 
 pub mlb-high : High mlbPlain
 unfolding mlbPlain mlbUnescaped

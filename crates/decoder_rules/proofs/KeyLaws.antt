@@ -16,8 +16,7 @@ use Rattle.text.specs.Refusals.{limit}
 use Rattle.text.specs.Utf8Read.{ascii}
 use Rattle.text.specs.CheckMeans.{checkOf}
 use Rattle.text.specs.declared.utf8.Utf8Check.the-variants.{Valid}
-use Rattle.text.proofs.ReadLaws.{valid-ascii, valid-end}
-use Rattle.text.proofs.AnswerLaws.{answer-valid}
+use Rattle.text.proofs.AnswerLaws.{answer-ascii}
 use Rattle.decoder_rules.specs.declared.Encoding.the-variants.{UnquotedKey}
 use Rattle.decoder_rules.specs.declared.Choice.the-variants.{Known}
 use Rattle.decoder_rules.specs.Encodings.{plain, choiceIn, choiceBy}
@@ -45,9 +44,7 @@ module _ (t : List ℕ) (key : PlainKey t) where
   key-ascii k h = lt-ltb (getD t k 0) 0x80 (unquoted-low (getD t k 0) (run-each (plain UnquotedKey) t (key .all) k h))
 
   key-valid : Valid ≡ checkOf t
-  key-valid =
-      let all = run-all ascii t key-ascii in
-      answer-valid t (key .few) (omega (arith, rw all at (valid-ascii t), valid-end t (length t) (omega arith)))
+  key-valid = answer-ascii t (key .few) (run-all ascii t key-ascii)
 
   -- its body is all of it
   whole : take (length t - 0) (drop 0 t) ≡ t

@@ -12,6 +12,7 @@ pub mod FrontLaws
 pub mod NumberLaws
 pub mod Bounds
 pub mod AsciiLaws
+pub mod OwnLaws
 pub mod KeyLaws
 pub mod Utf8Laws
 pub mod EditionLaws

@@ -1,28 +1,28 @@
 -- A plain body decodes to itself: where all of it stands for itself, and the marks are there, its bytes are the body and
--- there is no error. And a plain line, whose body is ASCII besides, passes the check, so that nothing is left to ask.
+-- there is no error. So does a line that passes the check besides (`OwnLine`), and one of printable ASCII does pass it.
 -- Assumes nothing.
 use Prim.Native.Nat.{ℕ, suc, _+_, _-_, _/_, _%_, _^_, _≤_, _<_}
 use mathlib.Core.Path.{_≡_, refl, sym, ap, _∙_, subst}
 use mathlib.Core.Logic.{_⊎_, inl, inr, ⊎-elim}
-use mathlib.Core.Bool.{Bool, true, false}
+use mathlib.Core.Bool.{Bool, true, false, cond}
 use mathlib.Core.List.{List, [], _∷_, _++_, append-nil}
 use native.Mathlib.Decide.{ℕ-discrete, decLt}
 use native.Mathlib.Omega.{arith}
+use lib.Dec.{eqb}
 use lib.Bits.{bitOr, bitXor, xor-self}
 use lib.ListN.{length, take, drop, getD, set, length-set, length-append, length-drop, drop-of-length-le, List·getD-append}
 use lib.Seq.{take-all, length-take-le, getD-take, getD-drop, getD-set-same, getD-set-other, getD-append-add, ext-getD}
-use borrow.Author.Tests.{eq-eqb, lt-ltb}
+use borrow.Author.Tests.{lt-ltb}
 use Rattle.text_classes.specs.Classes.{literalChar, basicUnescaped}
 use Rattle.text_classes.specs.Runs.{run}
 use Rattle.text_classes.proofs.ByteTable.{rest-is}
 use Rattle.text_classes.proofs.RunLaws.{run-first}
 use Rattle.text.specs.Refusals.{limit}
-use Rattle.text.specs.Utf8Read.{ascii, validPrefix}
+use Rattle.text.specs.Utf8Read.{ascii}
 use Rattle.text.specs.CheckMeans.{checkOf}
 use Rattle.text.specs.declared.utf8.Utf8Check.the-variants.{Valid}
 use Rattle.text.proofs.FieldLaws.{bits-left, bits-right}
-use Rattle.text.proofs.ReadLaws.{valid-ascii, valid-end}
-use Rattle.text.proofs.AnswerLaws.{answer-valid}
+use Rattle.text.proofs.AnswerLaws.{answer-ascii}
 use Rattle.decoder_rules.specs.declared.Edition.{Edition}
 use Rattle.decoder_rules.specs.declared.Edition.the-variants.{Toml10, Toml11}
 use Rattle.decoder_rules.specs.declared.Encoding.{Encoding}
@@ -97,7 +97,36 @@ module _ (e : Encoding) (t : List ℕ) (a z : ℕ) (ends : record { opened = tru
       let d : Ends = record { opened = true; closed = true; start = a; end = z } in
       (bytes-is e t d ends ∙ plain-bytes e a body all, errors-is e t d ends _ refl ∙ plain-errors e a body all)
 
--- ---- a plain line
+-- ---- a line that stands for itself
+
+-- t has the mark q at both ends, passes the check, and every byte between them passes the test p
+pub record OwnLine (q : ℕ) (p : ℕ → Bool) (t : List ℕ) : Type 0 where
+  pub two : 2 ≤ length t
+  pub opens : getD t 0 0 ≡ q
+  pub closes : getD t (length t - 1) 0 ≡ q
+  pub valid : Valid ≡ checkOf t
+  pub own : (k : ℕ) → 1 ≤ k → k < length t - 1 → p (getD t k 0) ≡ true
+
+-- the n bytes behind the first
+abbrev pub middle : ℕ → List ℕ → List ℕ
+middle n t = take n (drop 1 t)
+
+-- its bytes are its body, and it has no error
+module _ (q : ℕ) (e : Encoding) (t : List ℕ) (line : OwnLine q (plain e) t) (ends : endsOf e t ≡ lineEnds q t) where
+  line-text : (n : ℕ) → n + 2 ≡ length t → (bytesOf e t ≡ middle n t) × (errorsOf e t ≡ [])
+  line-text n h =
+      let both = line-both q t (omega (arith, line .two)) (line .opens) (line .closes) in
+      let size : length t - 1 - 1 ≡ n = omega arith in
+      let r = plain-text e t 1 (length t - 1) (both ∙ sym ends) (run-all (plain e) _ each) in
+      (r .0 ∙ ap (λ (m : ℕ). middle m t) size, r .1)
+    where
+      each : (k : ℕ) → k < length (take (length t - 1 - 1) (drop 1 t)) → plain e (getD (take (length t - 1 - 1) (drop 1 t)) k 0) ≡ true
+      each k l =
+          let long = length-take-le (length t - 1 - 1) (drop 1 t) (omega (arith, length-drop 1 t)) in
+          rw (getD-take (length t - 1 - 1) (drop 1 t) k 0 (omega arith), getD-drop 1 t k 0)
+          (line .own (1 + k) (omega arith) (omega (arith, line .two)))
+
+-- ---- a line of printable ASCII is one
 
 -- b is printable ASCII, and neither of two bytes
 pub record Clear (q z b : ℕ) : Type 0 where
@@ -110,45 +139,51 @@ pub record Clear (q z b : ℕ) : Type 0 where
 abbrev pub ClearIn : ℕ → ℕ → List ℕ → ℕ → ℕ → Type 0
 ClearIn q z s from to = (k : ℕ) → from ≤ k → k < to → Clear q z (getD s k 0)
 
--- t has the mark q at both ends, and all between them is clear
-pub record PlainLine (q z : ℕ) (t : List ℕ) : Type 0 where
-  pub few : length t ≤ limit
-  pub two : 2 ≤ length t
-  pub opens : getD t 0 0 ≡ q
-  pub closes : getD t (length t - 1) 0 ≡ q
-  pub clear : ClearIn q z t 1 (length t - 1)
+-- the two bytes that a kind on a line leaves out of printable ASCII: its mark, twice or with the backslash
+abbrev pub LineMarks : ℕ → ℕ → Type 0
+LineMarks q z = ((q ≡ 0x27) × (z ≡ 0x27)) ⊎ ((q ≡ 0x22) × (z ≡ 0x5C))
 
--- the n bytes behind the first
-abbrev pub middle : ℕ → List ℕ → List ℕ
-middle n t = take n (drop 1 t)
+-- and that kind, by the second; editions differ in no byte that stands for itself
+unfoldable pub lineOf : ℕ → Encoding
+lineOf z = cond (eqb z 0x5C) (BasicString Toml10) LiteralString
 
-module _ (q z : ℕ) (low : q < 0x80) (t : List ℕ) (line : PlainLine q z t) where
+clear-literal : (b : ℕ) → Clear 0x27 0x27 b → literalChar b ≡ true
+unfolding literalChar
+clear-literal b c = sym (rest-is true literalChar (0x27 ∷ []) 32 95 tt b (c .no-first) (c .low) (omega (arith, c .high)))
+
+clear-basic : (b : ℕ) → Clear 0x22 0x5C b → basicUnescaped b ≡ true
+unfolding basicUnescaped
+clear-basic b c =
+    sym (rest-is true basicUnescaped (0x22 ∷ 0x5C ∷ []) 32 95 tt b (⊎-elim (c .no-first) (c .no-second)) (c .low) (omega (arith, c .high)))
+
+clear-plain : {q z : ℕ} → LineMarks q z → (b : ℕ) → Clear q z b → plain (lineOf z) b ≡ true
+unfolding lineOf
+clear-plain (inl (e, f)) b c = rw f (clear-literal b (rw (e, f) at c))
+clear-plain (inr (e, f)) b c = rw f (clear-basic b (rw (e, f) at c))
+
+pub marks-low : {q z : ℕ} → LineMarks q z → q < 0x80
+marks-low (inl (e, f)) = omega arith
+marks-low (inr (e, f)) = omega arith
+
+module _ {q z : ℕ} (marks : LineMarks q z) (t : List ℕ) (few : length t ≤ limit) (two : 2 ≤ length t) (opens : getD t 0 0 ≡ q)
+    (closes : getD t (length t - 1) 0 ≡ q) (clear : ClearIn q z t 1 (length t - 1)) where
   line-ascii : (k : ℕ) → k < length t → ascii (getD t k 0) ≡ true
   line-ascii k h = lt-ltb (getD t k 0) 0x80 (small (ℕ-discrete k 0) (ℕ-discrete k (length t - 1)))
     where
       small : Dec (k ≡ 0) → Dec (k ≡ length t - 1) → getD t k 0 < 0x80
-      small (yes e) d = rw e (omega (arith, line .opens))
-      small (no n) (yes e) = rw e (omega (arith, line .closes))
-      small (no n) (no m) = omega (arith, line .clear k (omega arith) (omega arith) .high)
+      small (yes e) d = rw e (omega (arith, opens, marks-low marks))
+      small (no n) (yes e) = rw e (omega (arith, closes, marks-low marks))
+      small (no n) (no m) = omega (arith, clear k (omega arith) (omega arith) .high)
 
-  line-valid : Valid ≡ checkOf t
-  line-valid =
-      let all = run-all ascii t line-ascii in
-      answer-valid t (line .few) (omega (arith, rw all at (valid-ascii t), valid-end t (length t) (omega arith)))
-
-  module _ (e : Encoding) (ends : endsOf e t ≡ lineEnds q t) (is : (b : ℕ) → Clear q z b → plain e b ≡ true) where
-    line-text : (n : ℕ) → n + 2 ≡ length t → (bytesOf e t ≡ middle n t) × (errorsOf e t ≡ [])
-    line-text n h =
-        let both = line-both q t (omega (arith, line .two)) (line .opens) (line .closes) in
-        let size : length t - 1 - 1 ≡ n = omega arith in
-        let r = plain-text e t 1 (length t - 1) (both ∙ sym ends) (run-all (plain e) _ each) in
-        (r .0 ∙ ap (λ (m : ℕ). middle m t) size, r .1)
-      where
-        each : (k : ℕ) → k < length (take (length t - 1 - 1) (drop 1 t)) → plain e (getD (take (length t - 1 - 1) (drop 1 t)) k 0) ≡ true
-        each k l =
-            let long = length-take-le (length t - 1 - 1) (drop 1 t) (omega (arith, length-drop 1 t)) in
-            rw (getD-take (length t - 1 - 1) (drop 1 t) k 0 (omega arith), getD-drop 1 t k 0)
-            (is (getD t (1 + k) 0) (line .clear (1 + k) (omega arith) (omega (arith, line .two))))
+  pub clear-line : OwnLine q (plain (lineOf z)) t
+  clear-line =
+      record {
+        two = two;
+        opens = opens;
+        closes = closes;
+        valid = answer-ascii t few (run-all ascii t line-ascii);
+        own = λ k l h. clear-plain marks (getD t k 0) (clear k l h);
+      }
 
 -- ---- the lesser of two places
 
@@ -216,22 +251,13 @@ module _ (q z : ℕ) (s : List ℕ) (end last i a b : ℕ) (is : last + 8 ≡ en
 
 -- ---- the call
 
--- a text of the kind, on a line and plain
+-- a text of the kind, on a line, that stands for itself
 abbrev pub Plain : ℕ → List ℕ → Type 0
-Plain kind t = ((kind ≡ 39) × PlainLine 0x27 0x27 t) ⊎ ((kind ≡ 34) × PlainLine 0x22 0x5C t)
+Plain kind t = ((kind ≡ 39) × OwnLine 0x27 literalChar t) ⊎ ((kind ≡ 34) × OwnLine 0x22 basicUnescaped t)
 
 -- a number that names an edition
 abbrev pub Named : ℕ → Type 0
 Named edition = (edition ≡ 10) ⊎ (edition ≡ 11)
-
-clear-literal : (b : ℕ) → Clear 0x27 0x27 b → literalChar b ≡ true
-unfolding literalChar
-clear-literal b c = sym (rest-is true literalChar (0x27 ∷ []) 32 95 tt b (c .no-first) (c .low) (omega (arith, c .high)))
-
-clear-basic : (b : ℕ) → Clear 0x22 0x5C b → basicUnescaped b ≡ true
-unfolding basicUnescaped
-clear-basic b c =
-    sym (rest-is true basicUnescaped (0x22 ∷ 0x5C ∷ []) 32 95 tt b (⊎-elim (c .no-first) (c .no-second)) (c .low) (omega (arith, c .high)))
 
 -- what a plain text of the kind decodes to: its body
 pub record Decodes (t : List ℕ) (edition kind : ℕ) (body : List ℕ) : Type 0 where
@@ -254,12 +280,12 @@ chosen-basic edition kind (inr e) k = (Toml11, simp (e, k))
 module _ (t : List ℕ) (edition kind n : ℕ) (named : Named edition) (size : n + 2 ≡ length t) where
   pub plain-decodes : Plain kind t → Decodes t edition kind (middle n t)
   plain-decodes (inl (k, line)) =
-      let r = line-text 0x27 0x27 (omega arith) t line LiteralString refl clear-literal n size in
-      record { valid = line-valid 0x27 0x27 (omega arith) t line; encoding = LiteralString; chosen = chosen-literal edition kind named k; bytes = r .0; errors = r .1 }
+      let r = line-text 0x27 LiteralString t line refl n size in
+      record { valid = line .valid; encoding = LiteralString; chosen = chosen-literal edition kind named k; bytes = r .0; errors = r .1 }
   plain-decodes (inr (k, line)) =
       let c = chosen-basic edition kind named k in
-      let r = line-text 0x22 0x5C (omega arith) t line (BasicString (c .0)) refl clear-basic n size in
-      record { valid = line-valid 0x22 0x5C (omega arith) t line; encoding = BasicString (c .0); chosen = c .1; bytes = r .0; errors = r .1 }
+      let r = line-text 0x22 (BasicString (c .0)) t line refl n size in
+      record { valid = line .valid; encoding = BasicString (c .0); chosen = c .1; bytes = r .0; errors = r .1 }
 
 -- so the call answers, whatever the error records, where the output has room
 module _ {t : List ℕ} {edition kind n : ℕ} {body : List ℕ} (size : length body ≡ n) (d : Decodes t edition kind body) where

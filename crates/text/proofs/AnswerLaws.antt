@@ -10,7 +10,8 @@ use lib.Dec.{ltb, eqb}
 use borrow.Author.Tests.{eqb-true, eqb-false, lt-ltb, le-ltb, eq-eqb, ne-eqb}
 use Rattle.text.specs.Refusals.{limit}
 use Rattle.text.specs.Utf8.{Utf8}
-use Rattle.text.specs.Utf8Read.{validPrefix}
+use Rattle.text_classes.specs.Runs.{run}
+use Rattle.text.specs.Utf8Read.{ascii, validPrefix}
 use Rattle.text.specs.Lead.{faultLen}
 use Rattle.text.specs.CheckMeans.{checkOf}
 use Rattle.text.specs.Told.{checkNumber, checkValue, checkLength, checkRefusal, checkReturned, checkFault}
@@ -19,7 +20,7 @@ use Rattle.text.specs.declared.refusal.Refusal.the-variants.{NotUtf8, To
 use Rattle.text.specs.declared.utf8.Utf8Check.{Utf8Check}
 use Rattle.text.specs.declared.utf8.Utf8Check.the-variants.{Valid, Refused}
 use Rattle.text_classes.proofs.Conds.{by-lt, cond-case, of-choice}
-use Rattle.text.proofs.ReadLaws.{utf8-iff, valid-is, valid-le, valid-longest}
+use Rattle.text.proofs.ReadLaws.{utf8-iff, valid-is, valid-le, valid-longest, valid-ascii, valid-end}
 use Rattle.text.proofs.FaultLaws.{fault-is, fault-one}
 
 -- ---- from the bytes to the answer
@@ -32,6 +33,10 @@ module _ (s : List ℕ) where
   pub answer-valid : length s ≤ limit → validPrefix s ≡ length s → Valid ≡ checkOf s
   unfolding checkOf
   answer-valid h e = simp (le-ltb _ _ h, eq-eqb _ _ e)
+
+  -- all of it ASCII
+  pub answer-ascii : length s ≤ limit → run ascii s ≡ length s → Valid ≡ checkOf s
+  answer-ascii h all = answer-valid h (omega (arith, rw all at (valid-ascii s), valid-end s (length s) (omega arith)))
 
   pub answer-broken : (at r : ℕ) → length s ≤ limit → validPrefix s ≡ at → at < length s → r ≡ faultLen (drop at s)
       → Refused (NotUtf8 at r) ≡ checkOf s

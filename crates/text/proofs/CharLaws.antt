@@ -1,20 +1,38 @@
 -- Where four bytes can be read, the table's row for the first byte and the bytes after it tell a character's length.
 -- Assumes nothing.
-use Prim.Native.Nat.{ℕ, _+_, _≤_, _<_}
+use Prim.Native.Nat.{ℕ, zero, suc, _+_, _≤_, _<_}
 use mathlib.Core.Path.{_≡_, refl, sym, ap, subst}
+use mathlib.Core.Bool.{Bool, true}
 use mathlib.Core.List.{List}
+use native.Mathlib.Nat.{add-zero}
 use native.Mathlib.Omega.{arith}
 use lib.ListN.{length, getD, drop}
 use Rattle.text.specs.declared.utf8.Lead.{Lead}
-use Rattle.text.specs.Lead.{row, leadOf, Among, Asked, CharacterAt, BegunAt}
+use Rattle.text.specs.Lead.{row, leadOf, Among, Asked, CharacterAt, WideAt, BegunAt}
 use Rattle.text.specs.Utf8Read.{charLen, validPrefix, Along}
-use Rattle.text.proofs.LeadLaws.{all-begun, row-is}
+use Rattle.text.proofs.LeadLaws.{all-begun, row-is, lead-high}
 use Rattle.text.proofs.BegunLaws.{begun-1}
 use Rattle.text.proofs.ReadLaws.{valid-step}
 
 -- the second byte is as the row asks
 pub asked : (a n low high b : ℕ) → row n low high ≡ leadOf a → Among low high b → Asked a n b
 asked a n low high b e m = (ap (λ (l : Lead). l .0) (sym e), subst (λ (l : Lead). Among (l .1) (l .2) b) e m)
+
+-- all its bytes are beyond ASCII
+pub wide-high : (s : List ℕ) (i n k : ℕ) → CharacterAt s i n → k < n → 0x80 ≤ getD s (i + k) 0
+wide-high s i n zero w h = rw add-zero (lead-high (getD s i 0) (omega (arith, w .some, w .asked .0)) .0)
+wide-high s i n (suc zero) w h =
+    omega (arith, w .asked .1, lead-high (getD s i 0) (omega (arith, w .some, w .asked .0)))
+wide-high s i n (suc (suc zero)) w h = w .third (omega arith) .0
+wide-high s i n (suc (suc (suc zero))) w h = w .fourth (omega arith) .0
+wide-high s i n (suc (suc (suc (suc k)))) w h = absurd (omega (arith, w .some))
+
+-- r is n where a character of n bytes was found, and else 0
+pub wide-counted : (s : List ℕ) (i n r : ℕ) (found : Bool) → i + n ≤ length s → (found ≡ true → CharacterAt s i n)
+    → (0 < r → (r ≡ n) × (found ≡ true)) → WideAt s i r
+wide-counted s i n r found fits is counted some =
+    let so = counted some in
+    rw (so .0) (fits, is (so .1))
 
 module _ (s : List ℕ) (start i : ℕ) where
   abbrev a : ℕ

@@ -88,6 +88,23 @@ row-fits (rf5 l) = omega arith
 pub lead-fits : (a : ℕ) → (leadOf a .0 ≤ 4) × (leadOf a .1 ≤ leadOf a .2)
 lead-fits a = row-fits (rows a)
 
+-- beyond one byte all are 80 or above
+row-high : {a : ℕ} {l : Lead} → Row a l → 2 ≤ l .0 → (0x80 ≤ a) × (0x80 ≤ l .1)
+row-high (r00 h) p = absurd (omega arith)
+row-high (r80 l h) p = absurd (omega arith)
+row-high (rc2 l h) p = omega arith
+row-high (re0 l h) p = omega arith
+row-high (re1 l h) p = omega arith
+row-high (red l h) p = omega arith
+row-high (ree l h) p = omega arith
+row-high (rf0 l h) p = omega arith
+row-high (rf1 l h) p = omega arith
+row-high (rf4 l h) p = omega arith
+row-high (rf5 l) p = absurd (omega arith)
+
+pub lead-high : (a : ℕ) → 2 ≤ leadOf a .0 → (0x80 ≤ a) × (0x80 ≤ leadOf a .1)
+lead-high a = row-high (rows a)
+
 -- ---- what the table asks of a character of n bytes: `left` bytes are there, and b, c, d are the second to the fourth
 
 pub record LeadSeen (l : Lead) (left b c d n : ℕ) : Type 0 where

@@ -1,7 +1,7 @@
 -- What a first byte says of its character, and how many bytes are as it says. Not to be believed but proved:
 -- proofs/LeadLaws.antt shows that a character begins where the bytes pass this table, and only there.
 -- Assumes nothing.
-use Prim.Native.Nat.{ℕ, _+_, _*_, _^_, _-_, _≤_}
+use Prim.Native.Nat.{ℕ, _+_, _*_, _^_, _-_, _≤_, _<_}
 use mathlib.Core.Path.{_≡_}
 use mathlib.Core.Bool.{Bool, cond, _&&_}
 use lib.Count.{leadingZeros}
@@ -49,6 +49,10 @@ pub record Character (a b c d n : ℕ) : Type 0 where
 
 abbrev pub CharacterAt : List ℕ → ℕ → ℕ → Type 0
 CharacterAt s i n = Character (getD s i 0) (getD s (i + 1) 0) (getD s (i + 2) 0) (getD s (i + 3) 0) n
+
+-- r is 0, or a character of r bytes stands at place i, all of them within s
+abbrev pub WideAt : List ℕ → ℕ → ℕ → Type 0
+WideAt s i r = 0 < r → (i + r ≤ length s) × CharacterAt s i r
 
 -- four bytes as one number, the first of them lowest
 abbrev pub fourOf : ℕ → ℕ → ℕ → ℕ → ℕ

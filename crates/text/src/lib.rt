@@ -10,3 +10,4 @@ pub use utf8::Utf8Check;
 pub use utf8::check_utf8;
 pub use utf8::encode;
 pub use utf8::is_scalar;
+pub use utf8::wide_at;

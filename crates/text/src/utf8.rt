@@ -8,7 +8,7 @@ ghost use Rattle.text_classes.specs.Runs.{run};
 ghost use Rattle.text_classes.proofs.RunLaws.{Block, SameEnd};
 ghost use Rattle.text.specs.Utf8.{encodeScalar};
 ghost use Rattle.text.specs.Utf8Read.{isScalar, ascii, charLen, CharsPassed, Along};
-ghost use Rattle.text.specs.Lead.{leadOf, onesOf, Among, Asked, Character, CharacterAt, fourAt, BegunAt, faultLen};
+ghost use Rattle.text.specs.Lead.{leadOf, onesOf, Among, Asked, Character, CharacterAt, WideAt, fourAt, BegunAt, faultLen};
 ghost use Rattle.text.specs.CheckMeans.{padded, encodedOf, checkOf};
 ghost use Rattle.text.specs.Told.{checkNumber, checkValue, checkLength, checkRefusal, checkReturned, checkFault};
 use crate::refusal::LIMIT;
@@ -30,6 +30,9 @@ pub fn check_utf8(s: &[u8]) -> Utf8Check
     if LIMIT < s.len() {
         return Utf8Check::Refused(Refusal::TooLong);
     }
+    if is_short_ascii(s) {
+        return Utf8Check::Valid;
+    }
     let mut at = 0;
     while at < s.len() {
         let next = passed(s, at);
@@ -40,6 +43,38 @@ pub fn check_utf8(s: &[u8]) -> Utf8Check
         at = next;
     }
     Utf8Check::Valid
+}
+
+// Whether s has 4 to 16 bytes, all of them ASCII: most strings of a document are short. Two words reach from one end to the
+// other, and overlap where they are longer than s.
+fn is_short_ascii(s: &[u8]) -> bool
+    ensures { λ r. ⌜ (r ≡ true → run ascii (now (s .entry)) ≡ length (now (s .entry))) ⌝ }
+{
+    let n = s.len();
+    if 16 < n {
+        return false;
+    }
+    if n < 4 {
+        return false;
+    }
+    if n < 8 {
+        return is_ascii_fours(s, n - 4);
+    }
+    if !is_ascii_word(s, 0) {
+        return false;
+    }
+    is_ascii_word(s, n - 8)
+}
+
+// Whether the first four bytes and four from i on are ASCII, asked as `is_ascii_word` asks.
+fn is_ascii_fours(s: &[u8], i: usize) -> bool
+    requires { ⌜ i + 4 ≤ length (now s) ⌝ }
+    ensures { λ r. ⌜ (r ≡ true → Block ascii (now (s .entry)) 0 4 × Block ascii (now (s .entry)) i 4) ⌝ }
+{
+    if word_at(s, 0) & 0x8080_8080 != 0 {
+        return false;
+    }
+    word_at(s, i) & 0x8080_8080 == 0
 }
 
 // The place after the character at `at`, or after several that are passed at once, as a run of ASCII
@@ -305,6 +340,42 @@ fn ascii_block(s: &[u8], i: usize, n: usize) -> bool
         j += 1;
     }
     bits < 0x80
+}
+
+// The length of the character of two to four bytes that stands at `at`, 0 where none does. It asks as `chars_run` does, for
+// a caller that goes over ASCII itself.
+pub fn wide_at(s: &[u8], at: usize) -> usize
+    ensures { λ r. ⌜ WideAt (now (s .entry)) at r ⌝ }
+{
+    if s.len() <= at {
+        return 0;
+    }
+    let left = s.len() - at;
+    if left < 2 {
+        return 0;
+    }
+    let a = s[at];
+    let ones = u8::leading_zeros(!a) as usize;
+    if ones < 3 {
+        return counted(is_two(a, s[at + 1]), 2);
+    }
+    if left < 3 {
+        return 0;
+    }
+    if ones == 3 {
+        return counted(is_three(a, s[at + 1], s[at + 2]), 3);
+    }
+    if left < 4 {
+        return 0;
+    }
+    counted(is_four(a, s[at + 1], s[at + 2], s[at + 3]), 4)
+}
+
+// n where `so` holds, else 0.
+fn counted(so: bool, n: usize) -> usize
+    ensures { λ r. ⌜ (0 < r → (r ≡ n) × (so ≡ true)) ⌝ }
+{
+    if so { n } else { 0 }
 }
 
 // The length of the character at `at`, 0 where none begins there.

@@ -11,7 +11,7 @@ use Rattle.text_classes.specs.Classes.{among, wschar, literalChar, mllChar, bas
 use Rattle.text.specs.Utf8.{Scalar}
 use Rattle.decoder_rules.specs.Escapes.{hexValue}
 use Rattle.text_classes.proofs.Conds.{both-left, both-right, or-left, or-right, or-inv}
-use Rattle.decoder_rules.proofs.AsciiLaws.{basic-high}
+use Rattle.decoder_rules.proofs.AsciiLaws.{basic-high, literal-high}
 use Rattle.theorems_grammar.specs.Grammar.{Wschar, NonAscii, x80-D7FF, xE000-10FFFF, BasicUnescaped, MlbUnescaped, HexDig, LiteralChar, MllChar}
 
 pub no-true : {A : Type 0} → false ≡ true → A
@@ -44,11 +44,6 @@ non-ascii-high (x80-D7FF h k) = h
 non-ascii-high (xE000-10FFFF h k) = omega arith
 
 -- ---- literal-char, and mll-char, which has the same alternatives
-
-pub literal-high : (b : ℕ) → 0x80 ≤ b → literalChar b ≡ true
-unfolding literalChar
-literal-high b h =
-    or-right (eqb b 0x09) _ (or-right (among 0x20 0x26 b) _ (or-right (among 0x28 0x7E b) _ (le-leb 0x80 b h)))
 
 pub literal-at : {c : ℕ} → LiteralChar c → literalChar c ≡ true
 unfolding literalChar

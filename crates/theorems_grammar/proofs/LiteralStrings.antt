@@ -16,10 +16,11 @@ use Rattle.decoder_rules.specs.Pieces.{Pieces}
 use Rattle.decoder_rules.specs.Bodies.{literalPiece, pieceOf}
 use Rattle.decoder_rules.specs.Decoding.{bytesOf, errorsOf}
 use Rattle.decoder_rules.proofs.PieceLaws.{wrong≢clean}
+use Rattle.decoder_rules.proofs.AsciiLaws.{literal-high}
 use Rattle.theorems_grammar.specs.Grammar.{LiteralChars, stop, more, LiteralString, literal-string}
 use Rattle.theorems_grammar.proofs.Encoded.{side, ascii, beyond}
 use Rattle.theorems_grammar.proofs.Reading.{IfClean, CopiesRuns, ErrorFree, ReadsAs, ReadsChars, reads-none, reads-then, reads-char, first-clean}
-use Rattle.theorems_grammar.proofs.ClassLaws.{literal-at, literal-is, literal-high}
+use Rattle.theorems_grammar.proofs.ClassLaws.{literal-at, literal-is}
 use Rattle.theorems_grammar.proofs.LineMarks.{line-errors, line-bytes, line-text}
 
 abbrev pieces : Pieces

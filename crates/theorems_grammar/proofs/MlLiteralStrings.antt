@@ -23,6 +23,7 @@ use Rattle.decoder_rules.specs.Bodies.{mlLiteralPiece, pieceOf}
 use Rattle.decoder_rules.specs.Decoding.{bytesOf, errorsOf}
 use Rattle.decoder_rules.proofs.PieceLaws.{wrong≢clean}
 use Rattle.decoder_rules.proofs.PlaceForms.{ml-literal-piece-is}
+use Rattle.decoder_rules.proofs.AsciiLaws.{literal-high}
 use Rattle.theorems_grammar.specs.Grammar.{x0A, x0D-0A, MllChar, MllContent, mll-char, newline, MllContents, MllContents1, some-content, MllQuotes, one, two, MllGroups, OptMllQuotes, absent, present, MlLiteralBody, ml-literal-body, MlLiteralString, ml-literal-string}
 use Rattle.theorems_tokens.proofs.ByLength.{by-length}
 use Rattle.theorems_grammar.specs.Prose.{MlLiteralObeys}
@@ -30,7 +31,7 @@ use Rattle.theorems_grammar.specs.Strings.{Apart}
 use Rattle.theorems_grammar.proofs.ListLaws.{first-splits}
 use Rattle.theorems_grammar.proofs.Encoded.{side, ascii, beyond, ascii-whole, ascii-led}
 use Rattle.theorems_grammar.proofs.Reading.{IfClean, CopiesRuns, ErrorFree, Reads, ReadsAs, ReadsChars, ReadsNewlines, reads-none, reads-then, reads-char, reads-plain, reads-copy, first-clean}
-use Rattle.theorems_grammar.proofs.ClassLaws.{literal-at, literal-is, literal-high, mll-literal, mll-same}
+use Rattle.theorems_grammar.proofs.ClassLaws.{literal-at, literal-is, mll-literal, mll-same}
 use Rattle.theorems_grammar.proofs.Passing.{apostrophes, Seen, seen0, literal-in, newline-in, Through, all-passed}
 use Rattle.theorems_grammar.proofs.TripleMarks.{newline-ascii, Fences, ml-bytes, ml-no-error, ml-text, MlToken, ml-lexed}
 use Rattle.theorems_grammar.proofs.MlRuns.{Flat, end, mark0, mark1, content, FlatOf, Passes, flat-through, Bodies, flat-body, RunIf, UpTo, mark-first, content-clean}

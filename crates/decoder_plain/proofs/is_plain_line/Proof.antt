@@ -1,8 +1,12 @@
--- `is_plain_line` is right because it asks for the limit, for both marks, and for all between them.
+-- `is_plain_line` is right because it asks for the limit, for both marks, and for all between them: at once where that is
+-- printable ASCII, else up to the closing mark.
 -- Assumes nothing.
 use borrow.Author.Needs.{needs}
 use mathlib.Core.Bool.{false≢true}
 use native.Mathlib.Omega.{arith}
+use borrow.Author.Tests.{eqb-true}
+use Rattle.decoder_rules.proofs.PlainLaws.{clear-line}
+use Rattle.decoder_rules.proofs.OwnLaws.{marks-close, own-line}
 use Rattle.decoder_plain.proofs.is_plain_line.Statement.{statement}
 use Rattle.decoder_plain.proofs.is_plain_line.Tie as tie
 
@@ -35,13 +39,29 @@ is-clear-requires c κs = search needs
 
 returns-5 : tie.Need-returns-5
 returns-5 c = λ h.
-    record {
-      few = omega arith;
-      two = omega arith;
-      opens = c .before .before .before .if3 .left;
-      closes = c .before .if4 .left;
-      clear = c .is-clear .ensures h;
-    }
+    let start = c .before .before .before .before .before .before .before .before .before in
+    clear-line (start .pre) (start .args .text .now) (omega arith) (omega arith) (c .before .before .before .before .if3 .left)
+    (c .before .before .if4 .left) (c .before .is-clear .ensures (c .if5 .taken))
+
+returns-6 : tie.Need-returns-6
+returns-6 c = λ h. absurd (false≢true h)
+
+line-of-requires : tie.Need-line-of-requires
+line-of-requires c κs = search needs
+
+own-run-requires : tie.Need-own-run-requires
+own-run-requires c κs =
+    let start = c .before .before .before .before .before .before .before .before .before .before .before in
+    rw (c .line-of .ensures) (marks-close (start .pre) (start .args .text .now) (omega arith) (c .before .before .before .before .if4 .left))
+
+add-result : tie.Need-add-result
+add-result c = omega (arith, c .own-run .ensures .within)
+
+returns-7 : tie.Need-returns-7
+returns-7 c = λ h.
+    let start = c .before .before .before .before .before .before .before .before .before .before .before .before in
+    own-line (start .pre) (start .args .text .now) (omega arith) (omega arith) (c .before .before .before .before .before .before .before .if3 .left)
+    (c .before .before .before .before .before .if4 .left) (eqb-true _ _ h) (rw (c .before .line-of .ensures) at (c .own-run .ensures))
 
 pub is-plain-line-spec : {M : Type 1} → statement M
 is-plain-line-spec =
@@ -56,4 +76,9 @@ is-plain-line-spec =
     returns-4
     sub-is-clear
     is-clear-requires
-    returns-5)
+    returns-5
+    returns-6
+    line-of-requires
+    own-run-requires
+    add-result
+    returns-7)
