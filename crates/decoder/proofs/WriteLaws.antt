@@ -1,9 +1,9 @@
--- A character's bytes, as the encoding's answer holds them; and that a turn of a loop reads the rule's piece, or what
--- stands for it: a short run, or an escape.
+-- A character's bytes, as the encoding's answer holds them; what the two loops keep of a body, from piece to piece, where a
+-- short run and an escape are the rule's pieces too; and the copying of bytes.
 -- Assumes nothing.
 use Prim.Native.Nat.{ℕ, _+_, _-_, _≤_, _<_}
 use mathlib.Core.Path.{_≡_, refl, sym, ap, _∙_}
-use mathlib.Core.Bool.{Bool}
+use mathlib.Core.Bool.{Bool, false}
 use mathlib.Core.List.{List, [], _∷_, _++_}
 use native.Mathlib.Omega.{arith}
 use lib.ListN.{length, take, drop, getD, set, replicate, length-append, length-take, length-drop, length-set}
@@ -20,22 +20,19 @@ use Rattle.decoder_rules.specs.declared.Encoding.the-variants.{UnquotedKey}
 use Rattle.decoder_rules.specs.Encodings.{plain}
 use Rattle.decoder_rules.specs.declared.Piece.{Piece}
 use Rattle.decoder_rules.specs.declared.Verdict.the-variants.{Clean}
-use Rattle.decoder_rules.specs.Pieces.{gives, Pieces, copyPiece, charPiece}
+use Rattle.decoder_rules.specs.Pieces.{gives, notes, copyPiece, charPiece}
 use Rattle.decoder_rules.specs.Bodies.{pieceOf}
-use Rattle.decoder_rules.specs.Marks.{endsOf, bodyOf}
-use Rattle.decoder_rules.specs.Decoding.{bytesOf}
-use Rattle.decoder_rules.specs.declared.Ends.{Ends}
 use Rattle.decoder_rules.proofs.PieceLaws.{notes-none}
-use Rattle.decoder_rules.proofs.LoopLaws.{bytes, errors, Writing, write-turn}
+use Rattle.decoder_rules.proofs.BodyLaws.{piece-fine}
+use Rattle.decoder_rules.proofs.LoopLaws.{Counting, count-turn, Writing, write-turn}
 use Rattle.decoder_rules.proofs.FrontLaws.{front-bytes, front-errors, part-rest}
-use Rattle.decoder_rules.proofs.MarkLaws.{ends-fit}
-use Rattle.decoder_rules.proofs.DecodeLaws.{bytes-is}
 use Rattle.decoder_rules.proofs.StoreLaws.{Stored, store-none, front-long, overwritten, copy-none, copy-more, copy-done}
 use Rattle.decoder_rules.proofs.PlainLaws.{Named}
 use Rattle.decoder_rules.proofs.KeyLaws.{PlainKey, KeyCopied, copied, untouched}
-use Rattle.decoder_rules.proofs.Fine.{Fine, rest, rest-is, rest-some, Turn}
-use Rattle.decoder_pieces.specs.Places.{pieceAt}
-use Rattle.decoder_pieces.proofs.PlaceLaws.{piece-is}
+use Rattle.decoder_rules.proofs.Fine.{Turn}
+use Rattle.decoder_pieces.specs.declared.body.Body.{Body}
+use Rattle.decoder_pieces.specs.Steps.{bodyBytes, bodyAfter, bytesLeft, errorsLeft}
+use Rattle.decoder_pieces.proofs.StepLaws.{left-is}
 use Rattle.decoder_pieces.specs.declared.string.Escape.{Escape}
 use Rattle.decoder_pieces.specs.GoodEscapes.{escapeAt}
 use Rattle.decoder_pieces.proofs.EscapeAtLaws.{good-escape-piece}
@@ -61,21 +58,36 @@ module _ (c : ℕ) (h : Scalar c) (e : Encoded) (f : e ≡ encodedOf c) where
       ap (λ (x : Encoded). take (x .len) (x .bytes)) encoded-is
       ∙ take-append-seam (encodeScalar c) (replicate (4 - length (encodeScalar c)) 0)
 
--- what `piece_at` answers in a turn of a loop is the rule's piece there
-pub turn-at : (e : Encoding) (s : List ℕ) (base i : ℕ) (d : Bool) → base + length s ≤ limit → i < length s
-    → (p : Piece) → p ≡ pieceAt e d (base + i) (rest s i) → Turn (pieceOf e) s base i d p
-turn-at e s base i d l h p f =
-    let long : length (rest s i) ≤ limit = rw rest-is (omega (arith, length-drop i s)) in
-    record { more = h; reads = f ∙ sym (piece-is e d (base + i) (rest s i) (rest-some s i h) long (omega arith)) }
+-- ---- the two loops, over what is left of the body `start` of the text t
 
--- ---- a turn of the writing loop whose piece has no error
+module _ (e : Encoding) (t : List ℕ) (start : Body) where
+  -- n bytes and m errors are counted, and the body b is left
+  abbrev pub CountedTo : Body → ℕ → ℕ → Type 0
+  CountedTo b n m =
+      Counting (pieceOf e) (bytesLeft e t start) (errorsLeft e t start) (length (bodyBytes start t))
+      (b .dropping) (b .at) (bodyBytes b t) n m
 
-module _ {P : Pieces} {s : List ℕ} {base : ℕ} {out₀ : List ℕ} {o₀ : ℕ} {errs₀ : List (List ℕ)} {m₀ : ℕ} where
-  pub quiet-turn : Fine P → {out out′ : List ℕ} {errs : List (List ℕ)} {i : ℕ} {d : Bool} {o m o′ : ℕ} {p : Piece}
-      → Turn P s base i d p → p .verdict ≡ Clean → Writing P s base out₀ o₀ errs₀ m₀ out errs i d o m
-      → Stored out o (gives p (rest s i)) o′ out′ → Writing P s base out₀ o₀ errs₀ m₀ out′ errs (i + p .take) (p .dropping) o′ m
-  quiet-turn fine {errs = errs} {m = m} {p = p} t quiet v stored =
-      write-turn fine t v stored (rw (notes-none p quiet) (store-none errs m))
+  pub count-on : (b : Body) (p : Piece) → Turn (pieceOf e) (b .dropping) (b .at) (bodyBytes b t) p → {n m : ℕ} → CountedTo b n m
+      → (w k : ℕ) → w ≡ length (gives p (bodyBytes b t)) → k ≡ length (notes p) → CountedTo (bodyAfter b p) (n + w) (m + k)
+  count-on b p turn v w k ew ek = rw (left-is e t b p turn) (count-turn (piece-fine e) turn v w k ew ek)
+
+  -- memory that held out₀ and errs₀ holds out and errs: it is written to o and m, and the body b is left
+  module _ (out₀ : List ℕ) (o₀ : ℕ) (errs₀ : List (List ℕ)) (m₀ : ℕ) where
+    abbrev pub WrittenTo : List ℕ → List (List ℕ) → Body → ℕ → ℕ → Type 0
+    WrittenTo out errs b o m =
+        Writing (pieceOf e) (bytesLeft e t start) (errorsLeft e t start) out₀ o₀ errs₀ m₀ out errs
+        (b .dropping) (b .at) (bodyBytes b t) o m
+
+  module _ {out₀ : List ℕ} {o₀ : ℕ} {errs₀ : List (List ℕ)} {m₀ : ℕ} {out out′ : List ℕ} {errs : List (List ℕ)} {o o′ m : ℕ}
+      (b : Body) (p : Piece) (turn : Turn (pieceOf e) (b .dropping) (b .at) (bodyBytes b t) p)
+      (v : WrittenTo out₀ o₀ errs₀ m₀ out errs b o m) (stored : Stored out o (gives p (bodyBytes b t)) o′ out′) where
+    pub write-on : {errs′ : List (List ℕ)} {m′ : ℕ} → Stored errs m (notes p) m′ errs′
+        → WrittenTo out₀ o₀ errs₀ m₀ out′ errs′ (bodyAfter b p) o′ m′
+    write-on noted = rw (left-is e t b p turn) (write-turn (piece-fine e) turn v stored noted)
+
+    -- a piece without an error notes nothing
+    pub write-quiet : p .verdict ≡ Clean → WrittenTo out₀ o₀ errs₀ m₀ out′ errs (bodyAfter b p) o′ m
+    write-quiet quiet = write-on (rw (notes-none p quiet) (store-none errs m))
 
 pub given-copy : (n : ℕ) (s : List ℕ) → gives (copyPiece n) s ≡ take n s
 unfolding gives
@@ -86,11 +98,10 @@ unfolding gives
 given-char n c s = refl
 
 -- an escape that is read off is the rule's piece
-pub escape-turn : (e : Encoding) (s : List ℕ) (base i : ℕ) (d : Bool) → i < length s → (x : Escape) → x ≡ escapeAt e (rest s i)
-    → 0 < x .take → Turn (pieceOf e) s base i d (charPiece (x .take) (x .char))
-escape-turn e s base i d h x is some =
-    let piece = good-escape-piece e d (base + i) (rest s i) (rw is at some) in
-    record { more = h; reads = rw is (sym piece) }
+pub escape-turn : (e : Encoding) (d : Bool) (at : ℕ) (s : List ℕ) → 0 < length s → (x : Escape) → x ≡ escapeAt e s
+    → 0 < x .take → Turn (pieceOf e) d at s (charPiece (x .take) (x .char))
+escape-turn e d at s h x is some =
+    record { more = h; reads = rw is (sym (good-escape-piece e d at s (rw is at some))) }
 
 -- ---- a loop that copies the first n bytes of s to place o of memory that held `old`: j of them are copied
 
@@ -132,24 +143,21 @@ key-copied edition (b ∷ s) old r out named few room all stored =
     let key : PlainKey t = record { few = few; some = omega arith; all = omega (arith, run-le (plain UnquotedKey) t) } in
     copied named key size (omega arith) (rw size (overwritten in-all room))
 
--- ---- a text whose marks d are known, and k bytes in front of its body that stand for themselves
+-- ---- a body that is not within a line-ending escape, and k bytes in front of it that stand for themselves
 
-module _ (e : Encoding) (t : List ℕ) (d : Ends) (is : d ≡ endsOf e t) (k : ℕ) (plain-is : k ≡ run (plain e) (bodyOf d t)) where
-  pub plain-fits : (k ≤ length (bodyOf d t)) × (d .start + k ≤ d .end) × (d .end ≤ length t)
+module _ (e : Encoding) (t : List ℕ) (b : Body) (outside : b .dropping ≡ false) (fits : b .at ≤ b .end) (k : ℕ)
+    (is : k ≡ run (plain e) (bodyBytes b t)) where
+  pub plain-fits : (k ≤ length (bodyBytes b t)) × (b .at + k ≤ b .end)
   plain-fits =
-      let fit = ends-fit e t d is in
-      let within : k ≤ length (bodyOf d t) = omega (arith, run-le (plain e) (bodyOf d t)) in
-      (within, omega (arith, simp (length-take, length-drop) at within), fit .1)
+      let within : k ≤ length (bodyBytes b t) = omega (arith, run-le (plain e) (bodyBytes b t)) in
+      (within, omega (arith, simp (length-take, length-drop) at within))
 
-  -- the part behind them
-  abbrev pub behind : List ℕ
-  behind = take (d .end - (d .start + k)) (drop (d .start + k) t)
+  -- the bytes after them
+  after-is : drop k (bodyBytes b t) ≡ bodyBytes (bodyAfter b (copyPiece k)) t
+  after-is = part-rest t (b .at) (b .end) k (omega (arith, plain-fits))
 
-  behind-is : drop k (bodyOf d t) ≡ behind
-  behind-is = part-rest t (d .start) (d .end) k (omega (arith, plain-fits))
+  pub bytes-after : bytesLeft e t b ≡ take k (bodyBytes b t) ++ bytesLeft e t (bodyAfter b (copyPiece k))
+  bytes-after = rw outside (front-bytes e (bodyBytes b t) (b .at) k is ∙ rw after-is)
 
-  pub bytes-behind : bytesOf e t ≡ take k (bodyOf d t) ++ bytes (pieceOf e) behind (d .start + k)
-  bytes-behind = bytes-is e t d is ∙ front-bytes e (bodyOf d t) (d .start) k plain-is ∙ rw behind-is
-
-  pub errors-behind : errors (pieceOf e) (bodyOf d t) (d .start) ≡ errors (pieceOf e) behind (d .start + k)
-  errors-behind = front-errors e (bodyOf d t) (d .start) k plain-is ∙ rw behind-is
+  pub errors-after : errorsLeft e t b ≡ errorsLeft e t (bodyAfter b (copyPiece k))
+  errors-after = rw outside (front-errors e (bodyBytes b t) (b .at) k is ∙ rw after-is)

@@ -12,7 +12,7 @@ ghost use Rattle.decoder_rules.specs.declared.Choice.the-variants.{Known};
 ghost use Rattle.decoder_rules.specs.Decoding.{bytesOf, errorsOf, bytesBy, errorsBy, decodedBy, decodeIn, after};
 ghost use Rattle.decoder_rules.specs.Told.{decodedNumber, decodedValue, decodedErrors, decodedLength, decodeRefusal, decodeReturned, decodeNoted};
 ghost use Rattle.decoder_rules.proofs.PlainLaws.{Named};
-ghost use Rattle.decoder_rules.specs.Marks.{endsOf};
+ghost use Rattle.decoder_marks.specs.Opening.{openedOf};
 ghost use Rattle.decoder_rules.proofs.KeyLaws.{KeyCopied};
 ghost use Rattle.decoder_rules.proofs.StoreLaws.{Stored};
 
@@ -21,19 +21,19 @@ mod write;
 use crate::write::Counts;
 use crate::write::copy_in;
 use crate::write::count;
-use crate::write::miss;
-use crate::write::missed;
+use crate::write::note;
+use crate::write::noted;
+use crate::write::past;
 use crate::write::write;
+use decoder_marks::Opened;
 use decoder_marks::choice_by;
-use decoder_marks::ends_of;
-use decoder_marks::mark_error;
+use decoder_marks::open_text;
 use decoder_pieces::plain_run;
 use decoder_plain::copy_plain;
 use decoder_rules::Choice;
 pub use decoder_rules::Decoded;
 use decoder_rules::Edition;
 use decoder_rules::Encoding;
-use decoder_rules::Ends;
 use lexer_token::TokenKind;
 use text::LIMIT;
 use text::Refusal;
@@ -185,9 +185,9 @@ fn decode_as(e: Encoding, text: &[u8], output: &mut [u8], errors: &mut [[usize; 
     ensures output { λ r. ⌜ now (output .exit) ≡ after r (bytesOf e (now (text .entry))) (now (output .entry)) ⌝ }
     ensures records { λ r. ⌜ now (errors .exit) ≡ after r (errorsOf e (now (text .entry))) (now (errors .entry)) ⌝ }
 {
-    let d = ends_of(e, text);
+    let opened = open_text(e, text);
     if !is_roomy(text.len(), output.len(), errors.len()) {
-        let need = needed(e, d, text);
+        let need = needed(e, opened, text);
         if output.len() < need.bytes {
             return Decoded::Refused(Refusal::ShortOutput { needed: need.bytes });
         }
@@ -197,7 +197,7 @@ fn decode_as(e: Encoding, text: &[u8], output: &mut [u8], errors: &mut [[usize; 
             });
         }
     }
-    let done = fill(e, d, text, output, errors);
+    let done = fill(e, opened, text, output, errors);
     Decoded::Written {
         bytes: done.bytes,
         errors: done.errors,
@@ -215,26 +215,32 @@ fn is_roomy(n: usize, o: usize, m: usize) -> bool
     n + 2 <= m
 }
 
-// How many bytes and errors a text has whose marks are known.
-fn needed(e: Encoding, d: Ends, text: &[u8]) -> Counts
-    requires { ⌜ (length (now text) ≤ limit) × (d ≡ endsOf e (now text)) ⌝ }
+// How many bytes and errors an opened text has.
+fn needed(e: Encoding, opened: Opened, text: &[u8]) -> Counts
+    requires { ⌜ (length (now text) ≤ limit) × (opened ≡ openedOf e (now text)) ⌝ }
     ensures bytes { λ r. ⌜ r .bytes ≡ length (bytesOf e (now (text .entry))) ⌝ }
     ensures errors { λ r. ⌜ r .errors ≡ length (errorsOf e (now (text .entry))) ⌝ }
 {
-    let a = d.start;
-    let z = d.end;
-    let c = count(e, &text[a..z], a);
+    let opening = opened.opening;
+    let closing = opened.closing;
+    let c = count(e, opened.body, text);
     Counts {
         bytes: c.bytes,
-        errors: missed(d.opened) + (missed(d.closed) + c.errors),
+        errors: noted(opening) + (noted(closing) + c.errors),
     }
 }
 
 // Writes them to the front of the lent memory. What stands for itself in front of the body, which most often is all of it,
 // is copied at once.
-fn fill(e: Encoding, d: Ends, text: &[u8], output: &mut [u8], errors: &mut [[usize; 3]]) -> Counts
+fn fill(
+    e: Encoding,
+    opened: Opened,
+    text: &[u8],
+    output: &mut [u8],
+    errors: &mut [[usize; 3]],
+) -> Counts
     requires { ⌜ (length (now text) ≤ limit)
-        × (d ≡ endsOf e (now text))
+        × (opened ≡ openedOf e (now text))
         × (length (bytesOf e (now text)) ≤ length (now output))
         × (length (errorsOf e (now text)) ≤ length (now errors)) ⌝ }
     ensures output { λ r.
@@ -242,13 +248,14 @@ fn fill(e: Encoding, d: Ends, text: &[u8], output: &mut [u8], errors: &mut [[usi
     ensures records { λ r.
         ⌜ Stored (now (errors .entry)) 0 (errorsOf e (now (text .entry))) (r .errors) (now (errors .exit)) ⌝ }
 {
-    let a = d.start;
-    let z = d.end;
-    let error = mark_error(e);
-    let m = miss(d.opened, error, 0, errors, 0);
-    let m2 = miss(d.closed, error, text.len(), errors, m);
-    let plain = plain_run(e, &text[a..z]);
-    let o = copy_in(&text[a..z], plain, output, 0);
-    let i = a + plain;
-    write(e, &text[i..z], i, output, o, errors, m2)
+    let opening = opened.opening;
+    let closing = opened.closing;
+    let body = opened.body;
+    let at = body.at;
+    let end = body.end;
+    let m = note(opening, errors, 0);
+    let m2 = note(closing, errors, m);
+    let plain = plain_run(e, &text[at..end]);
+    let o = copy_in(&text[at..end], plain, output, 0);
+    write(e, past(body, plain), text, output, o, errors, m2)
 }

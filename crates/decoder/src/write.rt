@@ -1,22 +1,20 @@
-// The two loops over a body's pieces: one counts, one writes. What they ask of a decoder is that its
-// pieces are `Fine` (crate `decoder_rules`), so they serve all five. A function that stores answers the
-// place behind what it stored.
+// The two passes over a body, each a loop over the same steps: one counts, one writes. What they ask of a decoder is that
+// its pieces are `Fine` (crate `decoder_rules`), so they serve all five. A function that stores answers the place after what it
+// stored.
 ghost use mathlib.Core.Path.{_≡_};
-ghost use mathlib.Core.Bool.{false};
-ghost use Prim.Native.Nat.{ℕ, _+_, _<_, _≤_};
+ghost use mathlib.Core.List.{List};
+ghost use Prim.Native.Nat.{ℕ, _+_, _<_, _≤_, _^_};
 ghost use lib.ListN.{length, take};
 ghost use Rattle.text.specs.Refusals.{limit};
 ghost use Rattle.text.specs.Utf8.{Scalar, encodeScalar};
-ghost use Rattle.decoder_rules.specs.declared.DecodeError.{DecodeError};
-ghost use Rattle.decoder_rules.specs.Pieces.{gives, errorAt, notes};
-ghost use Rattle.decoder_rules.specs.Bodies.{pieceOf};
-ghost use Rattle.decoder_rules.specs.Decoding.{missing};
-ghost use Rattle.decoder_rules.proofs.Fine.{FineAt};
+ghost use Rattle.decoder_rules.specs.Pieces.{gives, errorAt, notesOf, copyPiece};
+ghost use Rattle.decoder_rules.proofs.Fine.{Encodable, FineAt};
 ghost use Rattle.decoder_rules.proofs.StoreLaws.{Stored};
-ghost use Rattle.decoder_rules.proofs.LoopLaws.{bytes, errors};
+ghost use Rattle.decoder_pieces.specs.Steps.{bodyAfter, bytesLeft, errorsLeft};
 ghost use Rattle.decoder.specs.Few.{FewAt};
+use decoder_pieces::Body;
+use decoder_pieces::BodyStep;
 use decoder_pieces::escape_at;
-use decoder_pieces::piece_at;
 use decoder_pieces::plain_few;
 use decoder_rules::DecodeError;
 use decoder_rules::Encoding;
@@ -32,9 +30,9 @@ pub(crate) struct Counts {
 }
 
 // How many bytes the piece gives.
-fn width(p: Piece, s: &[u8]) -> usize
-    requires { ⌜ FineAt p (now s) ⌝ }
-    ensures { λ r. ⌜ r ≡ length (gives p (now (s .entry))) ⌝ }
+fn width(p: Piece) -> usize
+    requires { ⌜ Encodable (p .given) ⌝ }
+    ensures { λ r. ⌜ ((s : List ℕ) → p .take ≤ length s → r ≡ length (gives p s)) ⌝ }
 {
     let g = p.given;
     match g {
@@ -105,11 +103,10 @@ fn put_char(c: u32, output: &mut [u8], o: usize) -> usize
     copy_few(&bytes, n, output, o)
 }
 
-// How many errors the piece has.
-fn noted(p: Piece) -> usize
-    ensures { λ r. ⌜ r ≡ length (notes p) ⌝ }
+// How many errors a verdict has.
+pub(crate) fn noted(verdict: Verdict) -> usize
+    ensures { λ r. ⌜ r ≡ length (notesOf verdict) ⌝ }
 {
-    let verdict = p.verdict;
     match verdict {
         Verdict::Clean => 0,
         Verdict::Wrong {
@@ -120,12 +117,11 @@ fn noted(p: Piece) -> usize
     }
 }
 
-// Writes the error that the piece has, if any, to record m, and says the record behind it.
-fn note(p: Piece, errors: &mut [[usize; 3]], m: usize) -> usize
-    requires { ⌜ m + length (notes p) ≤ length (now errors) ⌝ }
-    ensures { λ r. ⌜ Stored (now (errors .entry)) m (notes p) r (now (errors .exit)) ⌝ }
+// Writes a verdict's error, if there is one, to record m, and says the record after it.
+pub(crate) fn note(verdict: Verdict, errors: &mut [[usize; 3]], m: usize) -> usize
+    requires { ⌜ m + length (notesOf verdict) ≤ length (now errors) ⌝ }
+    ensures { λ r. ⌜ Stored (now (errors .entry)) m (notesOf verdict) r (now (errors .exit)) ⌝ }
 {
-    let verdict = p.verdict;
     match verdict {
         Verdict::Clean => m,
         Verdict::Wrong { error, start, end } => put_error(error, start, end, errors, m),
@@ -148,51 +144,28 @@ fn put_error(
     m + 1
 }
 
-// How many errors a mark has: one where it is missing.
-pub(crate) fn missed(there: bool) -> usize
-    ensures { λ r. ⌜ ((error : DecodeError) (place : ℕ) → r ≡ length (missing there error place)) ⌝ }
-{
-    if there { 0 } else { 1 }
-}
-
-// Writes the error of a mark that is missing to record m, and says the record behind it.
-pub(crate) fn miss(
-    there: bool,
-    error: DecodeError,
-    place: usize,
-    errors: &mut [[usize; 3]],
-    m: usize,
-) -> usize
-    requires { ⌜ m + length (missing there error place) ≤ length (now errors) ⌝ }
-    ensures { λ r. ⌜ Stored (now (errors .entry)) m (missing there error place) r (now (errors .exit)) ⌝ }
-{
-    if there {
-        m
-    } else {
-        put_error(error, place, place, errors, m)
-    }
-}
-
-// How many bytes the pieces of the body s give, which stands at `base` of its text, and how many
-// errors they have.
-pub(crate) fn count(e: Encoding, s: &[u8], base: usize) -> Counts
-    requires { ⌜ base + length (now s) ≤ limit ⌝ }
+// How many bytes the pieces of the body `start` give, and how many errors they have. The loop's own test only spares the
+// last step, which would say the end.
+pub(crate) fn count(e: Encoding, start: Body, text: &[u8]) -> Counts
+    requires { ⌜ length (now text) ≤ limit ⌝ }
     ensures { λ r.
-        ⌜ (r .bytes ≡ length (bytes (pieceOf e) (now (s .entry)) base))
-        × (r .errors ≡ length (errors (pieceOf e) (now (s .entry)) base))
-        × (r .errors ≤ length (now (s .entry))) ⌝ }
+        ⌜ (r .bytes ≡ length (bytesLeft e (now (text .entry)) start))
+        × (r .errors ≡ length (errorsLeft e (now (text .entry)) start))
+        × (r .errors ≤ length (now (text .entry))) ⌝ }
 {
-    let mut i = 0;
-    let mut d = false;
+    let mut body = start;
     let mut n = 0;
     let mut m = 0;
-    while i < s.len() {
-        let t = &s[i..];
-        let p = piece_at(e, d, t, base + i);
-        n += width(p, t);
-        m += noted(p);
-        i += p.take;
-        d = p.dropping;
+    while body.at < body.end {
+        match body.step(e, text) {
+            BodyStep::End => break,
+            BodyStep::Piece(p, next) => {
+                let verdict = p.verdict;
+                n += width(p);
+                m += noted(verdict);
+                body = next;
+            }
+        }
     }
     Counts {
         bytes: n,
@@ -204,50 +177,65 @@ pub(crate) fn count(e: Encoding, s: &[u8], base: usize) -> Counts
 // stand for themselves and an escape that stands for a character are the common pieces, and written without one being made.
 pub(crate) fn write(
     e: Encoding,
-    s: &[u8],
-    base: usize,
+    start: Body,
+    text: &[u8],
     output: &mut [u8],
     o0: usize,
     records: &mut [[usize; 3]],
     m0: usize,
 ) -> Counts
-    requires { ⌜ (base + length (now s) ≤ limit)
-        × (o0 + length (bytes (pieceOf e) (now s) base) ≤ length (now output))
-        × (m0 + length (errors (pieceOf e) (now s) base) ≤ length (now records)) ⌝ }
+    requires { ⌜ (start .end ≤ length (now text))
+        × (o0 + length (bytesLeft e (now text) start) ≤ length (now output))
+        × (m0 + length (errorsLeft e (now text) start) ≤ length (now records)) ⌝ }
     ensures output { λ r.
-        ⌜ Stored (now (output .entry)) o0 (bytes (pieceOf e) (now (s .entry)) base) (r .bytes) (now (output .exit)) ⌝ }
+        ⌜ Stored (now (output .entry)) o0 (bytesLeft e (now (text .entry)) start) (r .bytes) (now (output .exit)) ⌝ }
     ensures records { λ r.
-        ⌜ Stored (now (records .entry)) m0 (errors (pieceOf e) (now (s .entry)) base) (r .errors) (now (records .exit)) ⌝ }
+        ⌜ Stored (now (records .entry)) m0 (errorsLeft e (now (text .entry)) start) (r .errors) (now (records .exit)) ⌝ }
 {
-    let mut i = 0;
-    let mut d = false;
+    let mut body = start;
     let mut o = o0;
     let mut m = m0;
-    while i < s.len() {
-        let t = &s[i..];
-        let n = few_at(e, d, t);
+    while body.at < body.end {
+        let at = body.at;
+        let end = body.end;
+        let s = &text[at..end];
+        let n = few_at(e, body.dropping, s);
         if 0 < n {
-            o = copy_few(t, n, output, o);
-            i += n;
-            d = false;
-        } else {
-            let escape = escape_at(e, t);
-            if 0 < escape.take {
-                o = put_char(escape.char, output, o);
-                i += escape.take;
-                d = false;
-            } else {
-                let p = piece_at(e, d, t, base + i);
-                o = emit(p, t, output, o);
-                m = note(p, records, m);
-                i += p.take;
-                d = p.dropping;
+            o = copy_few(s, n, output, o);
+            body = past(body, n);
+            continue;
+        }
+        let escape = escape_at(e, s);
+        if 0 < escape.take {
+            o = put_char(escape.char, output, o);
+            body = past(body, escape.take);
+            continue;
+        }
+        match body.step(e, text) {
+            BodyStep::End => break,
+            BodyStep::Piece(p, next) => {
+                let verdict = p.verdict;
+                o = emit(p, s, output, o);
+                m = note(verdict, records, m);
+                body = next;
             }
         }
     }
     Counts {
         bytes: o,
         errors: m,
+    }
+}
+
+// The body after n of its bytes, where no line-ending escape goes on.
+pub(crate) fn past(body: Body, n: usize) -> Body
+    requires { ⌜ body .at + n < 2 ^ 64 ⌝ }
+    ensures { λ r. ⌜ r ≡ bodyAfter body (copyPiece n) ⌝ }
+{
+    Body {
+        at: body.at + n,
+        end: body.end,
+        dropping: false,
     }
 }
 

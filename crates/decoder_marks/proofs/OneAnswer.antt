@@ -13,3 +13,6 @@ ends-of κs a x y s t p q = p ∙ sym q
 
 pub choice-by : OneAnswer promised.choice.choice_by.Reads.Learnt
 choice-by κs a x y s t p q = p ∙ sym q
+
+pub open-text : OneAnswer promised.open_text.Reads.Learnt
+open-text κs a x y s t p q = p ∙ sym q

@@ -1,20 +1,66 @@
 // What is known of a text before its body is read: the encoding that it is decoded by (choice.rt), its marks, and where
-// its body starts and ends. Rule: Marks.antt of crate `decoder_rules`.
+// its body starts and ends. `open_text` is the way in: it gives each mark's error and the body, which `Body::step` of crate
+// `decoder_pieces` reads on. Rules: Marks.antt and Decoding.antt of crate `decoder_rules`.
 ghost use mathlib.Core.Path.{_≡_};
 ghost use mathlib.Core.Bool.{true};
 ghost use Prim.Native.Nat.{_+_, _≤_};
 ghost use lib.ListN.{length};
 ghost use Rattle.decoder_rules.specs.Encodings.{markError};
+ghost use Rattle.decoder_rules.specs.Decoding.{missing};
+ghost use Rattle.decoder_marks.specs.Opening.{openedOf};
 ghost use Rattle.decoder_rules.specs.Marks.{lineOpened, lineStart, lineClosed, lineEnd, lineEnds, threes, mlStart, mlClosed, trimmed, mlEnd, mlEnds, keyEnds, endsOf};
 
 mod choice;
 
 pub use crate::choice::choice_by;
+use decoder_pieces::Body;
 use decoder_pieces::strip_start_newline;
 use decoder_rules::DecodeError;
 use decoder_rules::Encoding;
 use decoder_rules::Ends;
+use decoder_rules::Verdict;
 use lexer_token::Span;
+
+// A text that is opened: what is wrong with its opening mark, and with its closing one, and the body between them.
+pub struct Opened {
+    pub opening: Verdict,
+    pub closing: Verdict,
+    pub body: Body,
+}
+
+// Opens a text to be read by an encoding. A key has no marks; its opening says whether it is empty.
+pub fn open_text(e: Encoding, t: &[u8]) -> Opened
+    ensures { λ r. ⌜ r ≡ openedOf e (now (t .entry)) ⌝ }
+{
+    let ends = ends_of(e, t);
+    let error = mark_error(e);
+    let opening = missing(ends.opened, error, 0);
+    let closing = missing(ends.closed, error, t.len());
+    let body = Body {
+        at: ends.start,
+        end: ends.end,
+        dropping: false,
+    };
+    Opened {
+        opening,
+        closing,
+        body,
+    }
+}
+
+// A mark that is missing is an error at its place.
+fn missing(there: bool, error: DecodeError, place: usize) -> Verdict
+    ensures { λ r. ⌜ r ≡ missing there error place ⌝ }
+{
+    if there {
+        return Verdict::Clean;
+    }
+    Verdict::Wrong {
+        error,
+        start: place,
+        end: place,
+    }
+}
 
 // The error that a mark is missing, or that a key is empty.
 pub fn mark_error(e: Encoding) -> DecodeError

@@ -1,5 +1,5 @@
 pub mod ScanLaws
 pub mod HexLaws
 pub mod EscapeAtLaws
-pub mod PlaceLaws
+pub mod StepLaws
 pub mod OneAnswer

@@ -1,3 +1,4 @@
-pub mod Places
+pub mod Steps
+pub mod Walks
 pub mod Scan
 pub mod GoodEscapes

@@ -1,15 +1,19 @@
-// The piece at a place of a body, by the five decoders of string.rt. Rules: Bodies.antt and
-// Escapes.antt of crate `decoder_rules`.
+// The pieces of a body: the first one by the five decoders of string.rt, and from one to the next in body.rt. Rules:
+// Bodies.antt and Escapes.antt of crate `decoder_rules`.
 ghost use mathlib.Core.Path.{_≡_};
+ghost use Prim.Native.Nat.{_+_, _<_, _^_};
+ghost use lib.ListN.{length};
 ghost use Rattle.text_classes.specs.Runs.{run};
 ghost use Rattle.decoder_rules.specs.Encodings.{plain};
-ghost use Rattle.decoder_pieces.specs.Places.{pieceAt};
+ghost use Rattle.decoder_rules.specs.Bodies.{pieceOf};
 
+mod body;
 mod piece;
 mod scan;
 mod string;
 
-use crate::piece::copy_piece;
+pub use crate::body::Body;
+pub use crate::body::BodyStep;
 pub use crate::scan::is_plain;
 pub use crate::scan::plain_few;
 pub use crate::string::Escape;
@@ -27,22 +31,13 @@ pub use crate::string::strip_start_newline;
 use crate::string::unquoted_chars;
 use decoder_rules::Encoding;
 use decoder_rules::Piece;
-use text::LIMIT;
 
-// The piece at the front of s, which is a body from the place `at` of its text on; `dropping` says
-// whether it is within a line-ending escape. Of no bytes, and beyond the limit, a piece of nothing.
-pub fn piece_at(e: Encoding, dropping: bool, s: &[u8], at: usize) -> Piece
-    ensures { λ r. ⌜ r ≡ pieceAt e dropping at (now (s .entry)) ⌝ }
+// The first piece of s, which begins at place `at` of its text; `dropping` says whether it is within a line-ending
+// escape.
+fn piece_at(e: Encoding, dropping: bool, s: &[u8], at: usize) -> Piece
+    requires { ⌜ (0 < length (now s)) × (at + length (now s) < 2 ^ 64) ⌝ }
+    ensures { λ r. ⌜ r ≡ pieceOf e dropping at (now (s .entry)) ⌝ }
 {
-    if s.len() == 0 {
-        return copy_piece(0);
-    }
-    if LIMIT < s.len() {
-        return copy_piece(0);
-    }
-    if LIMIT < at {
-        return copy_piece(0);
-    }
     match e {
         Encoding::LiteralString => decode_literal_string(s, at),
         Encoding::MlLiteralString => decode_ml_literal_string(s, at),

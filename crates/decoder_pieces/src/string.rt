@@ -1,10 +1,12 @@
-// The string decoders, under the Rust's names and in its order. Each says the piece at the front of
-// its body; the loops of crate `decoder` walk the pieces. Rules: Bodies.antt and Escapes.antt of crate
-// `decoder_rules`. s is the body from the place `at` of the text on.
+// The string decoders, under the Rust's names and in its order. Each says the first piece of its body; body.rt goes from
+// piece to piece. Rules: Bodies.antt and Escapes.antt of crate `decoder_rules`.
+// In every function `s` begins with the piece's first byte and goes to the end of the body, and `at` is the place of that
+// byte in the text; that the place where `s` ends fits a usize is all that is asked of `at`. `rest` is what follows a
+// backslash, an escape's letter, or a text's opening.
 ghost use mathlib.Core.Path.{_≡_};
 ghost use mathlib.Core.Bool.{cond};
 ghost use Prim.Native.Nat.{_+_, _<_, _≤_, _^_};
-ghost use lib.ListN.{length};
+ghost use lib.ListN.{length, drop};
 ghost use Rattle.text_classes.specs.Classes.{literalChar, basicUnescaped, unquotedChar, hexdig};
 ghost use Rattle.text_classes.specs.Runs.{run};
 ghost use Rattle.decoder_rules.specs.Encodings.{mllPlain, mlbPlain, basicInvalid, mlbInvalid};
@@ -56,7 +58,7 @@ pub(crate) fn literal_chars(s: &[u8]) -> usize
 
 // ml-literal-body = *mll-content *( mll-quotes 1*mll-content ) [ mll-quotes ]
 pub(crate) fn decode_ml_literal_string(s: &[u8], at: usize) -> Piece
-    requires { ⌜ (0 < length (now s)) × (at < 2 ^ 62) ⌝ }
+    requires { ⌜ (0 < length (now s)) × (at + length (now s) < 2 ^ 64) ⌝ }
     ensures { λ r. ⌜ r ≡ mlLiteralPiece at (now (s .entry)) ⌝ }
 {
     let n = mll_chars(s);
@@ -83,11 +85,11 @@ pub(crate) fn mll_chars(s: &[u8]) -> usize
 
 // basic-char = basic-unescaped / escaped
 pub(crate) fn decode_basic_string(v: Edition, s: &[u8], at: usize) -> Piece
-    requires { ⌜ (0 < length (now s)) × (at + length (now s) < 2 ^ 62) ⌝ }
+    requires { ⌜ (0 < length (now s)) × (at + length (now s) < 2 ^ 64) ⌝ }
     ensures { λ r. ⌜ r ≡ basicPiece v at (now (s .entry)) ⌝ }
 {
     if s[0] == b'\\' {
-        return escape_seq_char(v, &s[1..], at);
+        return escape_seq_char(v, s, at);
     }
     let n = basic_unescaped(v, s);
     if 0 < n {
@@ -133,30 +135,31 @@ pub fn escape_at(e: Encoding, s: &[u8]) -> Escape
         return no_escape();
     }
     match e {
-        Encoding::BasicString(v) => good_escape(v, &s[1..]),
-        Encoding::MlBasicString(v) => good_escape(v, &s[1..]),
+        Encoding::BasicString(v) => good_escape(v, s),
+        Encoding::MlBasicString(v) => good_escape(v, s),
         _ => no_escape(),
     }
 }
 
-// The same of the edition, behind the backslash.
+// The same in an edition, where s begins with a backslash.
 fn good_escape(v: Edition, s: &[u8]) -> Escape
-    ensures { λ r. ⌜ r ≡ goodEscape v (now (s .entry)) ⌝ }
+    requires { ⌜ 0 < length (now s) ⌝ }
+    ensures { λ r. ⌜ r ≡ goodEscape v (drop 1 (now (s .entry))) ⌝ }
 {
-    let letter = letter_at(v, s);
+    let letter = letter_at(v, &s[1..]);
     match letter {
         Letter::Stands(c) => Escape { take: 2, char: c },
-        Letter::Asks(digits) => good_hex(&s[1..], digits),
+        Letter::Asks(digits) => good_hex(s, digits),
         Letter::Neither => no_escape(),
     }
 }
 
-// An escape whose digits s begins with.
+// The same where the letter asks for so many digits.
 fn good_hex(s: &[u8], digits: usize) -> Escape
-    requires { ⌜ digits ≤ 8 ⌝ }
-    ensures { λ r. ⌜ r ≡ goodHex digits (now (s .entry)) ⌝ }
+    requires { ⌜ (digits ≤ 8) × (2 ≤ length (now s)) ⌝ }
+    ensures { λ r. ⌜ r ≡ goodHex digits (drop 2 (now (s .entry))) ⌝ }
 {
-    let hex = hex_digits(s, digits);
+    let hex = hex_digits(&s[2..], digits);
     let value = hex.value;
     if hex.found < digits {
         return no_escape();
@@ -170,27 +173,27 @@ fn good_hex(s: &[u8], digits: usize) -> Escape
     no_escape()
 }
 
-// escape-seq-char of the edition, behind a backslash at `at`
+// escape escape-seq-char, of the edition
 fn escape_seq_char(v: Edition, s: &[u8], at: usize) -> Piece
-    requires { ⌜ at < 2 ^ 62 ⌝ }
-    ensures { λ r. ⌜ r ≡ escapePiece v at (now (s .entry)) ⌝ }
+    requires { ⌜ (0 < length (now s)) × (at + length (now s) < 2 ^ 64) ⌝ }
+    ensures { λ r. ⌜ r ≡ escapePiece v at (drop 1 (now (s .entry))) ⌝ }
 {
-    let letter = letter_at(v, s);
+    let letter = letter_at(v, &s[1..]);
     match letter {
         Letter::Stands(c) => char_piece(2, c),
-        Letter::Asks(n) => hexescape(&s[1..], n, at),
+        Letter::Asks(digits) => hexescape(s, digits, at),
         Letter::Neither => bad_char(1, 0x5C, DecodeError::MissingEscape, at + 1),
     }
 }
 
-// What the first byte of s is for, behind a backslash.
-fn letter_at(v: Edition, s: &[u8]) -> Letter
-    ensures { λ r. ⌜ r ≡ letterAt v (now (s .entry)) ⌝ }
+// What the letter that `rest` begins with is for, after a backslash.
+fn letter_at(v: Edition, rest: &[u8]) -> Letter
+    ensures { λ r. ⌜ r ≡ letterAt v (now (rest .entry)) ⌝ }
 {
-    if s.len() == 0 {
+    if rest.len() == 0 {
         return Letter::Neither;
     }
-    letter_of(v, s[0])
+    letter_of(v, rest[0])
 }
 
 // In two parts, below the small letters and among them: so each table is small, and the compiler puts it into its callers.
@@ -230,12 +233,12 @@ fn new_letter(v: Edition, b: u8) -> Letter
     }
 }
 
-// The escape at `at` whose digits s begins with.
+// An escape whose letter asks for so many digits.
 fn hexescape(s: &[u8], digits: usize, at: usize) -> Piece
-    requires { ⌜ (digits ≤ 8) × (at < 2 ^ 62) ⌝ }
-    ensures { λ r. ⌜ r ≡ hexPiece digits at (now (s .entry)) ⌝ }
+    requires { ⌜ (digits ≤ 8) × (2 ≤ length (now s)) × (at + length (now s) < 2 ^ 64) ⌝ }
+    ensures { λ r. ⌜ r ≡ hexPiece digits at (drop 2 (now (s .entry))) ⌝ }
 {
-    let hex = hex_digits(s, digits);
+    let hex = hex_digits(&s[2..], digits);
     let i = hex.found;
     let value = hex.value;
     if i < digits {
@@ -247,20 +250,20 @@ fn hexescape(s: &[u8], digits: usize, at: usize) -> Piece
     bad_char(2 + digits, 0xFFFD, DecodeError::NotScalar, at + 2)
 }
 
-// The digits that s begins with, up to as many as are asked for: how many, and their value.
+// The digits that `rest` begins with, up to as many as are asked for: how many, and their value.
 struct Hex {
     found: usize,
     value: u32,
 }
 
-fn hex_digits(s: &[u8], digits: usize) -> Hex
+fn hex_digits(rest: &[u8], digits: usize) -> Hex
     requires { ⌜ digits ≤ 8 ⌝ }
-    ensures { λ r. ⌜ HexRead digits (now (s .entry)) r ⌝ }
+    ensures { λ r. ⌜ HexRead digits (now (rest .entry)) r ⌝ }
 {
     let mut i = 0;
     let mut value: u32 = 0;
     while i < digits {
-        let d = hex_value(peek(s, i));
+        let d = hex_value(peek(rest, i));
         if 15 < d {
             return Hex { found: i, value };
         }
@@ -285,16 +288,16 @@ fn hex_value(b: u8) -> u32
     16
 }
 
-// How many bytes of s are a newline to be dropped behind an opening.
-pub fn strip_start_newline(s: &[u8]) -> usize
-    ensures { λ r. ⌜ r ≡ newlineLen (now (s .entry)) ⌝ }
+// How many bytes a newline has that `rest` begins with: it is dropped after an opening.
+pub fn strip_start_newline(rest: &[u8]) -> usize
+    ensures { λ r. ⌜ r ≡ newlineLen (now (rest .entry)) ⌝ }
 {
-    let b = peek(s, 0);
+    let b = peek(rest, 0);
     if b == b'\n' {
         return 1;
     }
     if b == b'\r' {
-        if peek(s, 1) == b'\n' {
+        if peek(rest, 1) == b'\n' {
             return 2;
         }
         return 0;
@@ -304,7 +307,7 @@ pub fn strip_start_newline(s: &[u8]) -> usize
 
 // mlb-content = mlb-char / newline / mlb-escaped-nl, or the rest of an mlb-escaped-nl
 pub(crate) fn decode_ml_basic_string(v: Edition, dropping: bool, s: &[u8], at: usize) -> Piece
-    requires { ⌜ (0 < length (now s)) × (at + length (now s) < 2 ^ 62) ⌝ }
+    requires { ⌜ (0 < length (now s)) × (at + length (now s) < 2 ^ 64) ⌝ }
     ensures { λ r. ⌜ r ≡ mlBasicPiece v dropping at (now (s .entry)) ⌝ }
 {
     if dropping {
@@ -317,7 +320,7 @@ pub(crate) fn decode_ml_basic_string(v: Edition, dropping: bool, s: &[u8], at: u
 }
 
 fn mlb_content(v: Edition, s: &[u8], at: usize) -> Piece
-    requires { ⌜ (0 < length (now s)) × (at + length (now s) < 2 ^ 62) ⌝ }
+    requires { ⌜ (0 < length (now s)) × (at + length (now s) < 2 ^ 64) ⌝ }
     ensures { λ r. ⌜ r ≡ mlbContent v at (now (s .entry)) ⌝ }
 {
     let n = mlb_unescaped(v, s);
@@ -327,9 +330,9 @@ fn mlb_content(v: Edition, s: &[u8], at: usize) -> Piece
     let b = s[0];
     if b == b'\\' {
         if is_skipped(peek(s, 1)) {
-            return mlb_escaped_nl(&s[1..], at);
+            return mlb_escaped_nl(s, at);
         }
-        return escape_seq_char(v, &s[1..], at);
+        return escape_seq_char(v, s, at);
     }
     if b == b'\r' {
         if peek(s, 1) == b'\n' {
@@ -351,28 +354,28 @@ fn is_skipped(b: u8) -> bool
     }
 }
 
-// mlb-escaped-nl = escape ws newline *( wschar / newline ): its first line, s behind the backslash
+// mlb-escaped-nl = escape ws newline *( wschar / newline ): its own line
 fn mlb_escaped_nl(s: &[u8], at: usize) -> Piece
-    requires { ⌜ at + length (now s) < 2 ^ 62 ⌝ }
-    ensures { λ r. ⌜ r ≡ escapedNl at (now (s .entry)) ⌝ }
+    requires { ⌜ (0 < length (now s)) × (at + length (now s) < 2 ^ 64) ⌝ }
+    ensures { λ r. ⌜ r ≡ escapedNl at (drop 1 (now (s .entry))) ⌝ }
 {
-    let w = run_from(Set::Blank, s, 0);
-    let b = peek(s, w);
+    let n = run_from(Set::Blank, s, 1);
+    let b = peek(s, n);
     if b == b'\n' {
-        return drop_piece(2 + w);
+        return drop_piece(n + 1);
     }
     if b == b'\r' {
-        if peek(s, w + 1) == b'\n' {
-            return drop_piece(3 + w);
+        if peek(s, n + 1) == b'\n' {
+            return drop_piece(n + 2);
         }
-        return bad_drop(2 + w, DecodeError::LoneCr, at + (2 + w));
+        return bad_drop(n + 1, DecodeError::LoneCr, at + (n + 1));
     }
-    bad_drop(1 + w, DecodeError::MissingNewline, at + (1 + w))
+    bad_drop(n, DecodeError::MissingNewline, at + n)
 }
 
 // Its further lines: one blank or newline.
 fn mlb_escaped_more(s: &[u8], at: usize) -> Piece
-    requires { ⌜ at < 2 ^ 62 ⌝ }
+    requires { ⌜ (0 < length (now s)) × (at + length (now s) < 2 ^ 64) ⌝ }
     ensures { λ r. ⌜ r ≡ escapedMore at (now (s .entry)) ⌝ }
 {
     if peek(s, 0) == b'\r' {

@@ -2,18 +2,17 @@
 -- Assumes nothing.
 use Prim.Native.Nat.{ℕ, zero, suc, pred, _+_, _-_, _*_, _≤_}
 use mathlib.Core.Path.{_≡_, ap}
-use mathlib.Core.Bool.{Bool, true, false}
+use mathlib.Core.Bool.{Bool, false}
 use mathlib.Core.List.{List, [], _∷_}
 use native.Mathlib.Omega.{arith}
 use lib.ListN.{length, length-append, length-take, length-drop}
 use Rattle.decoder_rules.specs.declared.Encoding.{Encoding}
-use Rattle.decoder_rules.specs.declared.DecodeError.{DecodeError}
 use Rattle.decoder_rules.specs.Encodings.{markError}
 use Rattle.decoder_rules.specs.Pieces.{gives, notesAt, Pieces, collect}
 use Rattle.decoder_rules.specs.Bodies.{pieceOf}
 use Rattle.decoder_rules.specs.Marks.{endsOf, bodyOf}
 use Rattle.decoder_rules.specs.Decoding.{bytesOf, missing, errorsOf}
-use Rattle.decoder_rules.proofs.PieceLaws.{notes-few, notes-clean}
+use Rattle.decoder_rules.proofs.PieceLaws.{verdict-few, notes-few, notes-clean}
 use Rattle.decoder_rules.proofs.Fine.{Fine}
 use Rattle.decoder_rules.proofs.BodyLaws.{piece-fine}
 
@@ -52,10 +51,6 @@ module _ (P : Pieces) (fine : Fine P) where
 body-le : (k : Encoding) (t : List ℕ) → length (bodyOf (endsOf k t) t) ≤ length t
 body-le k t = rw (length-take, length-drop) (omega arith)
 
-pub missing-few : (b : Bool) (e : DecodeError) (at : ℕ) → length (missing b e at) ≤ 1
-missing-few true e at = omega arith
-missing-few false e at = omega arith
-
 module _ (k : Encoding) (t : List ℕ) where
   -- twice the decoded length is at most three times the text's
   pub bytes-most : 2 * length (bytesOf k t) ≤ 3 * length t
@@ -80,8 +75,8 @@ module _ (k : Encoding) (t : List ℕ) where
       rw (length-append, length-append)
       (omega (
         arith,
-        missing-few (endsOf k t .opened) (markError k) 0,
-        missing-few (endsOf k t .closed) (markError k) (length t),
+        verdict-few (missing (endsOf k t .opened) (markError k) 0),
+        verdict-few (missing (endsOf k t .closed) (markError k) (length t)),
         collect-few (pieceOf k) (piece-fine k) 0 false (endsOf k t .start) (bodyOf (endsOf k t) t) (omega arith),
         body-le k t,
       ))

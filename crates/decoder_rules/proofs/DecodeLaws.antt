@@ -1,11 +1,11 @@
 -- The bytes and the errors of a text whose ends are known, and the call's answer case by case.
 -- Assumes nothing.
-use Prim.Native.Nat.{ℕ, _+_, _≤_, _<_}
-use mathlib.Core.Path.{_≡_, ap}
+use Prim.Native.Nat.{ℕ, _≤_, _<_}
+use mathlib.Core.Path.{_≡_}
 use mathlib.Core.Bool.{false}
 use mathlib.Core.List.{List, _++_}
 use native.Mathlib.Omega.{arith}
-use lib.ListN.{length, length-append}
+use lib.ListN.{length}
 use borrow.Author.Tests.{lt-ltb, le-ltb}
 use Rattle.text.specs.CheckMeans.{checkOf}
 use Rattle.text.specs.declared.refusal.Refusal.{Refusal}
@@ -16,7 +16,7 @@ use Rattle.decoder_rules.specs.declared.Ends.{Ends}
 use Rattle.decoder_rules.specs.declared.DecodeError.{DecodeError}
 use Rattle.decoder_rules.specs.declared.Decoded.the-variants.{Written, Refused}
 use Rattle.decoder_rules.specs.Encodings.{choiceBy, markError}
-use Rattle.decoder_rules.specs.Pieces.{gives, notesAt, collect}
+use Rattle.decoder_rules.specs.Pieces.{gives, notesOf, notesAt, collect}
 use Rattle.decoder_rules.specs.Bodies.{pieceOf}
 use Rattle.decoder_rules.specs.Marks.{endsOf, bodyOf}
 use Rattle.decoder_rules.specs.Decoding.{bytesOf, missing, errorsOf, fitted, decodedBy, decodeIn}
@@ -27,17 +27,11 @@ module _ (k : Encoding) (t : List ℕ) (d : Ends) (e : d ≡ endsOf k t) where
   bytes-is = rw e
 
   pub errors-is : (n : DecodeError) → n ≡ markError k
-      → errorsOf k t ≡ missing (d .opened) n 0 ++ (missing (d .closed) n (length t) ++ collect (pieceOf k) notesAt 0 false (d .start) (bodyOf d t))
+      → errorsOf k t
+      ≡ notesOf (missing (d .opened) n 0)
+      ++ (notesOf (missing (d .closed) n (length t)) ++ collect (pieceOf k) notesAt 0 false (d .start) (bodyOf d t))
   unfolding errorsOf
   errors-is n h = rw (e, h)
-
-  -- the body's own, and how many there are in all
-  abbrev pub bodyErrors : List (List ℕ)
-  bodyErrors = collect (pieceOf k) notesAt 0 false (d .start) (bodyOf d t)
-
-  pub errors-sum : (n : DecodeError) → n ≡ markError k
-      → length (errorsOf k t) ≡ length (missing (d .opened) n 0) + (length (missing (d .closed) n (length t)) + length bodyErrors)
-  errors-sum n h = simp length-append at (ap length (errors-is n h))
 
 -- ---- refusals 4 and 5
 

@@ -1,13 +1,12 @@
 -- What the two loops ask of a decoder's pieces: `Fine`. From it alone come the bounds on lengths, and a turn of each loop.
 -- Assumes nothing.
 use Prim.Native.Nat.{ℕ, zero, _+_, _-_, _*_, _≤_, _<_}
-use mathlib.Core.Path.{_≡_, ap}
+use mathlib.Core.Path.{_≡_}
 use mathlib.Core.Bool.{Bool, true, false}
 use mathlib.Core.List.{List, _++_}
-use native.Mathlib.Nat.{add-assoc}
 use native.Mathlib.Omega.{arith}
 use lib.ListN.{length, take, drop, length-drop, length-take}
-use lib.Seq.{take-all, drop-drop}
+use lib.Seq.{take-all}
 use Rattle.text.specs.Utf8.{Scalar, encodeScalar}
 use Rattle.decoder_rules.specs.declared.Piece.{Piece}
 use Rattle.decoder_rules.specs.declared.Given.{Given}
@@ -69,27 +68,17 @@ rest s i = take (length s - i) (drop i s)
 pub rest-is : (s : List ℕ) (i : ℕ) → rest s i ≡ drop i s
 rest-is s i = take-all (length s - i) (drop i s) (omega (arith, length-drop i s))
 
-pub rest-some : (s : List ℕ) (i : ℕ) → i < length s → 0 < length (rest s i)
-rest-some s i h = rw rest-is (omega (arith, length-drop i s))
+-- a turn reads the piece p in front of s, whose first byte stands at place `at` of the text
+pub record Turn (P : Pieces) (d : Bool) (at : ℕ) (s : List ℕ) (p : Piece) : Type 0 where
+  pub more : 0 < length s
+  pub reads : p ≡ P d at s
 
--- a turn at place i of the body s, which stands at `base` of its text, reads the piece p there
-pub record Turn (P : Pieces) (s : List ℕ) (base i : ℕ) (d : Bool) (p : Piece) : Type 0 where
-  pub more : i < length s
-  pub reads : p ≡ P d (base + i) (rest s i)
-
-module _ {P : Pieces} {s : List ℕ} {base i : ℕ} {d : Bool} {p : Piece} (fine : Fine P) (t : Turn P s base i d p) where
+module _ {P : Pieces} {d : Bool} {at : ℕ} {s : List ℕ} {p : Piece} (fine : Fine P) (t : Turn P d at s p) where
   -- the piece that it reads is fine
-  pub turn-fine : FineAt p (rest s i)
-  turn-fine = rw (t .reads) (fine d (base + i) (rest s i) (rest-some s i (t .more)))
+  pub turn-fine : FineAt p s
+  turn-fine = rw (t .reads) (fine d at s (t .more))
 
-  pub turn-fits : i + p .take ≤ length s
-  turn-fits = omega (arith, turn-fine .fits, ap length (rest-is s i), length-drop i s)
-
-  -- and what was to come is what it says, and then what comes behind it
+  -- and what was to come is what it says, and then what comes after it
   pub turn-said : {A : Type 0} (g : Piece → List ℕ → List A)
-      → collect P g zero d (base + i) (drop i s)
-      ≡ g p (rest s i) ++ collect P g zero (p .dropping) (base + (i + p .take)) (drop (i + p .take) s)
-  turn-said g =
-      let l : 0 < length (drop i s) = omega (arith, length-drop i s, t .more) in
-      rw (t .reads, rest-is s i, ← add-assoc, ← drop-drop)
-      (collect-step P g d (base + i) (drop i s) l (fine d (base + i) (drop i s) l .some))
+      → collect P g zero d at s ≡ g p s ++ collect P g zero (p .dropping) (at + p .take) (drop (p .take) s)
+  turn-said g = rw (t .reads) (collect-step P g d at s (t .more) (fine d at s (t .more) .some))

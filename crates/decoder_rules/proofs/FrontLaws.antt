@@ -14,7 +14,7 @@ use Rattle.text_classes.specs.Runs.{run}
 use Rattle.text_classes.proofs.RunLaws.{run-le, run-first}
 use Rattle.decoder_rules.specs.declared.Encoding.{Encoding}
 use Rattle.decoder_rules.specs.Encodings.{plain}
-use Rattle.decoder_rules.specs.Pieces.{gives, notesAt, collect, copyPiece}
+use Rattle.decoder_rules.specs.Pieces.{gives, notesAt, copyPiece}
 use Rattle.decoder_rules.specs.Bodies.{pieceOf}
 use Rattle.decoder_rules.proofs.PieceLaws.{collect-step, notes-none}
 use Rattle.decoder_rules.proofs.PlainLaws.{plain-piece}
@@ -34,20 +34,20 @@ module _ (e : Encoding) (s : List ℕ) (base k : ℕ) (is : k ≡ run (plain e) 
   unfolding gives
   given = refl
 
-  pub front-bytes : bytes (pieceOf e) s base ≡ take k s ++ bytes (pieceOf e) (drop k s) (base + k)
+  pub front-bytes : bytes (pieceOf e) false base s ≡ take k s ++ bytes (pieceOf e) false (base + k) (drop k s)
   front-bytes = go (decLt 0 k)
     where
-      go : Dec (0 < k) → bytes (pieceOf e) s base ≡ take k s ++ bytes (pieceOf e) (drop k s) (base + k)
+      go : Dec (0 < k) → bytes (pieceOf e) false base s ≡ take k s ++ bytes (pieceOf e) false (base + k) (drop k s)
       go (yes h) =
           let p = first h in
           let some : 0 < pieceOf e false base s .take = rw p h in
           collect-step (pieceOf e) gives false base s (omega (arith, within)) some ∙ rw (p, given)
       go (no h) = let none : k ≡ 0 = omega arith in rw (none, add-zero)
 
-  pub front-errors : errors (pieceOf e) s base ≡ errors (pieceOf e) (drop k s) (base + k)
+  pub front-errors : errors (pieceOf e) false base s ≡ errors (pieceOf e) false (base + k) (drop k s)
   front-errors = go (decLt 0 k)
     where
-      go : Dec (0 < k) → errors (pieceOf e) s base ≡ errors (pieceOf e) (drop k s) (base + k)
+      go : Dec (0 < k) → errors (pieceOf e) false base s ≡ errors (pieceOf e) false (base + k) (drop k s)
       go (yes h) =
           let p = first h in
           let some : 0 < pieceOf e false base s .take = rw p h in

@@ -19,6 +19,11 @@ use Rattle.decoder_rules.specs.Pieces.{gives, errorAt, notesOf, notes, P
 pub wrong≢clean : {e : DecodeError} {a z : ℕ} → Wrong e a z ≡ Clean → ⊥
 wrong≢clean h = cons≢nil (ap notesOf h)
 
+-- a verdict has one error at most
+pub verdict-few : (w : Verdict) → length (notesOf w) ≤ 1
+verdict-few Clean = omega arith
+verdict-few (Wrong e a z) = omega arith
+
 module _ (p : Piece) where
   pub gives-copy : (s : List ℕ) → p .given ≡ Copy → gives p s ≡ take (p .take) s
   unfolding gives
@@ -42,11 +47,7 @@ module _ (p : Piece) where
 
   pub notes-few : length (notes p) ≤ 1
   unfolding notes
-  notes-few = go (p .verdict)
-    where
-      go : (w : Verdict) → length (notesOf w) ≤ 1
-      go Clean = omega arith
-      go (Wrong e a z) = omega arith
+  notes-few = verdict-few (p .verdict)
 
   -- a piece that notes nothing has no error
   pub notes-clean : length (notes p) ≡ 0 → p .verdict ≡ Clean

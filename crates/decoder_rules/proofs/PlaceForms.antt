@@ -5,9 +5,10 @@ use Prim.Native.Nat.{ℕ, _+_}
 use mathlib.Core.Path.{_≡_, refl}
 use mathlib.Core.Bool.{Bool, false, cond, _&&_}
 use mathlib.Core.List.{List}
+use native.Mathlib.Omega.{arith}
 use lib.Dec.{eqb}
 use lib.ListN.{drop, getD}
-use lib.Seq.{drop-drop}
+use lib.Seq.{drop-drop, getD-drop}
 use Rattle.text_classes.specs.Classes.{wschar, literalChar, mllChar, basicUnescaped, mlbUnescaped, unquotedChar}
 use Rattle.text_classes.specs.Runs.{run}
 use Rattle.text_classes.proofs.FirstLaws.{first-at}
@@ -111,6 +112,21 @@ unfolding escapedNl
 escaped-nl-is at s =
     let w = run wschar s in
     rw (drop-drop 1 w s, first-at (λ b. eqb b 0x0A) refl s w, first-at (λ b. eqb b 0x0D) refl s w, first-at (λ b. eqb b 0x0A) refl s (w + 1))
+
+-- the same of an s that begins with the backslash: n bytes are that and the blanks
+pub escaped-line-is : (at : ℕ) (s : List ℕ) (n : ℕ) → n ≡ 1 + run wschar (drop 1 s)
+    → escapedNl at (drop 1 s)
+    ≡ cond (eqb (getD s n 0) 0x0A) (dropPiece (n + 1))
+    (cond (eqb (getD s n 0) 0x0D)
+    (cond (eqb (getD s (n + 1) 0) 0x0A) (dropPiece (n + 2)) (badDrop (n + 1) LoneCr (at + (n + 1))))
+    (badDrop n MissingNewline (at + n)))
+escaped-line-is at s n h =
+    let w = run wschar (drop 1 s) in
+    let one : 1 + w ≡ n = omega arith in
+    let two : 2 + w ≡ n + 1 = omega arith in
+    let next : 1 + (w + 1) ≡ n + 1 = omega arith in
+    let three : 3 + w ≡ n + 2 = omega arith in
+    rw (escaped-nl-is at (drop 1 s), getD-drop 1 s w 0, getD-drop 1 s (w + 1) 0, next, two, three, one)
 
 -- ---- the newline behind an opening
 

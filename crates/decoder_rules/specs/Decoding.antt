@@ -5,23 +5,23 @@ use mathlib.Core.{Bool.Bool, Bool.true, Bool.false, Bool.cond, List.List, List.[
 use lib.{Dec.ltb, ListN.length, ListN.drop}
 use Rattle.text.specs.{CheckMeans.checkOf}
 use Rattle.text.specs.declared.{refusal.Refusal.the-variants.ShortOutput, refusal.Refusal.the-variants.FewErrors, utf8.Utf8Check.Utf8Check, utf8.Utf8Check.the-variants.Valid, utf8.Utf8Check.the-variants.Refused as NotValid}
-use Rattle.decoder_rules.specs.{Encodings.choiceBy, Encodings.markError, Pieces.gives, Pieces.errorAt, Pieces.notesAt, Pieces.collect, Bodies.pieceOf, Marks.endsOf, Marks.bodyOf}
-use Rattle.decoder_rules.specs.declared.{Encoding.Encoding, DecodeError.DecodeError, Choice.Choice, Choice.the-variants.Known, Choice.the-variants.Unknown, Decoded.Decoded, Decoded.the-variants.Written, Decoded.the-variants.Refused}
+use Rattle.decoder_rules.specs.{Encodings.choiceBy, Encodings.markError, Pieces.gives, Pieces.notesOf, Pieces.notesAt, Pieces.collect, Bodies.pieceOf, Marks.endsOf, Marks.bodyOf}
+use Rattle.decoder_rules.specs.declared.{Encoding.Encoding, DecodeError.DecodeError, Verdict.Verdict, Verdict.the-variants.Clean, Verdict.the-variants.Wrong, Choice.Choice, Choice.the-variants.Known, Choice.the-variants.Unknown, Decoded.Decoded, Decoded.the-variants.Written, Decoded.the-variants.Refused}
 
 -- the decoded bytes: what the pieces of the body give, joined
 unfoldable pub bytesOf : Encoding → List ℕ → List ℕ
 bytesOf e t = collect (pieceOf e) gives 0 false (endsOf e t .start) (bodyOf (endsOf e t) t)
 
 -- a mark that is missing is an error at its place
-abbrev pub missing : Bool → DecodeError → ℕ → List (List ℕ)
-missing true error place = []
-missing false error place = errorAt error place place
+abbrev pub missing : Bool → DecodeError → ℕ → Verdict
+missing true error place = Clean
+missing false error place = Wrong error place place
 
 -- the errors, in order: the opening mark's at 0, the closing mark's at the text's end, the body's from left to right
 unfoldable pub errorsOf : Encoding → List ℕ → List (List ℕ)
 errorsOf e t =
-    missing (endsOf e t .opened) (markError e) 0
-    ++ (missing (endsOf e t .closed) (markError e) (length t)
+    notesOf (missing (endsOf e t .opened) (markError e) 0)
+    ++ (notesOf (missing (endsOf e t .closed) (markError e) (length t))
     ++ collect (pieceOf e) notesAt 0 false (endsOf e t .start) (bodyOf (endsOf e t) t))
 
 -- bytes and errors for an output of o bytes and e error records: refusal 4 before 5

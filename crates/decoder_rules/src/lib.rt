@@ -94,7 +94,7 @@ impl DecodeError {
     }
 }
 
-// Whether a piece has an error, and from where to where that goes.
+// Whether a piece or a mark has an error, and from where to where that goes.
 pub enum Verdict {
     Clean,
     Wrong {

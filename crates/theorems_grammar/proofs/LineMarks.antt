@@ -17,7 +17,7 @@ use Rattle.decoder_rules.specs.declared.Encoding.{Encoding}
 use Rattle.decoder_rules.specs.declared.Ends.{Ends}
 use Rattle.decoder_rules.specs.declared.DecodeError.{DecodeError}
 use Rattle.decoder_rules.specs.Encodings.{markError}
-use Rattle.decoder_rules.specs.Pieces.{gives, notesAt, collect}
+use Rattle.decoder_rules.specs.Pieces.{gives, notesOf, notesAt, collect}
 use Rattle.decoder_rules.specs.Bodies.{pieceOf}
 use Rattle.decoder_rules.specs.Marks.{lineClosed, lineEnds, endsOf, bodyOf}
 use Rattle.decoder_rules.specs.Decoding.{bytesOf, missing, errorsOf}
@@ -31,7 +31,7 @@ use Rattle.theorems_grammar.proofs.Reading.{ErrorFree}
 -- ---- marks that are there
 
 -- where no error is given for a mark, the mark is there
-missing-none : (b : Bool) (e : DecodeError) (at : ℕ) → missing b e at ≡ [] → b ≡ true
+missing-none : (b : Bool) (e : DecodeError) (at : ℕ) → notesOf (missing b e at) ≡ [] → b ≡ true
 missing-none true e at nothing = refl
 missing-none false e at nothing = absurd (cons≢nil nothing)
 
@@ -39,8 +39,8 @@ missing-none false e at nothing = absurd (cons≢nil nothing)
 pub both-marks : (e : Encoding) (t : List ℕ) → errorsOf e t ≡ [] → (endsOf e t .opened ≡ true) × (endsOf e t .closed ≡ true)
 unfolding errorsOf
 both-marks e t clean =
-    let opening = append-eq-nil-iff {p = missing (endsOf e t .opened) (markError e) 0} .0 clean in
-    let closing = append-eq-nil-iff {p = missing (endsOf e t .closed) (markError e) (length t)} .0 (opening .1) in
+    let opening = append-eq-nil-iff {p = notesOf (missing (endsOf e t .opened) (markError e) 0)} .0 clean in
+    let closing = append-eq-nil-iff {p = notesOf (missing (endsOf e t .closed) (markError e) (length t))} .0 (opening .1) in
     (missing-none _ _ _ (opening .0), missing-none _ _ _ (closing .0))
 
 -- ---- the text

@@ -28,8 +28,8 @@ room c =
     (omega (arith, bytes-most (a .e) (a .text .now), h .0), omega (arith, errors-few (a .e) (a .text .now), h .1)))
     (c .if1 .came)
 
-ends-of-requires : tie.Need-ends-of-requires
-ends-of-requires c κs = search needs
+open-text-requires : tie.Need-open-text-requires
+open-text-requires c κs = search needs
 
 is-roomy-requires : tie.Need-is-roomy-requires
 is-roomy-requires c κs = search needs
@@ -57,7 +57,8 @@ returns-2 c =
 fill-requires : tie.Need-fill-requires
 fill-requires c κs =
     let r = room (c .before .before) in
-    (c .before .before .before .before .before .before .before .pre, c .before .before .before .before .ends-of .ensures, r .0, r .1)
+    let opened = c .before .before .before .before .open-text .ensures in
+    (c .before .before .before .before .before .before .before .pre, opened, r .0, r .1)
 
 same-length : tie.Need-same-length
 same-length c = search needs
@@ -82,7 +83,7 @@ pub decode-as-spec : {M : Type 1} → statement M
 decode-as-spec =
     tie.close
     (tie.spec
-    ends-of-requires
+    open-text-requires
     is-roomy-requires
     needed-requires
     returns

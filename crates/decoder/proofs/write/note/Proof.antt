@@ -1,10 +1,10 @@
--- `note` is right because a piece has at most one error, which is one record.
+-- `note` is right because a verdict is clean, or has one error.
 -- Assumes nothing.
 use mathlib.Core.Path.{ap}
 use native.Mathlib.Omega.{arith}
 use borrow.Author.Needs.{needs}
 use lib.ListN.{length}
-use Rattle.decoder_rules.proofs.PieceLaws.{notes-none, notes-one}
+use Rattle.decoder_rules.specs.Pieces.{notesOf}
 use Rattle.decoder_rules.proofs.StoreLaws.{store-none}
 use Rattle.decoder.proofs.write.note.Statement.{statement}
 use Rattle.decoder.proofs.write.note.Tie as tie
@@ -17,21 +17,18 @@ enum-known-verdict c = search needs
 
 put-error-requires : tie.Need-put-error-requires
 put-error-requires c κs =
-    let start = c .before .before .before .before in
-    let one = notes-one (start .args .p) _ _ _ (c .before .before .verdict .given .1) in
-    omega (arith, ap length one, start .pre)
+    let verdict = c .before .before .verdict in
+    let pre = c .before .before .before .before .pre in
+    omega (arith, ap (λ w. length (notesOf w)) (verdict .given .1), pre)
 
 returns : tie.Need-returns
-returns c = rw (notes-none (c .before .before .args .p) (c .enum-told .given .1)) (store-none _ _)
+returns c = rw (c .enum-told .given .1) (store-none _ _)
 
 same-length : tie.Need-same-length
 same-length c = search needs
 
 returns-2 : tie.Need-returns-2
-returns-2 c =
-    let start = c .before .before .before .before .before .before in
-    let verdict = c .before .before .before .before .verdict in
-    rw (notes-one (start .args .p) _ _ _ (verdict .given .1)) (c .before .put-error .ensures)
+returns-2 c = rw (c .before .before .before .before .verdict .given .1) (c .before .put-error .ensures)
 
 pub note-spec : {M : Type 1} → statement M
 note-spec =

@@ -1,4 +1,4 @@
--- `width` is right because a copy gives what it takes, and a character what its encoding has.
+-- `width` is right because each way to give bytes has its arm.
 -- Assumes nothing.
 use mathlib.Core.Path.{sym}
 use borrow.Author.Needs.{needs}
@@ -22,21 +22,22 @@ enum-told-2 c = search needs
 
 returns : tie.Need-returns
 returns c =
-    let a = c .before .before .before in
-    let s = a .args .s .now in
-    rw (gives-copy (a .args .p) s (c .enum-told .given .1)) (sym (length-take-le (a .args .p .take) s (a .pre .fits)))
+    λ s fits.
+    let p = c .before .before .args .p in
+    rw (gives-copy p s (c .enum-told .given .1)) (sym (length-take-le (p .take) s fits))
 
 returns-2 : tie.Need-returns-2
 returns-2 c =
-    let a = c .before .before .before .before .before in
-    let g = c .before .before .g .given in
-    let scalar = rw (g .1) at (a .pre .char) in
-    rw (gives-char (a .args .p) (a .args .s .now) (g .0 .0) (g .1)) (encoded-len _ scalar (c .encode .result) (c .encode .ensures))
+    let g′ = c .before .before .g in
+    let pre = c .before .before .before .before .pre in
+    let a = c .before .before .before .before .args in
+    λ s fits.
+    let g = g′ .given in
+    let scalar = rw (g .1) at (pre) in
+    rw (gives-char (a .p) s (g .0 .0) (g .1)) (encoded-len _ scalar (c .encode .result) (c .encode .ensures))
 
 returns-3 : tie.Need-returns-3
-returns-3 c =
-    let a = c .before .before .before .args in
-    rw (gives-nothing (a .p) (a .s .now) (c .enum-told2 .given .1))
+returns-3 c = λ s fits. rw (gives-nothing (c .before .before .args .p) s (c .enum-told2 .given .1))
 
 pub width-spec : {M : Type 1} → statement M
 width-spec =

@@ -12,7 +12,6 @@ use lib.ListN.{length, getD}
 use Rattle.decoder_rules.specs.declared.Encoding.{Encoding}
 use Rattle.decoder_rules.specs.declared.Encoding.the-variants.{LiteralString, BasicString, MlLiteralString, MlBasicString, UnquotedKey}
 use Rattle.decoder_rules.proofs.Encoding as encoding
-use Rattle.decoder_rules.proofs.Fine.{rest-is}
 use Rattle.text_classes.proofs.RunLaws.{there}
 use Rattle.decoder_pieces.specs.GoodEscapes.{noEscape, escapeIn}
 use Rattle.decoder_pieces.proofs.EscapeAtLaws.{escape-here, escape-absent}
@@ -49,32 +48,14 @@ returns c =
 enum-known-e : tie.Need-enum-known-e
 enum-known-e c = search needs
 
-sub-good-escape : tie.Need-sub-good-escape
-sub-good-escape c = some (c .before .before .before)
-
-part-good-escape-start : tie.Need-part-good-escape-start
-part-good-escape-start c = some (c .before .before .before)
-
-part-good-escape-end : tie.Need-part-good-escape-end
-part-good-escape-end c = search needs
-
 good-escape-requires : tie.Need-good-escape-requires
-good-escape-requires c κs = search needs
+good-escape-requires c κs = some (c .before .before .before)
 
 enum-known-e-2 : tie.Need-enum-known-e-2
 enum-known-e-2 c = search needs
 
-sub-good-escape-2 : tie.Need-sub-good-escape-2
-sub-good-escape-2 c = some (c .before .before .before)
-
-part-good-escape-start-2 : tie.Need-part-good-escape-start-2
-part-good-escape-start-2 c = some (c .before .before .before)
-
-part-good-escape-end-2 : tie.Need-part-good-escape-end-2
-part-good-escape-end-2 c = search needs
-
 good-escape-requires-2 : tie.Need-good-escape-requires-2
-good-escape-requires-2 c κs = search needs
+good-escape-requires-2 c κs = some (c .before .before .before)
 
 no-escape-requires-2 : tie.Need-no-escape-requires-2
 no-escape-requires-2 c κs = search needs
@@ -82,18 +63,18 @@ no-escape-requires-2 c κs = search needs
 returns-2 : tie.Need-returns-2
 unfolding escapeIn
 returns-2 c =
-    let a = c .before .before .before .before .before .before .before .before .args in
-    let here = escape-here (a .e) (a .s .now) (backslash (c .before .before .before .before .before)) in
-    let is = c .before .before .before .e .given .1 in
-    rw is (rw rest-is at (c .good-escape .ensures) ∙ rw is at here)
+    let a = c .before .before .before .before .before .before .before .args in
+    let here = escape-here (a .e) (a .s .now) (backslash (c .before .before .before .before)) in
+    let is = c .before .before .e .given .1 in
+    rw is (c .good-escape .ensures ∙ rw is at here)
 
 returns-3 : tie.Need-returns-3
 unfolding escapeIn
 returns-3 c =
-    let a = c .before .before .before .before .before .before .before .before .args in
-    let here = escape-here (a .e) (a .s .now) (backslash (c .before .before .before .before .before)) in
-    let is = c .before .before .before .e2 .given .1 in
-    rw is (rw rest-is at (c .good-escape2 .ensures) ∙ rw is at here)
+    let a = c .before .before .before .before .before .before .before .args in
+    let here = escape-here (a .e) (a .s .now) (backslash (c .before .before .before .before)) in
+    let is = c .before .before .e2 .given .1 in
+    rw is (c .good-escape2 .ensures ∙ rw is at here)
 
 returns-4 : tie.Need-returns-4
 returns-4 c =
@@ -109,14 +90,8 @@ escape-at-spec =
     no-escape-requires
     returns
     enum-known-e
-    sub-good-escape
-    part-good-escape-start
-    part-good-escape-end
     good-escape-requires
     enum-known-e-2
-    sub-good-escape-2
-    part-good-escape-start-2
-    part-good-escape-end-2
     good-escape-requires-2
     no-escape-requires-2
     returns-2

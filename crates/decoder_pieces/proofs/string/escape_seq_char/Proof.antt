@@ -1,9 +1,11 @@
 -- `escape_seq_char` is right because a letter stands for a character, or asks for digits, or neither.
 -- Assumes nothing.
-use Prim.Native.Nat.{_≤_, _<_}
+use Prim.Native.Nat.{_≤_}
 use mathlib.Core.Path.{_≡_, sym, _∙_}
+use native.Mathlib.Omega.{arith}
 use borrow.Author.Needs.{needs}
-use lib.ListN.{length}
+use lib.ListN.{length, drop, length-drop}
+use lib.Seq.{drop-drop}
 use Rattle.decoder_rules.specs.declared.Letter.the-variants.{Asks}
 use Rattle.decoder_rules.specs.Escapes.{letterAt}
 use Rattle.decoder_rules.proofs.Fine.{rest-is}
@@ -13,16 +15,26 @@ use Rattle.decoder_pieces.proofs.string.escape_seq_char.Tie as tie
 
 -- the letter asks for digits
 asked : (c : tie.After-letter2)
-    → let a = c .before .before .before .before .args in letterAt (a .v) (a .s .now) ≡ Asks (c .letter2 .given .0 .0)
-asked c = sym (c .before .before .letter-at .ensures) ∙ c .letter2 .given .1
+    → let a = c .before .before .before .before .before .args in
+    letterAt (a .v) (drop 1 (a .s .now)) ≡ Asks (c .letter2 .given .0 .0)
+asked c = sym (rw rest-is at (c .before .before .letter-at .ensures)) ∙ c .letter2 .given .1
 
 -- so it is there, and asks for eight at most
 fits : (c : tie.After-letter2)
-    → (0 < length (c .before .before .before .before .args .s .now)) × (c .letter2 .given .0 .0 ≤ 8)
+    → (2 ≤ length (c .before .before .before .before .before .args .s .now)) × (c .letter2 .given .0 .0 ≤ 8)
 fits c =
-    let a = c .before .before .before .before .args in
-    let fit = asks-fit (a .v) (a .s .now) (c .letter2 .given .0 .0) (asked c) in
-    (fit .0 .some, fit .2)
+    let a = c .before .before .before .before .before .args in
+    let fit = asks-fit (a .v) (drop 1 (a .s .now)) (c .letter2 .given .0 .0) (asked c) in
+    (omega (arith, fit .0 .some, length-drop 1 (a .s .now)), fit .2)
+
+sub-letter-at : tie.Need-sub-letter-at
+sub-letter-at c = search needs
+
+part-letter-at-start : tie.Need-part-letter-at-start
+part-letter-at-start c = search needs
+
+part-letter-at-end : tie.Need-part-letter-at-end
+part-letter-at-end c = search needs
 
 letter-at-requires : tie.Need-letter-at-requires
 letter-at-requires c κs = search needs
@@ -36,18 +48,8 @@ char-piece-requires c κs = search needs
 enum-known-letter-2 : tie.Need-enum-known-letter-2
 enum-known-letter-2 c = search needs
 
-sub-hexescape : tie.Need-sub-hexescape
-sub-hexescape c = fits (c .before) .0
-
-part-hexescape-start : tie.Need-part-hexescape-start
-part-hexescape-start c = fits (c .before) .0
-
-part-hexescape-end : tie.Need-part-hexescape-end
-part-hexescape-end c = search needs
-
 hexescape-requires : tie.Need-hexescape-requires
-hexescape-requires c κs =
-    (fits (c .before .before) .1, c .before .before .before .before .before .before .pre)
+hexescape-requires c κs = (fits (c .before) .1, fits (c .before) .0, c .before .before .before .before .before .before .pre .1)
 
 enum-told : tie.Need-enum-told
 enum-told c = search needs
@@ -60,32 +62,34 @@ bad-char-requires c κs = search needs
 
 returns : tie.Need-returns
 returns c =
-    let a = c .before .before .before .before .before .before .args in
-    let letter = sym (c .before .before .before .before .letter-at .ensures) ∙ c .before .before .letter .given .1 in
-    c .char-piece .ensures ∙ escape-simple (a .v) (a .at) (a .s .now) _ letter
+    let letter-at = c .before .before .before .before .letter-at in
+    let letter′ = c .before .before .letter in
+    let a = c .before .before .before .before .before .before .before .args in
+    let letter = sym (rw rest-is at (letter-at .ensures)) ∙ letter′ .given .1 in
+    c .char-piece .ensures ∙ escape-simple (a .v) (a .at) (drop 1 (a .s .now)) _ letter
 
 returns-2 : tie.Need-returns-2
 returns-2 c =
     let a = c .before .before .before .before .before .before .before .args in
-    rw rest-is at (c .hexescape .ensures) ∙ escape-hex (a .v) (a .at) (a .s .now) _ (asked (c .before .before .before))
+    c .hexescape .ensures ∙ rw drop-drop at (escape-hex (a .v) (a .at) (drop 1 (a .s .now)) _ (asked (c .before .before)))
 
 returns-3 : tie.Need-returns-3
 returns-3 c =
-    let a = c .before .before .before .before .before .args in
-    let letter = sym (c .before .before .before .letter-at .ensures) ∙ c .before .enum-told .given .1 in
-    c .bad-char .ensures ∙ escape-none (a .v) (a .at) (a .s .now) letter
+    let a = c .before .before .before .before .before .before .args in
+    let letter = sym (rw rest-is at (c .before .before .before .letter-at .ensures)) ∙ c .before .enum-told .given .1 in
+    c .bad-char .ensures ∙ escape-none (a .v) (a .at) (drop 1 (a .s .now)) letter
 
 pub escape-seq-char-spec : {M : Type 1} → statement M
 escape-seq-char-spec =
     tie.close
     (tie.spec
+    sub-letter-at
+    part-letter-at-start
+    part-letter-at-end
     letter-at-requires
     enum-known-letter
     char-piece-requires
     enum-known-letter-2
-    sub-hexescape
-    part-hexescape-start
-    part-hexescape-end
     hexescape-requires
     enum-told
     add-bad-char

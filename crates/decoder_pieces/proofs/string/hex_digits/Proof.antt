@@ -8,13 +8,13 @@ use Rattle.decoder_pieces.proofs.string.hex_digits.Statement.{statement
 use Rattle.decoder_pieces.proofs.string.hex_digits.Tie as tie
 
 abbrev Inv-loop : tie.InvT-loop
-Inv-loop s digits i₀ value₀ i value = Digits digits s i value
+Inv-loop rest digits i₀ value₀ i value = Digits digits rest i value
 
 abbrev μ-loop : tie.MeasureT-loop
-μ-loop s digits i₀ value₀ i value = digits - i
+μ-loop rest digits i₀ value₀ i value = digits - i
 
 loop-holds : tie.Need-loop-holds Inv-loop μ-loop
-loop-holds c = digits-start (c .before .args .digits) (c .before .args .s .now)
+loop-holds c = digits-start (c .before .args .digits) (c .before .args .rest .now)
 
 peek-requires : tie.Need-peek-requires Inv-loop μ-loop
 peek-requires c κs = search needs
@@ -27,19 +27,19 @@ returns c =
     let a = c .before .before .before .before .before .before .args in
     let l = c .before .before .before .before .loop in
     let none = value-none _ _ (rw (c .before .before .peek .ensures) at (c .before .hex-value .ensures)) (c .if1 .taken) in
-    digits-few (a .digits) (a .s .now) (l .i) (l .value) (l .inv) (omega arith) none
+    digits-few (a .digits) (a .rest .now) (l .i) (l .value) (l .inv) (omega arith) none
 
 mul-value : tie.Need-mul-value Inv-loop μ-loop
 mul-value c =
     let a = c .before .before .before .before .before .before .args in
     let l = c .before .before .before .before .loop in
-    omega (arith, digits-room (a .digits) (a .s .now) (l .i) (l .value) (l .inv) (omega arith) (omega arith))
+    omega (arith, digits-room (a .digits) (a .rest .now) (l .i) (l .value) (l .inv) (omega arith) (omega arith))
 
 add-value : tie.Need-add-value Inv-loop μ-loop
 add-value c =
     let a = c .before .before .before .before .before .before .args in
     let l = c .before .before .before .before .loop in
-    omega (arith, digits-room (a .digits) (a .s .now) (l .i) (l .value) (l .inv) (omega arith) (omega arith))
+    omega (arith, digits-room (a .digits) (a .rest .now) (l .i) (l .value) (l .inv) (omega arith) (omega arith))
 
 add-i : tie.Need-add-i Inv-loop μ-loop
 add-i c = omega arith
@@ -52,13 +52,13 @@ loop-again c =
     let a = c .before .before .before .before .before .before .args in
     let l = c .before .before .before .before .loop in
     let one = value-one _ _ (rw (c .before .before .peek .ensures) at (c .before .hex-value .ensures)) (omega arith) in
-    digits-turn (a .digits) (a .s .now) (l .i) (l .value) (l .inv) (omega arith) _ (one .0) (one .1)
+    digits-turn (a .digits) (a .rest .now) (l .i) (l .value) (l .inv) (omega arith) _ (one .0) (one .1)
 
 returns-2 : tie.Need-returns-2 Inv-loop μ-loop
 returns-2 c =
     let a = c .before .before .before .args in
     let l = c .before .loop in
-    digits-all (a .digits) (a .s .now) (l .i) (l .value) (l .inv) (omega arith)
+    digits-all (a .digits) (a .rest .now) (l .i) (l .value) (l .inv) (omega arith)
 
 pub hex-digits-spec : {M : Type 1} → statement M
 hex-digits-spec =

@@ -1,10 +1,24 @@
--- `hexescape` is right because the digits that are read are those in front, and their number is at hand.
+-- `hexescape` is right because the digits that are read are those after the letter, and their number is at hand.
 -- Assumes nothing.
 use mathlib.Core.Path.{sym, _∙_}
+use native.Mathlib.Omega.{arith}
 use borrow.Author.Needs.{needs}
+use lib.ListN.{drop, length-drop}
+use Rattle.text_classes.specs.Classes.{hexdig}
+use Rattle.text_classes.proofs.RunLaws.{run-le}
+use Rattle.decoder_rules.proofs.Fine.{rest-is}
 use Rattle.decoder_rules.proofs.EscapeLaws.{hex-few, hex-char, hex-none}
 use Rattle.decoder_pieces.proofs.string.hexescape.Statement.{statement}
 use Rattle.decoder_pieces.proofs.string.hexescape.Tie as tie
+
+sub-hex-digits : tie.Need-sub-hex-digits
+sub-hex-digits c = search needs
+
+part-hex-digits-start : tie.Need-part-hex-digits-start
+part-hex-digits-start c = search needs
+
+part-hex-digits-end : tie.Need-part-hex-digits-end
+part-hex-digits-end c = search needs
 
 hex-digits-requires : tie.Need-hex-digits-requires
 hex-digits-requires c κs = search needs
@@ -16,16 +30,20 @@ add-bad-char-2 : tie.Need-add-bad-char-2
 add-bad-char-2 c = search needs
 
 add-bad-char-3 : tie.Need-add-bad-char-3
-add-bad-char-3 c = search needs
+add-bad-char-3 c =
+    let s = c .before .before .before .before .args .s .now in
+    let found = rw rest-is at (c .before .hex-digits .ensures) .few (c .if1 .taken) in
+    omega (arith, found, run-le hexdig (drop 2 s), length-drop 2 s)
 
 bad-char-requires : tie.Need-bad-char-requires
 bad-char-requires c κs = search needs
 
 returns : tie.Need-returns
 returns c =
-    let a = c .before .before .before .before .args in
+    let a = c .before .before .before .before .before .args in
     let few = c .before .if1 .taken in
-    c .bad-char .ensures ∙ hex-few (a .digits) (a .at) (a .s .now) _ (c .before .before .hex-digits .ensures .few few) few
+    let read = rw rest-is at (c .before .before .hex-digits .ensures) in
+    c .bad-char .ensures ∙ hex-few (a .digits) (a .at) (drop 2 (a .s .now)) _ (read .few few) few
 
 is-scalar-requires : tie.Need-is-scalar-requires
 is-scalar-requires c κs = search needs
@@ -38,11 +56,11 @@ char-piece-requires c κs = search needs
 
 returns-2 : tie.Need-returns-2
 returns-2 c =
-    let a = c .before .before .before .before .before .before .args in
-    let read = c .before .before .before .before .hex-digits .ensures in
+    let a = c .before .before .before .before .before .before .before .args in
+    let read = rw rest-is at (c .before .before .before .before .hex-digits .ensures) in
     let all = c .before .before .before .if1 .left in
     let scalar = sym (c .before .before .is-scalar .ensures) ∙ c .before .if2 .taken in
-    c .char-piece .ensures ∙ hex-char (a .digits) (a .at) (a .s .now) _ (read .enough all) (read .number all) scalar
+    c .char-piece .ensures ∙ hex-char (a .digits) (a .at) (drop 2 (a .s .now)) _ (read .enough all) (read .number all) scalar
 
 add-bad-char-4 : tie.Need-add-bad-char-4
 add-bad-char-4 c = search needs
@@ -55,16 +73,19 @@ bad-char-requires-2 c κs = search needs
 
 returns-3 : tie.Need-returns-3
 returns-3 c =
-    let a = c .before .before .before .before .before .before .args in
-    let read = c .before .before .before .before .hex-digits .ensures in
+    let a = c .before .before .before .before .before .before .before .args in
+    let read = rw rest-is at (c .before .before .before .before .hex-digits .ensures) in
     let all = c .before .before .before .if1 .left in
     let scalar = sym (c .before .before .is-scalar .ensures) ∙ c .before .if2 .left in
-    c .bad-char2 .ensures ∙ hex-none (a .digits) (a .at) (a .s .now) _ (read .enough all) (read .number all) scalar
+    c .bad-char2 .ensures ∙ hex-none (a .digits) (a .at) (drop 2 (a .s .now)) _ (read .enough all) (read .number all) scalar
 
 pub hexescape-spec : {M : Type 1} → statement M
 hexescape-spec =
     tie.close
     (tie.spec
+    sub-hex-digits
+    part-hex-digits-start
+    part-hex-digits-end
     hex-digits-requires
     add-bad-char
     add-bad-char-2

@@ -8,7 +8,7 @@ use Rattle.decoder_pieces.proofs.string.letter_at.Statement.{statement}
 use Rattle.decoder_pieces.proofs.string.letter_at.Tie as tie
 
 returns : tie.Need-returns
-returns c = let a = c .before .before .args in letter-none (a .v) (a .s .now) (omega arith)
+returns c = let a = c .before .before .args in letter-none (a .v) (a .rest .now) (omega arith)
 
 shared-slice-read-letter-of : tie.Need-shared-slice-read-letter-of
 shared-slice-read-letter-of c = search needs
@@ -19,7 +19,7 @@ letter-of-requires c κs = search needs
 returns-2 : tie.Need-returns-2
 returns-2 c =
     let a = c .before .before .before .before .args in
-    c .letter-of .ensures ∙ letter-some (a .v) (a .s .now) (omega arith)
+    c .letter-of .ensures ∙ letter-some (a .v) (a .rest .now) (omega arith)
 
 pub letter-at-spec : {M : Type 1} → statement M
 letter-at-spec =
