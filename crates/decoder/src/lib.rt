@@ -11,7 +11,7 @@ ghost use Rattle.decoder_rules.specs.Encodings.{choiceBy};
 ghost use Rattle.decoder_rules.specs.declared.Choice.the-variants.{Known};
 ghost use Rattle.decoder_rules.specs.Decoding.{bytesOf, errorsOf, bytesBy, errorsBy, decodedBy, decodeIn, after};
 ghost use Rattle.decoder_rules.specs.Told.{decodedNumber, decodedValue, decodedErrors, decodedLength, decodeRefusal, decodeReturned, decodeNoted};
-ghost use Rattle.decoder_rules.proofs.PlainLaws.{Named};
+ghost use Rattle.decoder_rules.proofs.PlainLaws.{Named, Plain, Copied};
 ghost use Rattle.decoder_marks.specs.Opening.{openedOf};
 ghost use Rattle.decoder_rules.proofs.KeyLaws.{KeyCopied};
 ghost use Rattle.decoder_rules.proofs.StoreLaws.{Stored};
@@ -90,10 +90,7 @@ pub fn decode_in(
         ⌜ decodedErrors r ≡ decodeNoted (now (text .entry)) edition kind (length (now (output .entry))) (length (now (errors .entry))) ⌝ }
     ensures length { λ r. ⌜ decodedLength r ≡ checkFault (now (text .entry)) ⌝ }
 {
-    if !is_edition(edition) {
-        return decode_checked(text, edition, kind, output, errors);
-    }
-    let n = copy_plain(kind, text, output);
+    let n = copy_named(edition, kind, text, output);
     if n < text.len() {
         return Decoded::Written {
             bytes: n,
@@ -101,6 +98,17 @@ pub fn decode_in(
         };
     }
     decode_checked(text, edition, kind, output, errors)
+}
+
+// `copy_plain` where the number names an edition: editions differ in no text that it copies. Else nothing is copied.
+fn copy_named(edition: usize, kind: usize, text: &[u8], output: &mut [u8]) -> usize
+    ensures { λ r.
+        ⌜ Copied (Named edition × Plain kind (now (text .entry))) (now (text .entry)) (now (output .entry)) r (now (output .exit)) ⌝ }
+{
+    if !is_edition(edition) {
+        return text.len();
+    }
+    copy_plain(kind, text, output)
 }
 
 fn is_edition(number: usize) -> bool
