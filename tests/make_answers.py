@@ -239,6 +239,29 @@ def faults():
                         *[call('lexcap', 0, doc) for doc in some], *[call('deccap', 34, 0, 0, doc) for doc in some])
 
 
+# those that end in a Newline token, and those that do not: an open string, a comment, nothing
+HEADS = [b'\n', b'\r', b'\r\n', b'\r\r', b'a = "b"\n', b'# a\r', BOM + b'\n', b"'''\n'''\r\n", b'"a\n', b"'a\r\n",
+         b'', BOM, b'a', b'# a', b"'''\n", b'"""a\r', b"'a\r"]
+TAILS = [b'', b'\n', b'\r', b'\r\n', b'a', b'.', b' \n', b'# a\n', '\u00e9\n'.encode(), b'"\n"', b"'''\n'''", BOM, BOM + b'a\n']
+
+
+def with_lines(doc):
+    return [(*token, reference.line_of(doc, token[1])) for token in reference.tokens(doc)]
+
+
+def joined():
+    """Heads, tails, and each joined to each: where the tail may follow the head, the tokens are made from those of the two."""
+    out = []
+    for head, tail in itertools.product(HEADS, TAILS):
+        line = call('lexline', head + tail)
+        before = with_lines(head)[:-1]
+        follows = before[-1:] and before[-1][0] == 10 and not tail.startswith(BOM) \
+            and not (head.endswith(b'\r') and tail.startswith(b'\n'))
+        moved = [(kind, start + len(head), end + len(head), on + head.count(b'\n')) for kind, start, end, on in with_lines(tail)]
+        out += agreed([(line, reference.records(before + moved).encode())]) if follows else by_reference(line)
+    return by_reference(*[call('lexline', part) for part in HEADS + TAILS]) + out
+
+
 def every_byte():
     """Each byte as a whole document, and between the marks of each kind."""
     marks = {39: b"'", 34: b'"', 1: b"'''", 2: b'"""', 3: b'a'}
@@ -273,7 +296,7 @@ def wrong_lines():
 
 
 SECTIONS = [scope, valid_cases, left_out_cases, later_cases, invalid_utf8, invalid_strings, vectors, lent_records, lent_output, sizes, cursors, lines, spans,
-            positions, kinds, editions, faults, every_byte, short_texts, wrong_lines]
+            positions, kinds, editions, faults, joined, every_byte, short_texts, wrong_lines]
 
 
 def main():
