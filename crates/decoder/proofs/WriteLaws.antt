@@ -143,7 +143,7 @@ key-copied edition (b ∷ s) old r out named few room all stored =
     let key : PlainKey t = record { few = few; some = omega arith; all = omega (arith, run-le (plain UnquotedKey) t) } in
     copied named key size (omega arith) (rw size (overwritten in-all room))
 
--- ---- a body that is not within a line-ending escape, and k bytes in front of it that stand for themselves
+-- ---- a body that is not within a line-ending escape, and k bytes at the front of it that stand for themselves
 
 module _ (e : Encoding) (t : List ℕ) (b : Body) (outside : b .dropping ≡ false) (fits : b .at ≤ b .end) (k : ℕ)
     (is : k ≡ run (plain e) (bodyBytes b t)) where

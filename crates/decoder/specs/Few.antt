@@ -8,7 +8,7 @@ use Rattle.decoder_rules.specs.declared.Encoding.{Encoding}
 use Rattle.decoder_rules.specs.Pieces.{copyPiece}
 use Rattle.decoder_rules.specs.Bodies.{pieceOf}
 
--- a run of n bytes, fewer than eight, is the rule's piece in front of s
+-- a run of n bytes, fewer than eight, is the rule's piece at the front of s
 pub record FewAt (e : Encoding) (d : Bool) (s : List ℕ) (n : ℕ) : Type 0 where
   pub short : n < 8
   pub piece : (at : ℕ) → pieceOf e d at s ≡ copyPiece n

@@ -42,7 +42,7 @@ use text::check_utf8;
 
 // Decodes a text of the kind that the number says: 39 literal, 34 basic, 1 ml-literal, 2 ml-basic,
 // 3 a key. The bytes go to the front of the output; the errors, as number, start and end, to the
-// front of the records; what is behind them stays. A call that is refused writes nothing.
+// front of the records; what is after them stays. A call that is refused writes nothing.
 pub fn decode(text: &[u8], kind: usize, output: &mut [u8], errors: &mut [[usize; 3]]) -> Decoded
     ensures answer { λ r.
         ⌜ r ≡ decodeIn (now (text .entry)) 10 kind (length (now (output .entry))) (length (now (errors .entry))) ⌝ }
@@ -238,7 +238,7 @@ fn needed(e: Encoding, opened: Opened, text: &[u8]) -> Counts
     }
 }
 
-// Writes them to the front of the lent memory. What stands for itself in front of the body, which most often is all of it,
+// Writes them to the front of the lent memory. What stands for itself at the front of the body, which most often is all of it,
 // is copied at once.
 fn fill(
     e: Encoding,

@@ -75,7 +75,7 @@ fn copy_few(s: &[u8], n: usize, output: &mut [u8], o: usize) -> usize
     o + n
 }
 
-// Writes the bytes that the piece gives to place o, and says the place behind them.
+// Writes the bytes that the piece gives to place o, and says the place after them.
 fn emit(p: Piece, s: &[u8], output: &mut [u8], o: usize) -> usize
     requires { ⌜ FineAt p (now s) × (o + length (gives p (now s)) ≤ length (now output)) ⌝ }
     ensures { λ r. ⌜ Stored (now (output .entry)) o (gives p (now (s .entry))) r (now (output .exit)) ⌝ }
@@ -239,7 +239,7 @@ pub(crate) fn past(body: Body, n: usize) -> Body
     }
 }
 
-// How many bytes in front of s are a run that stands for itself, where it is shorter than eight; 0 for any other piece.
+// How many bytes at the front of s are a run that stands for itself, where it is shorter than eight; 0 for any other piece.
 fn few_at(e: Encoding, dropping: bool, s: &[u8]) -> usize
     ensures { λ r. ⌜ (0 < r → FewAt e dropping (now (s .entry)) r) ⌝ }
 {

@@ -91,7 +91,7 @@ fn line_start(opened: bool) -> usize
     if opened { Span::MARK } else { 0 }
 }
 
-// A mark q at the end, behind the body's start?
+// A mark q at the end, after the body's start?
 fn line_closed(q: u8, start: usize, t: &[u8]) -> bool
     ensures { λ r. ⌜ r ≡ lineClosed start q (now (t .entry)) ⌝ }
 {
@@ -144,7 +144,7 @@ fn has_threes(q: u8, s: &[u8]) -> bool
     s[2] == q
 }
 
-// Where the body starts, behind the opening if it is there, and a newline.
+// Where the body starts, after the opening if it is there, and a newline.
 fn ml_start(opened: bool, t: &[u8]) -> usize
     requires { ⌜ (opened ≡ true → 3 ≤ length (now t)) ⌝ }
     ensures { λ r. ⌜ r ≡ mlStart opened (now (t .entry)) ⌝ }
@@ -156,7 +156,7 @@ fn ml_start(opened: bool, t: &[u8]) -> usize
     }
 }
 
-// Three marks at the end, behind the body's start?
+// Three marks at the end, after the body's start?
 fn ml_closed(q: u8, start: usize, t: &[u8]) -> bool
     ensures { λ r. ⌜ r ≡ mlClosed q start (now (t .entry)) ⌝ }
 {

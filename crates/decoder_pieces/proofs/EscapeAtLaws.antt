@@ -1,4 +1,4 @@
--- The escape that is read off in front of a body: its cases, and that the rule's piece there is this one. And the rule's piece
+-- The escape that is read off at the front of a body: its cases, and that the rule's piece there is this one. And the rule's piece
 -- where a run of bytes that stand for themselves is short.
 -- Assumes nothing.
 use Prim.Native.Nat.{ℕ, _+_, _≤_, _<_}
@@ -50,7 +50,7 @@ module _ (n : ℕ) (s : List ℕ) where
   unfolding goodHex
   good-no-char v h e t = rw (le-leb _ _ h, ← e, t)
 
--- behind the backslash, by what its letter is for
+-- after the backslash, by what its letter is for
 module _ (v : Edition) (s : List ℕ) where
   pub good-simple : (c : ℕ) → letterAt v s ≡ Stands c → escapeTo 2 c ≡ goodEscape v s
   unfolding goodEscape
@@ -64,7 +64,7 @@ module _ (v : Edition) (s : List ℕ) where
   unfolding goodEscape
   good-neither e = rw e
 
--- in front
+-- at the front
 module _ (e : Encoding) (s : List ℕ) where
   pub escape-here : getD s 0 0 ≡ 0x5C → escapeIn e s ≡ escapeAt e s
   unfolding escapeAt
@@ -111,7 +111,7 @@ letter-kept b h =
       ne-eqb b 0x0D (λ e. omega arith),
     )
 
--- behind the backslash: its letter is none that a line-ending escape drops, and its piece is the rule's
+-- after the backslash: its letter is none that a line-ending escape drops, and its piece is the rule's
 record Found (v : Edition) (at : ℕ) (s : List ℕ) (x : Escape) : Type 0 where
   letter : 0x22 ≤ getD s 0 0
   piece : charPiece (x .take) (x .char) ≡ escapePiece v at s

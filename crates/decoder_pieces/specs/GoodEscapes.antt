@@ -1,4 +1,4 @@
--- The escape in front of a body, where it stands for a character: its piece, read off before any piece is made. Not a rule of
+-- The escape at the front of a body, where it stands for a character: its piece, read off before any piece is made. Not a rule of
 -- its own: `good-escape-piece` in proofs/EscapeAtLaws.antt shows that the rule's piece there is this one.
 -- Assumes nothing.
 use Prim.Native.Nat.{ℕ, _+_}
@@ -24,22 +24,22 @@ escapeTo n c = record { take = n; char = c }
 abbrev pub noEscape : Escape
 noEscape = escapeTo 0 0
 
--- n digits that make a scalar value, in front of s
+-- n digits that make a scalar value, at the front of s
 unfoldable pub goodHex : ℕ → List ℕ → Escape
 goodHex n s =
     cond (leb n (run hexdig s) && isScalar (hexFrom 0 (take n s))) (escapeTo (2 + n) (hexFrom 0 (take n s))) noEscape
 
--- by the letter behind the backslash, with s behind that
+-- by the letter after the backslash, with s after that
 abbrev pub goodBy : Letter → List ℕ → Escape
 goodBy (Stands c) s = escapeTo 2 c
 goodBy (Asks n) s = goodHex n s
 goodBy Neither s = noEscape
 
--- behind the backslash
+-- after the backslash
 unfoldable pub goodEscape : Edition → List ℕ → Escape
 goodEscape v s = goodBy (letterAt v s) (drop 1 s)
 
--- in front of s
+-- at the front of s
 unfoldable pub escapeIn : Encoding → List ℕ → Escape
 escapeIn LiteralString s = noEscape
 escapeIn (BasicString v) s = goodEscape v (drop 1 s)

@@ -14,7 +14,7 @@ pub struct Body {
     pub dropping: bool,
 }
 
-// What a step answers: the piece in front and the body after it, or that no byte is left.
+// What a step answers: the piece at the front and the body after it, or that no byte is left.
 pub enum BodyStep {
     Piece(Piece, Body),
     End,

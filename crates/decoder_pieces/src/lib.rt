@@ -47,7 +47,7 @@ fn piece_at(e: Encoding, dropping: bool, s: &[u8], at: usize) -> Piece
     }
 }
 
-// How many bytes in front stand for themselves.
+// How many bytes at the front stand for themselves.
 pub fn plain_run(e: Encoding, s: &[u8]) -> usize
     ensures { λ r. ⌜ r ≡ run (plain e) (now (s .entry)) ⌝ }
 {

@@ -162,7 +162,7 @@ pub(crate) fn plain_rest(e: Encoding, s: &[u8], start: usize) -> usize
     i
 }
 
-// How many bytes in front stand for themselves, of which eight count at most.
+// How many bytes at the front stand for themselves, of which eight count at most.
 pub fn plain_few(e: Encoding, s: &[u8]) -> usize
     ensures { λ r. ⌜ r ≡ run (plain e) (take 8 (now (s .entry))) ⌝ }
 {

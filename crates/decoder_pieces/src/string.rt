@@ -127,7 +127,7 @@ fn no_escape() -> Escape
     Escape { take: 0, char: 0 }
 }
 
-// The escape in front of s, where the encoding has escapes and one that stands for a character is there.
+// The escape at the front of s, where the encoding has escapes and one that stands for a character is there.
 pub fn escape_at(e: Encoding, s: &[u8]) -> Escape
     ensures { λ r. ⌜ r ≡ escapeAt e (now (s .entry)) ⌝ }
 {

@@ -181,7 +181,7 @@ fn least(a: usize, b: usize) -> usize
     if a < b { a } else { b }
 }
 
-// Copies the n bytes behind the mark to the front of the output.
+// Copies the n bytes after the mark to the front of the output.
 fn copy_body(text: &[u8], n: usize, output: &mut [u8])
     requires { ⌜ (n + 1 ≤ length (now text)) × (n ≤ length (now output)) ⌝ }
     ensures { λ _. ⌜ now (output .exit) ≡ middle n (now (text .entry)) ++ drop n (now (output .entry)) ⌝ }

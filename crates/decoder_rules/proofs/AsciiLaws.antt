@@ -101,7 +101,7 @@ pub front-one : (s : List ℕ) → 0 < length s → getD s 0 0 < 0x80 → Utf8 (
 front-one [] l h = absurd (omega arith)
 front-one (b ∷ s) l h = one-utf8 b h
 
--- n bytes, and m behind them
+-- n bytes, and m after them
 pub front-add : (n m : ℕ) (s : List ℕ) → Utf8 (take n s) → Utf8 (take m (drop n s)) → Utf8 (take (n + m) s)
 front-add n m s u v = rw take-add (utf8-append (take n s) (take m (drop n s)) u v)
 
@@ -140,7 +140,7 @@ front-high p high s u = cut-at s (run p s) u (⊎-elim inl stop (run-ends p s)) 
         let b = getD s (run p s) 0 in
         elim (decLt b 0x80) [ yes h ↦ inr (l, inl h) | no h ↦ not-both (high b (omega arith)) e ]
 
--- what stands behind UTF-8 in UTF-8 is UTF-8
+-- what stands after UTF-8 in UTF-8 is UTF-8
 pub utf8-behind : (p q : List ℕ) → Utf8 p → Utf8 (p ++ q) → Utf8 q
 utf8-behind p q u w =
     let a = valid-append p u q in

@@ -66,7 +66,7 @@ module _ (at : ℕ) (s : List ℕ) (h : 0 < length s) where
       λ e. by-eq Good (getD s 0 0) 0x5C (λ f. escape-fine v at s (drop 1 s) (omega (arith, length-drop 1 s)))
       (λ f. fine-run basicInvalid _ (invalid-basic (getD s 0 0) e f)))
 
-  -- a line-ending escape, where t stands behind the backslash at the front of s
+  -- a line-ending escape, where t stands after the backslash at the front of s
   line-fine : (t : List ℕ) (w : ℕ) → length s ≡ suc (length t) → w ≤ length t → FineAt (lineBy at w (getD t w 0) (getD t (w + 1) 0)) s
   line-fine t w long l =
       by-eq Good (getD t w 0) 0x0A (λ e. let k = there t w (omega arith) in fine-drop (2 + w) _ s (omega arith) (omega arith))
@@ -124,7 +124,7 @@ module _ {A : Type 0} (e : Encoding) (g : Piece → List ℕ → List A) where
   pub collected-none : (d : Bool) (at : ℕ) → collect (pieceOf e) g 0 d at [] ≡ []
   collected-none d at = refl
 
-  -- else what g says of the first piece p, and then what is collected of the rest behind the bytes that it takes
+  -- else what g says of the first piece p, and then what is collected of the rest after the bytes that it takes
   pub collected-step : (d : Bool) (at : ℕ) (s : List ℕ) → 0 < length s
       → let p = pieceOf e d at s in
       collect (pieceOf e) g 0 d at s ≡ g p s ++ collect (pieceOf e) g 0 (p .dropping) (at + p .take) (drop (p .take) s)

@@ -72,7 +72,7 @@ pub new-small : (v : Edition) (b : ℕ) → b < 0x61 → Neither ≡ newLetter v
 new-small Toml10 b h = refl
 new-small Toml11 b h = rw (ne-eqb b 0x65 (λ e. omega arith), ne-eqb b 0x78 (λ e. omega arith))
 
--- the letter in front, and none
+-- the letter at the front, and none
 pub letter-none : (v : Edition) (s : List ℕ) → length s ≡ 0 → Neither ≡ letterAt v s
 letter-none v [] h = refl
 letter-none v (b ∷ s) h = absurd (omega arith)
@@ -152,7 +152,7 @@ replacement : length (encodeScalar 0xFFFD) ≡ 3
 unfolding encodeScalar
 replacement = refl
 
--- n digits asked for behind the first two bytes of s
+-- n digits asked for after the first two bytes of s
 module _ (n at : ℕ) (s t : List ℕ) (two : 2 ≤ n) (long : 2 + length t ≤ length s) where
   pub hex-fine : FineAt (hexPiece n at t) s
   unfolding hexPiece
@@ -166,7 +166,7 @@ module _ (n at : ℕ) (s t : List ℕ) (two : 2 ≤ n) (long : 2 + length t ≤ 
       fine-char _ _ s (omega arith) (omega arith) (true-scalar _ v) (omega arith))
       (λ v. fine-bad-char _ 0xFFFD NotScalar _ s (omega arith) (omega arith) (inr (omega arith)) (omega (arith, replacement)))
 
--- an escape, where t stands behind the backslash at the front of s
+-- an escape, where t stands after the backslash at the front of s
 module _ (v : Edition) (at : ℕ) (s t : List ℕ) (long : length s ≡ suc (length t)) where
   pub escape-fine : FineAt (escapePiece v at t) s
   unfolding escapePiece

@@ -68,7 +68,7 @@ rest s i = take (length s - i) (drop i s)
 pub rest-is : (s : List ℕ) (i : ℕ) → rest s i ≡ drop i s
 rest-is s i = take-all (length s - i) (drop i s) (omega (arith, length-drop i s))
 
--- a turn reads the piece p in front of s, whose first byte stands at place `at` of the text
+-- a turn reads the piece p at the front of s, whose first byte stands at place `at` of the text
 pub record Turn (P : Pieces) (d : Bool) (at : ℕ) (s : List ℕ) (p : Piece) : Type 0 where
   pub more : 0 < length s
   pub reads : p ≡ P d at s

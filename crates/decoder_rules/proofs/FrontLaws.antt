@@ -1,4 +1,4 @@
--- What the run in front of a body that stands for itself comes to: its own bytes and no error, and the rest of the body is
+-- What the run at the front of a body that stands for itself comes to: its own bytes and no error, and the rest of the body is
 -- decoded as if it stood alone.
 -- Assumes nothing.
 use Prim.Native.Nat.{ℕ, zero, suc, _+_, _-_, _≤_, _<_}

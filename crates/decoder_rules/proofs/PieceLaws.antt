@@ -70,7 +70,7 @@ module _ {A : Type 0} (P : Pieces) (g : Piece → List ℕ → List A) where
   skip-in zero d at b r h = absurd (omega arith)
   skip-in (suc k) d at b r h = rw (add-suc, ← suc-add) (collect-skip k d (suc at) r)
 
-  -- where the first piece p takes a byte or more: what g says of it, and then what is collected of the rest behind the bytes
+  -- where the first piece p takes a byte or more: what g says of it, and then what is collected of the rest after the bytes
   -- that it takes
   pub collect-step : (d : Bool) (at : ℕ) (s : List ℕ) → 0 < length s → 0 < P d at s .take
       → let p = P d at s in collect P g zero d at s ≡ g p s ++ collect P g zero (p .dropping) (at + p .take) (drop (p .take) s)

@@ -1,4 +1,4 @@
--- The rules ask whether a byte stands in front and passes a test. The laws ask for the byte at a place, which past the end
+-- The rules ask whether a byte stands at the front and passes a test. The laws ask for the byte at a place, which past the end
 -- reads 0: all these tests fail at 0, so that it is the same. An equation for each rule.
 -- Assumes nothing.
 use Prim.Native.Nat.{ℕ, _+_}
@@ -99,7 +99,7 @@ module _ (at : ℕ) (s : List ℕ) where
   unfolding keyPiece
   key-piece-is = rw (first-at unquotedChar unquoted-zero s 0)
 
--- the line of a line-ending escape, by the bytes b and next behind its w blanks
+-- the line of a line-ending escape, by the bytes b and next after its w blanks
 abbrev pub lineBy : ℕ → ℕ → ℕ → ℕ → Piece
 lineBy at w b next =
     cond (eqb b 0x0A) (dropPiece (2 + w))
@@ -128,7 +128,7 @@ escaped-line-is at s n h =
     let three : 3 + w ≡ n + 2 = omega arith in
     rw (escaped-nl-is at (drop 1 s), getD-drop 1 s w 0, getD-drop 1 s (w + 1) 0, next, two, three, one)
 
--- ---- the newline behind an opening
+-- ---- the newline after an opening
 
 pub newline-len-is : (s : List ℕ)
     → newlineLen s ≡ cond (eqb (getD s 0 0) 0x0A) 1 (cond (eqb (getD s 0 0) 0x0D && eqb (getD s 1 0) 0x0A) 2 0)

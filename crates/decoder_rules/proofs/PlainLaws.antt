@@ -107,7 +107,7 @@ pub record OwnLine (q : ℕ) (p : ℕ → Bool) (t : List ℕ) : Type 0 where
   pub valid : Valid ≡ checkOf t
   pub own : (k : ℕ) → 1 ≤ k → k < length t - 1 → p (getD t k 0) ≡ true
 
--- the n bytes behind the first
+-- the n bytes after the first
 abbrev pub middle : ℕ → List ℕ → List ℕ
 middle n t = take n (drop 1 t)
 
@@ -327,7 +327,7 @@ module _ {P : Type 0} {t old : List ℕ} {n : ℕ} {out : List ℕ} where
   copied-as (copied p s r o) f = copied (f p) s r o
   copied-as (untouched e o) f = untouched e o
 
--- the m bytes from i on are those of t behind its mark, and the others are as they were
+-- the m bytes from i on are those of t after its mark, and the others are as they were
 pub record Part (t old : List ℕ) (i m : ℕ) (out : List ℕ) : Type 0 where
   pub long : length out ≡ length old
   pub before : (k : ℕ) → k < i → getD out k 0 ≡ getD old k 0
@@ -367,7 +367,7 @@ module _ (t old : List ℕ) (i : ℕ) where
 pub part-one : (t old : List ℕ) (j p : ℕ) → p ≡ j + 1 → j < length old → Part t old j 1 (set old j (getD t p 0))
 part-one t old j p f h = part-more t old j 0 j p old (omega arith) f h (part-none t old j)
 
--- of the n bytes that are to be copied those before i are, and behind the n nothing has changed
+-- of the n bytes that are to be copied those before i are, and after the n nothing has changed
 pub record Held (t old : List ℕ) (n i : ℕ) (out : List ℕ) : Type 0 where
   pub long : length out ≡ length old
   pub front : (k : ℕ) → k < i → k < n → getD out k 0 ≡ getD t (k + 1) 0

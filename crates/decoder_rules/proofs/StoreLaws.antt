@@ -9,7 +9,7 @@ use native.Mathlib.Omega.{arith}
 use lib.ListN.{length, take, drop, getD, set, length-append}
 use lib.Seq.{sets, sets-eq, drop-cons}
 
--- `new` is stored in memory that held `old`, from place `at` on: the place behind it, and what the memory then holds
+-- `new` is stored in memory that held `old`, from place `at` on: the place after it, and what the memory then holds
 pub record Stored {A : Type 0} (old : List A) (at : ℕ) (new : List A) (behind : ℕ) (held : List A) : Type 0 where
   pub place : behind ≡ at + length new
   pub holds : held ≡ sets old at new
@@ -21,7 +21,7 @@ pub sets-append : {A : Type 0} (l : List A) (i : ℕ) (a b : List A) → sets l 
 sets-append l i [] b = rw add-zero
 sets-append l i (x ∷ a) b = rw (add-suc, ← suc-add) (sets-append (set l i x) (suc i) a b)
 
--- one run behind another
+-- one run after another
 pub store-append : {A : Type 0} {l l₁ l₂ a b : List A} {i m₁ m₂ : ℕ} → Stored l i a m₁ l₁ → Stored l₁ m₁ b m₂ l₂
     → Stored l i (a ++ b) m₂ l₂
 store-append {l = l} {a = a} {b = b} {i = i} p q =

@@ -14,7 +14,7 @@ literalPiece at s =
     cond (firstIs literalChar s) (copyPiece (run literalChar s))
     (badCopy 1 LiteralInvalid at at)
 
--- a CR: error 4 behind it, unless the byte there is an LF. A byte that is not allowed in an ml-literal string: error 5 at it
+-- a CR: error 4 after it, unless the byte there is an LF. A byte that is not allowed in an ml-literal string: error 5 at it
 unfoldable pub mlLiteralPiece : ℕ → List ℕ → Piece
 mlLiteralPiece at s =
     cond (firstIs mllPlain s) (copyPiece (run mllPlain s))
@@ -40,7 +40,7 @@ escapedLine at w s =
     (badDrop (1 + w) MissingNewline (at + (1 + w))))
 
 -- mlb-escaped-nl = escape ws newline *( wschar / newline )
--- the backslash, the blanks behind it and the newline; s stands behind the backslash. No newline: error 13 behind the blanks
+-- the backslash, the blanks after it and the newline; s stands after the backslash. No newline: error 13 after the blanks
 unfoldable pub escapedNl : ℕ → List ℕ → Piece
 escapedNl at s = escapedLine at (run wschar s) (drop (run wschar s) s)
 

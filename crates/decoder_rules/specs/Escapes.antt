@@ -52,7 +52,7 @@ unfoldable pub hexFrom : ℕ → List ℕ → ℕ
 hexFrom v [] = v
 hexFrom v (b ∷ s) = hexFrom (v * 16 + hexValue b) s
 
--- a hex escape at place `at`, with n digits to come in s. Fewer: error 9 behind those that are there. No scalar value: error
+-- a hex escape at place `at`, with n digits to come in s. Fewer: error 9 after those that are there. No scalar value: error
 -- 10 at the first digit. Either gives U+FFFD.
 unfoldable pub hexPiece : ℕ → ℕ → List ℕ → Piece
 hexPiece n at s =
@@ -60,13 +60,13 @@ hexPiece n at s =
     (cond (isScalar (hexFrom 0 (take n s))) (charPiece (2 + n) (hexFrom 0 (take n s)))
     (badChar (2 + n) 0xFFFD NotScalar (at + 2)))
 
--- a backslash at place `at`, by the letter behind it, with s behind that. Neither: error 8 behind the backslash, which is
+-- a backslash at place `at`, by the letter after it, with s after that. Neither: error 8 after the backslash, which is
 -- given alone
 abbrev pub escapeBy : Letter → ℕ → List ℕ → Piece
 escapeBy (Stands c) at s = charPiece 2 c
 escapeBy (Asks n) at s = hexPiece n at s
 escapeBy Neither at s = badChar 1 0x5C MissingEscape (at + 1)
 
--- the same, with s behind the backslash
+-- the same, with s after the backslash
 unfoldable pub escapePiece : Edition → ℕ → List ℕ → Piece
 escapePiece v at s = escapeBy (letterAt v s) at (drop 1 s)

@@ -10,7 +10,7 @@ use Rattle.decoder_rules.specs.declared.{Encoding.Encoding, Encoding.the
 abbrev pub lineOpened : ℕ → List ℕ → Bool
 lineOpened q t = ltb 0 (length t) && eqb (getD t 0 0) q
 
--- the body starts behind the opening, where it is there
+-- the body starts after the opening, where it is there
 abbrev pub lineStart : Bool → ℕ
 lineStart opened = cond opened 1 0
 
@@ -27,7 +27,7 @@ lineEnds q t =
     let start : ℕ = lineStart (lineOpened q t) in
     record { opened = lineOpened q t; closed = lineClosed start q t; start = start; end = lineEnd (lineClosed start q t) t }
 
--- ---- three marks q at each end, and a newline behind the opening
+-- ---- three marks q at each end, and a newline after the opening
 -- three marks at the front
 unfoldable pub threes : ℕ → List ℕ → Bool
 threes q s = leb 3 (length s) && (eqb (getD s 0 0) q && (eqb (getD s 1 0) q && eqb (getD s 2 0) q))
@@ -36,7 +36,7 @@ threes q s = leb 3 (length s) && (eqb (getD s 0 0) q && (eqb (getD s 1 0) q && e
 unfoldable pub newlineLen : List ℕ → ℕ
 newlineLen s = cond (stands 0x0A s) 1 (cond (stands 0x0D s && stands 0x0A (drop 1 s)) 2 0)
 
--- the body starts behind the opening, where it is there, and behind a newline right after
+-- the body starts after the opening, where it is there, and after a newline right after
 unfoldable pub mlStart : Bool → List ℕ → ℕ
 mlStart opened t = cond opened 3 0 + newlineLen (drop (cond opened 3 0) t)
 

@@ -56,7 +56,7 @@ Pieces = Bool → ℕ → List ℕ → Piece
 
 -- what g says of each piece, joined: k bytes are skipped first, as the piece before took them. Without that count, as
 -- `collected-none` and `collected-step` of proofs/BodyLaws.antt say for each kind of body: of no bytes nothing; else what g
--- says of the first piece, and then what is collected of the rest behind the bytes that it takes
+-- says of the first piece, and then what is collected of the rest after the bytes that it takes
 abbrev pub collect : {A : Type 0} → Pieces → (Piece → List ℕ → List A) → ℕ → Bool → ℕ → List ℕ → List A
 collect P g k d at [] = []
 collect P g zero d at (b ∷ r) =
@@ -78,7 +78,7 @@ charPiece n c = record { take = n; given = Char c; verdict = Clean; dropping = f
 abbrev pub badChar : ℕ → ℕ → DecodeError → ℕ → Piece
 badChar n c error place = record { take = n; given = Char c; verdict = Wrong error place place; dropping = false }
 
--- nothing for n bytes of a line-ending escape, which goes on behind them
+-- nothing for n bytes of a line-ending escape, which goes on after them
 abbrev pub dropPiece : ℕ → Piece
 dropPiece n = record { take = n; given = Nothing; verdict = Clean; dropping = true }
 

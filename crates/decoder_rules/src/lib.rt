@@ -51,7 +51,7 @@ pub enum DecodeError {
     BasicMissingQuote,
     // 7: bytes that are not allowed in a basic string
     BasicInvalid,
-    // 8: behind a backslash, none of the edition's letters
+    // 8: after a backslash, none of the edition's letters
     MissingEscape,
     // 9: too few hex digits
     FewDigits,
@@ -61,7 +61,7 @@ pub enum DecodeError {
     MlBasicMissingQuote,
     // 12: bytes that are not allowed in an ml-basic string
     MlBasicInvalid,
-    // 13: behind a backslash and blanks, no newline
+    // 13: after a backslash and blanks, no newline
     MissingNewline,
     // 14: a key is empty
     EmptyKey,
@@ -104,7 +104,7 @@ pub enum Verdict {
     },
 }
 
-// What the letter behind a backslash is for: it stands for a character, it asks for so many hex
+// What the letter after a backslash is for: it stands for a character, it asks for so many hex
 // digits, or it is none of the edition's.
 pub enum Letter {
     Stands(u32),

@@ -1,4 +1,4 @@
--- The numbers of a list: with more in front they are later ones; and the literals of a text by theirs.
+-- The numbers of a list: with more at the front they are later ones; and the literals of a text by theirs.
 -- Assumes nothing.
 use Prim.Native.Nat.{ℕ, zero, suc, _-_, _≤_, _<_}
 use mathlib.Core.Path.{_≡_, refl, ap}

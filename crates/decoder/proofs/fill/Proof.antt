@@ -1,5 +1,5 @@
 -- `fill` is right because the errors of the two marks and those of the body are stored one after the other, and so are the bytes
--- that stand for themselves in front of the body and those of the rest.
+-- that stand for themselves at the front of the body and those of the rest.
 -- Assumes nothing.
 use Prim.Native.Nat.{_+_, _≤_}
 use mathlib.Core.Path.{_≡_, ap, _∙_}

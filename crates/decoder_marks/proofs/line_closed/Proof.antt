@@ -1,4 +1,4 @@
--- `line_closed` is right because behind the start the last byte is asked.
+-- `line_closed` is right because after the start the last byte is asked.
 -- Assumes nothing.
 use borrow.Author.Needs.{needs}
 use Rattle.decoder_rules.proofs.MarkLaws.{closed-none, closed-by}

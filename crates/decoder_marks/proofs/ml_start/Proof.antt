@@ -1,4 +1,4 @@
--- `ml_start` is right because the newline is looked for behind the opening, or at byte 0 where that is missing.
+-- `ml_start` is right because the newline is looked for after the opening, or at byte 0 where that is missing.
 -- Assumes nothing.
 use mathlib.Core.Path.{_∙_}
 use native.Mathlib.Omega.{arith}

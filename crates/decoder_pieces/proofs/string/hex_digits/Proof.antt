@@ -1,4 +1,4 @@
--- `hex_digits` is right because the digits that are read are those in front, and their number is at hand.
+-- `hex_digits` is right because the digits that are read are those at the front, and their number is at hand.
 -- Assumes nothing.
 use Prim.Native.Nat.{_-_}
 use native.Mathlib.Omega.{arith}

@@ -1,4 +1,4 @@
--- `Body::step` is right because the piece in front is the rule's, and takes no more than there is.
+-- `Body::step` is right because the piece at the front is the rule's, and takes no more than there is.
 -- Assumes nothing.
 use Prim.Native.Nat.{_+_, _≤_}
 use mathlib.Core.Path.{ap}
