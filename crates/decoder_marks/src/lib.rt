@@ -8,7 +8,7 @@ ghost use lib.ListN.{length};
 ghost use Rattle.decoder_rules.specs.Encodings.{markError};
 ghost use Rattle.decoder_rules.specs.Decoding.{missing};
 ghost use Rattle.decoder_marks.specs.Opening.{openedOf};
-ghost use Rattle.decoder_rules.specs.Marks.{lineOpened, lineStart, lineClosed, lineEnd, lineEnds, threes, mlStart, mlClosed, trimmed, mlEnd, mlEnds, keyEnds, endsOf};
+ghost use Rattle.decoder_rules.specs.Marks.{lineOpened, lineStart, lineClosed, lineEnd, lineEnds, mlStart, mlClosed, trimmed, mlEnd, mlEnds, keyEnds, endsOf};
 
 mod choice;
 
@@ -20,6 +20,9 @@ use decoder_rules::Encoding;
 use decoder_rules::Ends;
 use decoder_rules::Verdict;
 use lexer_token::Span;
+use text_classes::APOSTROPHE;
+use text_classes::QUOTATION_MARK;
+use text_classes::is_triple;
 
 // A text that is opened: what is wrong with its opening mark, and with its closing one, and the body between them.
 pub struct Opened {
@@ -128,22 +131,6 @@ fn line_ends(q: u8, t: &[u8]) -> Ends
     }
 }
 
-// Three marks q at the front?
-fn has_threes(q: u8, s: &[u8]) -> bool
-    ensures { λ r. ⌜ r ≡ threes q (now (s .entry)) ⌝ }
-{
-    if s.len() < Span::ML_MARK {
-        return false;
-    }
-    if s[0] != q {
-        return false;
-    }
-    if s[1] != q {
-        return false;
-    }
-    s[2] == q
-}
-
 // Where the body starts, after the opening if it is there, and a newline.
 fn ml_start(opened: bool, t: &[u8]) -> usize
     requires { ⌜ (opened ≡ true → 3 ≤ length (now t)) ⌝ }
@@ -168,7 +155,7 @@ fn ml_closed(q: u8, start: usize, t: &[u8]) -> bool
     if z < start {
         return false;
     }
-    has_threes(q, &t[z..])
+    is_triple(t, z, q)
 }
 
 // The length without the marks at the end.
@@ -203,7 +190,7 @@ fn ml_end(trims: bool, q: u8, start: usize, t: &[u8], closed: bool) -> usize
 fn ml_ends(trims: bool, q: u8, t: &[u8]) -> Ends
     ensures { λ r. ⌜ r ≡ mlEnds trims q (now (t .entry)) ⌝ }
 {
-    let opened = has_threes(q, t);
+    let opened = is_triple(t, 0, q);
     let start = ml_start(opened, t);
     let closed = ml_closed(q, start, t);
     let end = ml_end(trims, q, start, t, closed);
@@ -230,10 +217,10 @@ pub fn ends_of(e: Encoding, t: &[u8]) -> Ends
     ensures { λ r. ⌜ r ≡ endsOf e (now (t .entry)) ⌝ }
 {
     match e {
-        Encoding::LiteralString => line_ends(b'\'', t),
-        Encoding::MlLiteralString => ml_ends(true, b'\'', t),
-        Encoding::BasicString(_) => line_ends(b'"', t),
-        Encoding::MlBasicString(_) => ml_ends(false, b'"', t),
+        Encoding::LiteralString => line_ends(APOSTROPHE, t),
+        Encoding::MlLiteralString => ml_ends(true, APOSTROPHE, t),
+        Encoding::BasicString(_) => line_ends(QUOTATION_MARK, t),
+        Encoding::MlBasicString(_) => ml_ends(false, QUOTATION_MARK, t),
         Encoding::UnquotedKey => key_ends(t),
     }
 }

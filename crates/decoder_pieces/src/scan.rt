@@ -10,6 +10,9 @@ ghost use Rattle.decoder_rules.specs.Encodings.{mlbPlain, basicInvalid, mlbInva
 ghost use Rattle.decoder_pieces.specs.Scan.{setOf, maskOf, isMarked, Wide, stopsOf, NoneSet};
 use decoder_rules::Encoding;
 use std::num::wrapping_sub_u8;
+use text_classes::APOSTROPHE;
+use text_classes::ESCAPE;
+use text_classes::QUOTATION_MARK;
 use text_classes::is_basic_unescaped;
 use text_classes::is_mlb_unescaped;
 use text_classes::is_wschar;
@@ -25,7 +28,7 @@ fn is_mlb_plain(b: u8) -> bool
     ensures { λ r. ⌜ r ≡ mlbPlain b ⌝ }
 {
     match b {
-        b'"' | b'\n' => true,
+        QUOTATION_MARK | b'\n' => true,
         _ => is_mlb_unescaped(b),
     }
 }
@@ -34,7 +37,7 @@ fn is_basic_invalid(b: u8) -> bool
     ensures { λ r. ⌜ r ≡ basicInvalid b ⌝ }
 {
     match b {
-        b'\\' => false,
+        ESCAPE => false,
         _ => !is_basic_unescaped(b),
     }
 }
@@ -43,7 +46,7 @@ fn is_mlb_invalid(b: u8) -> bool
     ensures { λ r. ⌜ r ≡ mlbInvalid b ⌝ }
 {
     match b {
-        b'\\' | b'\r' => false,
+        ESCAPE | b'\r' => false,
         _ => !is_mlb_plain(b),
     }
 }
@@ -213,16 +216,16 @@ fn stops_of(e: Encoding) -> Stops
 {
     match e {
         Encoding::LiteralString => Stops {
-            first: b'\'',
-            second: b'\'',
+            first: APOSTROPHE,
+            second: APOSTROPHE,
             low: 0x00,
             flip: 0x09,
             from: 0x01,
             span: 31,
         },
         Encoding::BasicString(_) => Stops {
-            first: b'"',
-            second: b'\\',
+            first: QUOTATION_MARK,
+            second: ESCAPE,
             low: 0x00,
             flip: 0x09,
             from: 0x01,
@@ -237,8 +240,8 @@ fn stops_of(e: Encoding) -> Stops
             span: 21,
         },
         Encoding::MlBasicString(_) => Stops {
-            first: b'\\',
-            second: b'\\',
+            first: ESCAPE,
+            second: ESCAPE,
             low: 0x09,
             flip: 0x00,
             from: 0x0B,

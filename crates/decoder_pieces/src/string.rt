@@ -33,6 +33,7 @@ use decoder_rules::Letter;
 use decoder_rules::Piece;
 use std::num::wrapping_sub_u8;
 use text::is_scalar;
+use text_classes::ESCAPE;
 use text_classes::is_wschar;
 
 // literal-string = apostrophe *literal-char apostrophe
@@ -88,7 +89,7 @@ pub(crate) fn decode_basic_string(v: Edition, s: &[u8], at: usize) -> Piece
     requires { ⌜ (0 < length (now s)) × (at + length (now s) < 2 ^ 64) ⌝ }
     ensures { λ r. ⌜ r ≡ basicPiece v at (now (s .entry)) ⌝ }
 {
-    if s[0] == b'\\' {
+    if s[0] == ESCAPE {
         return escape_seq_char(v, s, at);
     }
     let n = basic_unescaped(v, s);
@@ -131,7 +132,7 @@ fn no_escape() -> Escape
 pub fn escape_at(e: Encoding, s: &[u8]) -> Escape
     ensures { λ r. ⌜ r ≡ escapeAt e (now (s .entry)) ⌝ }
 {
-    if peek(s, 0) != b'\\' {
+    if peek(s, 0) != ESCAPE {
         return no_escape();
     }
     match e {
@@ -328,7 +329,7 @@ fn mlb_content(v: Edition, s: &[u8], at: usize) -> Piece
         return copy_piece(n);
     }
     let b = s[0];
-    if b == b'\\' {
+    if b == ESCAPE {
         if is_skipped(peek(s, 1)) {
             return mlb_escaped_nl(s, at);
         }

@@ -19,6 +19,9 @@ use std::num::wrapping_add_u8;
 use std::num::wrapping_sub_u8;
 use text::LIMIT;
 use text::wide_at;
+use text_classes::APOSTROPHE;
+use text_classes::ESCAPE;
+use text_classes::QUOTATION_MARK;
 
 // Copies the body of such a text to the front of the output, and says how many bytes that is. Of any
 // other text, and where there is no room, nothing is copied, and all its bytes are counted.
@@ -26,8 +29,8 @@ pub fn copy_plain(kind: usize, text: &[u8], output: &mut [u8]) -> usize
     ensures { λ r. ⌜ Copied (Plain kind (now (text .entry))) (now (text .entry)) (now (output .entry)) r (now (output .exit)) ⌝ }
 {
     match kind {
-        TokenKind::LITERAL_STRING => copy_line(b'\'', b'\'', text, output),
-        TokenKind::BASIC_STRING => copy_line(b'"', b'\\', text, output),
+        TokenKind::LITERAL_STRING => copy_line(APOSTROPHE, APOSTROPHE, text, output),
+        TokenKind::BASIC_STRING => copy_line(QUOTATION_MARK, ESCAPE, text, output),
         _ => text.len(),
     }
 }

@@ -14,8 +14,10 @@ use Rattle.text_classes.proofs.Conds.{cond-case, by-eq, both-left, both-right}
 use Rattle.decoder_rules.specs.declared.Encoding.{Encoding}
 use Rattle.decoder_rules.specs.declared.Encoding.the-variants.{LiteralString, BasicString, MlLiteralString, MlBasicString, UnquotedKey}
 use Rattle.decoder_rules.specs.declared.Ends.{Ends}
-use Rattle.decoder_rules.specs.Marks.{lineOpened, lineStart, lineClosed, lineEnd, lineEnds, threes, newlineLen, mlStart, mlClosed, trimmed, mlEnd, mlEnds, keyEnds, endsOf}
+use Rattle.decoder_rules.specs.Marks.{lineOpened, lineStart, lineClosed, lineEnd, lineEnds, newlineLen, mlStart, mlClosed, trimmed, mlEnd, mlEnds, keyEnds, endsOf}
+use Rattle.text_classes.specs.Runs.{triple}
 use Rattle.text_classes.proofs.RunLaws.{there}
+use Rattle.text_classes.proofs.TripleLaws.{triple-fits}
 use Rattle.decoder_rules.proofs.PlaceForms.{newline-len-is}
 
 -- ---- one mark at each end
@@ -48,27 +50,6 @@ module _ (q : ℕ) (t : List ℕ) where
 
 -- ---- three marks at each end
 
-module _ (q : ℕ) (s : List ℕ) where
-  pub threes-short : length s < 3 → false ≡ threes q s
-  unfolding threes
-  threes-short h = simp (lt-leb 3 (length s) h)
-
-  pub threes-first : 3 ≤ length s → (getD s 0 0 ≡ q → ⊥) → false ≡ threes q s
-  unfolding threes
-  threes-first l a = simp (le-leb 3 (length s) l, ne-eqb _ q a)
-
-  pub threes-second : 3 ≤ length s → getD s 0 0 ≡ q → (getD s 1 0 ≡ q → ⊥) → false ≡ threes q s
-  unfolding threes
-  threes-second l a b = simp (le-leb 3 (length s) l, eq-eqb _ q a, ne-eqb _ q b)
-
-  pub threes-is : 3 ≤ length s → getD s 0 0 ≡ q → getD s 1 0 ≡ q → eqb (getD s 2 0) q ≡ threes q s
-  unfolding threes
-  threes-is l a b = simp (le-leb 3 (length s) l, eq-eqb _ q a, eq-eqb _ q b)
-
-  pub threes-long : threes q s ≡ true → 3 ≤ length s
-  unfolding threes
-  threes-long e = leb-true 3 (length s) (both-left (leb 3 (length s)) _ e)
-
 pub newline-le : (s : List ℕ) → newlineLen s ≤ length s
 newline-le s =
     rw newline-len-is
@@ -96,7 +77,7 @@ module _ (q a : ℕ) (t : List ℕ) where
   unfolding mlClosed
   closed-not h = simp (lt-leb (a + 3) (length t) h)
 
-  pub closed-is : a + 3 ≤ length t → threes q (drop (length t - 3) t) ≡ mlClosed q a t
+  pub closed-is : a + 3 ≤ length t → triple q (drop (length t - 3) t) ≡ mlClosed q a t
   unfolding mlClosed
   closed-is h = simp (le-leb (a + 3) (length t) h)
 
@@ -104,9 +85,9 @@ module _ (q a : ℕ) (t : List ℕ) where
   unfolding mlClosed
   closed-long e = leb-true (a + 3) (length t) (both-left (leb (a + 3) (length t)) _ e)
 
-  pub closed-threes : mlClosed q a t ≡ true → threes q (drop (length t - 3) t) ≡ true
+  pub closed-triple : mlClosed q a t ≡ true → triple q (drop (length t - 3) t) ≡ true
   unfolding mlClosed
-  closed-threes e = both-right (leb (a + 3) (length t)) _ e
+  closed-triple e = both-right (leb (a + 3) (length t)) _ e
 
   pub end-closed : (trims : Bool) → length t - 3 ≡ mlEnd trims q a t true
   unfolding mlEnd
@@ -121,7 +102,7 @@ module _ (q a : ℕ) (t : List ℕ) where
   end-whole = refl
 
 pub ml-is : (trims : Bool) (q : ℕ) (t : List ℕ) (o c : Bool) (a e : ℕ)
-    → o ≡ threes q t → a ≡ mlStart o t → c ≡ mlClosed q a t → e ≡ mlEnd trims q a t c
+    → o ≡ triple q t → a ≡ mlStart o t → c ≡ mlClosed q a t → e ≡ mlEnd trims q a t c
     → record { opened = o; closed = c; start = a; end = e } ≡ mlEnds trims q t
 unfolding mlEnds
 ml-is trims q t o c a e eo ea ec ee = rw (ee, ec, ea, eo)
@@ -186,8 +167,8 @@ end-within false q a t false h l = omega (arith, end-whole q a t)
 ml-within : (trims : Bool) (q : ℕ) (t : List ℕ) → Within (mlEnds trims q t) t
 unfolding mlEnds
 ml-within trims q t =
-    let a = mlStart (threes q t) t in
-    end-within trims q a t (mlClosed q a t) (start-le t (threes q t) (threes-long q t)) (closed-long q a t)
+    let a = mlStart (triple q t) t in
+    end-within trims q a t (mlClosed q a t) (start-le t (triple q t) (triple-fits q t)) (closed-long q a t)
 
 key-within : (t : List ℕ) → Within (keyEnds t) t
 unfolding keyEnds

@@ -13,7 +13,7 @@ use lib.ListN.{length, take, drop, getD, take-append-drop, length-drop}
 use lib.Seq.{take-length, getD-drop, drop-drop}
 use borrow.Author.Tests.{eqb-true, ltb-true}
 use Rattle.text_classes.specs.Classes.{wschar, hexdig, literalChar, basicUnescaped, unquotedChar}
-use Rattle.text_classes.specs.Runs.{run, firstIs, stands}
+use Rattle.text_classes.specs.Runs.{run, firstIs, stands, triple}
 use Rattle.text_classes.proofs.Conds.{cond-case, by-lt, by-eq, both-left, both-right}
 use Rattle.text.specs.Utf8.{Scalar, Utf8}
 use Rattle.text.specs.Utf8Read.{isScalar}
@@ -32,15 +32,16 @@ use Rattle.decoder_rules.specs.Encodings.{mllPlain, mlbPlain, basicInval
 use Rattle.decoder_rules.specs.Pieces.{gives, Pieces, collect}
 use Rattle.decoder_rules.specs.Escapes.{letterAt, hexFrom, hexPiece, escapeBy, escapePiece}
 use Rattle.decoder_rules.specs.Bodies.{literalPiece, mlLiteralPiece, basicPiece, skips, escapedNl, escapedMore, mlbContent, mlBasicPiece, keyPiece, pieceOf}
-use Rattle.decoder_rules.specs.Marks.{lineOpened, lineClosed, lineEnds, threes, newlineLen, mlStart, mlClosed, trimmed, mlEnd, mlEnds, keyEnds, endsOf, bodyOf}
+use Rattle.decoder_rules.specs.Marks.{lineOpened, lineClosed, lineEnds, newlineLen, mlStart, mlClosed, trimmed, mlEnd, mlEnds, keyEnds, endsOf, bodyOf}
 use Rattle.decoder_rules.specs.Decoding.{bytesOf}
 use Rattle.text_classes.proofs.RunLaws.{there}
+use Rattle.text_classes.proofs.TripleLaws.{triple-bytes, triple-fits}
 use Rattle.decoder_rules.proofs.PlaceForms.{basic-piece-is, lineBy, escaped-nl-is, escaped-more-is, content-is, ml-basic-piece-is, newline-len-is}
 use Rattle.decoder_rules.proofs.PieceLaws.{gives-copy}
 use Rattle.decoder_rules.proofs.Fine.{Fine}
 use Rattle.decoder_rules.proofs.EscapeLaws.{stands-fit, asks-fit}
 use Rattle.decoder_rules.proofs.BodyLaws.{piece-fine}
-use Rattle.decoder_rules.proofs.MarkLaws.{ends-within, threes-long, closed-long, closed-threes}
+use Rattle.decoder_rules.proofs.MarkLaws.{ends-within, closed-long, closed-triple}
 use Rattle.decoder_rules.proofs.AsciiLaws.{EndsAt, basic-high, mlb-high, basic-invalid-low, mlb-invalid-low, wschar-low, hexdig-low, skips-low, nil-utf8, front-one, front-add, front-low, front-high, behind-at, between}
 
 -- ---- bodies that are given as they stand
@@ -265,21 +266,17 @@ newline-utf8 s =
 
 module _ (q : ℕ) (low : q < 0x80) where
   -- three marks at the front
-  threes-front : (s : List ℕ) → threes q s ≡ true → (getD s 0 0 ≡ q) × Utf8 (take 3 s)
-  unfolding threes
-  threes-front s e =
-      let a = both-right (lib.Dec.leb 3 (length s)) _ e in
-      let x = eqb-true (getD s 0 0) q (both-left (eqb (getD s 0 0) q) _ a) in
-      let b = both-right (eqb (getD s 0 0) q) _ a in
-      let y = eqb-true (getD s 1 0) q (both-left (eqb (getD s 1 0) q) _ b) in
-      let z = eqb-true (getD s 2 0) q (both-right (eqb (getD s 1 0) q) _ b) in
-      let l = threes-long q s e in
-      let f : getD (drop 1 s) 0 0 ≡ q = getD-drop 1 s 0 0 ∙ y in
-      let g : getD (drop 2 s) 0 0 ≡ q = getD-drop 2 s 0 0 ∙ z in
+  triple-front : (s : List ℕ) → triple q s ≡ true → (getD s 0 0 ≡ q) × Utf8 (take 3 s)
+  triple-front s e =
+      let marks = triple-bytes q s e in
+      let first = marks .0 in
+      let long = triple-fits q s e in
+      let second : getD (drop 1 s) 0 0 ≡ q = getD-drop 1 s 0 0 ∙ marks .1 in
+      let third : getD (drop 2 s) 0 0 ≡ q = getD-drop 2 s 0 0 ∙ marks .2 in
       let long-1 : 0 < length (drop 1 s) = omega (arith, length-drop 1 s) in
       let long-2 : 0 < length (drop 2 s) = omega (arith, length-drop 2 s) in
       let two-in = front-add 1 1 s (front-one s (omega arith) (omega arith)) (front-one (drop 1 s) long-1 (omega arith)) in
-      (x, front-add 2 1 s two-in (front-one (drop 2 s) long-2 (omega arith)))
+      (first, front-add 2 1 s two-in (front-one (drop 2 s) long-2 (omega arith)))
 
   trimmed-ends : (s : List ℕ) → EndsAt (λ b. b ≡ q) s (trimmed q s)
   unfolding trimmed
@@ -297,16 +294,16 @@ module _ (q : ℕ) (low : q < 0x80) where
       go false y p m (inr i) = inr (omega (arith, i .0), i .1)
 
   module _ (t : List ℕ) (u : Utf8 t) where
-    start-utf8 : (o : Bool) → (o ≡ true → threes q t ≡ true) → Utf8 (take (mlStart o t) t)
+    start-utf8 : (o : Bool) → (o ≡ true → triple q t ≡ true) → Utf8 (take (mlStart o t) t)
     unfolding mlStart
-    start-utf8 true h = front-add 3 (newlineLen (drop 3 t)) t (threes-front t (h refl) .1) (newline-utf8 (drop 3 t))
+    start-utf8 true h = front-add 3 (newlineLen (drop 3 t)) t (triple-front t (h refl) .1) (newline-utf8 (drop 3 t))
     start-utf8 false h = front-add 0 (newlineLen t) t nil-utf8 (newline-utf8 t)
 
     end-utf8 : (trims : Bool) (a : ℕ) (c : Bool) → (c ≡ true → mlClosed q a t ≡ true) → Utf8 (take (mlEnd trims q a t c) t)
     unfolding mlEnd
     end-utf8 trims a true h =
         let l = closed-long q a t (h refl) in
-        let e = threes-front (drop (length t - 3) t) (closed-threes q a t (h refl)) .0 in
+        let e = triple-front (drop (length t - 3) t) (closed-triple q a t (h refl)) .0 in
         let n = length t - 3 in
         let f : getD t n 0 ≡ q = ap (λ (n : ℕ). getD t n 0) (sym (add-zero n)) ∙ sym (getD-drop n t 0 0) ∙ e in
         cut-mark t q n low u (omega arith) f
@@ -324,8 +321,8 @@ module _ (q : ℕ) (low : q < 0x80) where
     ml-utf8 : (trims : Bool) → Utf8 (take (mlEnds trims q t .start) t) × Utf8 (take (mlEnds trims q t .end) t)
     unfolding mlEnds
     ml-utf8 trims =
-        let a = mlStart (threes q t) t in
-        (start-utf8 (threes q t) (λ e. e), end-utf8 trims a (mlClosed q a t) (λ e. e))
+        let a = mlStart (triple q t) t in
+        (start-utf8 (triple q t) (λ e. e), end-utf8 trims a (mlClosed q a t) (λ e. e))
 
 key-utf8 : (t : List ℕ) → Utf8 t → Utf8 (take (keyEnds t .start) t) × Utf8 (take (keyEnds t .end) t)
 unfolding keyEnds

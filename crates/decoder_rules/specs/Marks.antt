@@ -3,7 +3,7 @@
 use Prim.Native.Nat.{ℕ, suc, _+_, _-_}
 use mathlib.Core.{Bool.Bool, Bool.true, Bool.false, Bool.cond, Bool._&&_, List.List, List.[], List._∷_}
 use lib.{Dec.eqb, Dec.leb, Dec.ltb, ListN.length, ListN.take, ListN.drop, ListN.getD}
-use Rattle.text_classes.specs.{Runs.stands}
+use Rattle.text_classes.specs.{Runs.stands, Runs.triple}
 use Rattle.decoder_rules.specs.declared.{Encoding.Encoding, Encoding.the-variants.LiteralString, Encoding.the-variants.BasicString, Encoding.the-variants.MlLiteralString, Encoding.the-variants.MlBasicString, Encoding.the-variants.UnquotedKey, Ends.Ends}
 
 -- ---- one mark q at each end
@@ -28,10 +28,6 @@ lineEnds q t =
     record { opened = lineOpened q t; closed = lineClosed start q t; start = start; end = lineEnd (lineClosed start q t) t }
 
 -- ---- three marks q at each end, and a newline after the opening
--- three marks at the front
-unfoldable pub threes : ℕ → List ℕ → Bool
-threes q s = leb 3 (length s) && (eqb (getD s 0 0) q && (eqb (getD s 1 0) q && eqb (getD s 2 0) q))
-
 -- how long a newline at the front is: LF, or CR LF
 unfoldable pub newlineLen : List ℕ → ℕ
 newlineLen s = cond (stands 0x0A s) 1 (cond (stands 0x0D s && stands 0x0A (drop 1 s)) 2 0)
@@ -42,7 +38,7 @@ mlStart opened t = cond opened 3 0 + newlineLen (drop (cond opened 3 0) t)
 
 -- three marks at the end, none of them before the body's start
 unfoldable pub mlClosed : ℕ → ℕ → List ℕ → Bool
-mlClosed q start t = leb (start + 3) (length t) && threes q (drop (length t - 3) t)
+mlClosed q start t = leb (start + 3) (length t) && triple q (drop (length t - 3) t)
 
 -- the length without the marks at the end
 unfoldable pub trimmed : ℕ → List ℕ → ℕ
@@ -55,9 +51,9 @@ mlEnd trims q start t closed = cond closed (length t - 3) (cond trims (start + t
 
 unfoldable pub mlEnds : Bool → ℕ → List ℕ → Ends
 mlEnds trims q t =
-    let start : ℕ = mlStart (threes q t) t in
+    let start : ℕ = mlStart (triple q t) t in
     record {
-      opened = threes q t;
+      opened = triple q t;
       closed = mlClosed q start t;
       start = start;
       end = mlEnd trims q start t (mlClosed q start t);

@@ -1,10 +1,10 @@
 -- A token's kind and end at a place of the document.
 -- Assumes nothing.
 use Prim.Native.Nat.{ℕ, _<_}
-use mathlib.Core.Path.{_≡_, refl, ap}
-use mathlib.Core.Bool.{Bool, true, false, _||_}
-use mathlib.Core.List.{List}
-use borrow.Author.Tests.{eqb-true}
+use mathlib.Core.Path.{_≡_, ap}
+use mathlib.Core.Bool.{Bool, true}
+use mathlib.Core.List.{List, [], _∷_}
+use borrow.Author.Tests.{eqb-true, ne-eqb}
 use lib.Dec.{eqb}
 use lib.ListN.{length, getD, drop}
 use lib.Seq.{drop-cons}
@@ -14,7 +14,7 @@ use Rattle.lexer_token.specs.declared.TokenKind.{TokenKind}
 use Rattle.lexer_token.specs.declared.TokenKind.the-variants.{Dot, Equals, Comma, LeftSquareBracket, RightSquareBracket, LeftCurlyBracket, RightCurlyBracket, Whitespace, Comment, Newline, LiteralString, BasicString, MlLiteralString, MlBasicString, Atom}
 use Rattle.lexer_token.specs.Records.{tokenOf}
 use Rattle.lexer_scans.specs.Extents.{eol}
-use Rattle.lexer_scans.specs.Extents.{triple}
+use Rattle.text_classes.specs.Runs.{triple}
 use Rattle.lexer.specs.Table.{kindBy, kindOf, tokenLen}
 use Rattle.lexer.specs.Tokens.{tokenBy, tokenAt}
 
@@ -34,27 +34,36 @@ pub token-there : (k : TokenKind) (doc : List ℕ) (at line : ℕ) → at < leng
 unfolding tokenLen
 token-there k doc at line h e = rw (kind-at doc at h, e)
 
--- a space or a tab begins whitespace
-pub ws-there : (doc : List ℕ) (at : ℕ) → wschar (getD doc at 0) ≡ true → KindThere doc at Whitespace
+-- b is none of some bytes
+abbrev pub NoneOf : ℕ → List ℕ → Type 0
+NoneOf b [] = Unit {0}
+NoneOf b (k ∷ ks) = NoneOf b ks × (b ≡ k → ⊥)
+
+-- what begins no other kind begins an atom
+pub atom-by : (b : ℕ) (three : Bool)
+    → NoneOf b (34 ∷ 39 ∷ 10 ∷ 13 ∷ 35 ∷ 9 ∷ 32 ∷ 125 ∷ 123 ∷ 93 ∷ 91 ∷ 44 ∷ 61 ∷ 46 ∷ []) → kindBy b three ≡ Atom
 unfolding kindBy wschar
-ws-there doc at w = go (eqb b 32) refl
-  where
-    b : ℕ
-    b = getD doc at 0
+atom-by b three r =
+    simp (
+      ne-eqb b 34 (r .1),
+      ne-eqb b 39 (r .0 .1),
+      ne-eqb b 10 (r .0 .0 .1),
+      ne-eqb b 13 (r .0 .0 .0 .1),
+      ne-eqb b 35 (r .0 .0 .0 .0 .1),
+      ne-eqb b 9 (r .0 .0 .0 .0 .0 .1),
+      ne-eqb b 32 (r .0 .0 .0 .0 .0 .0 .1),
+      ne-eqb b 125 (r .0 .0 .0 .0 .0 .0 .0 .1),
+      ne-eqb b 123 (r .0 .0 .0 .0 .0 .0 .0 .0 .1),
+      ne-eqb b 93 (r .0 .0 .0 .0 .0 .0 .0 .0 .0 .1),
+      ne-eqb b 91 (r .0 .0 .0 .0 .0 .0 .0 .0 .0 .0 .1),
+      ne-eqb b 44 (r .0 .0 .0 .0 .0 .0 .0 .0 .0 .0 .0 .1),
+      ne-eqb b 61 (r .0 .0 .0 .0 .0 .0 .0 .0 .0 .0 .0 .0 .1),
+      ne-eqb b 46 (r .0 .0 .0 .0 .0 .0 .0 .0 .0 .0 .0 .0 .0 .1),
+    )
 
-    go : (t : Bool) → eqb b 32 ≡ t → KindThere doc at Whitespace
-    go true t = let e : getD doc at 0 ≡ 32 = eqb-true b 32 t in rw e
-    go false t =
-        let tab : (false || eqb b 9) ≡ true = rw t at w in
-        let e : getD doc at 0 ≡ 9 = eqb-true b 9 tab in
-        rw e
-
--- the same token by an equal end, or by an equal kind
+-- the same token by an equal end
 pub end-is : {k : TokenKind} {at line e f : ℕ} → e ≡ f → tokenOf k at e line ≡ tokenOf k at f line
 end-is {k} {at} {line} e = ap (λ (n : ℕ). tokenOf k at n line) e
-
-pub kind-is : {j k : TokenKind} {at end line : ℕ} → j ≡ k → tokenOf j at end line ≡ tokenOf k at end line
-kind-is {j} {k} {at} {end} {line} e = ap (λ (i : TokenKind). tokenOf i at end line) e
 
 -- the kinds in turn: what holds of each kind under its test holds of the kind by a first byte
 pub by-kind : (P : TokenKind → Type 0) (b : ℕ) (three : Bool)

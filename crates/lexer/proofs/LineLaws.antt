@@ -13,20 +13,20 @@ use lib.Dec.{eqb}
 use lib.ListN.{length, getD, take, drop, drop-of-length-le, length-take, length-drop}
 use lib.Seq.{drop-cons, drop-drop, getD-drop, getD-take, take-length}
 use Rattle.text_classes.specs.Classes.{wschar, tokenStart}
-use Rattle.text_classes.specs.Runs.{run, stands}
+use Rattle.text_classes.specs.Runs.{run, stands, triple}
 use Rattle.text_classes.proofs.Conds.{cond-case, both-left, both-right, not-both}
 use Rattle.text_classes.proofs.RunLaws.{there}
 use Rattle.lexer_token.specs.declared.TokenKind.{TokenKind}
 use Rattle.lexer_token.specs.declared.TokenKind.the-variants.{Dot, Equals, Comma, LeftSquareBracket, RightSquareBracket, LeftCurlyBracket, RightCurlyBracket, Whitespace, Comment, Newline, LiteralString, BasicString, MlLiteralString, MlBasicString, Atom, Eof}
 use Rattle.lexer_scans.specs.Extents.{hides, closes, inComment, inAtom}
-use Rattle.lexer_scans.specs.Extents.{lineTail, triple, newlineTail}
+use Rattle.lexer_scans.specs.Extents.{lineTail, newlineTail}
 use Rattle.lexer.specs.Lines.{lineFeeds, lineBehind}
 use Rattle.lexer.specs.Tokens.{hasBom, startOf}
 use Rattle.lexer.specs.Table.{kindBy, kindOf, extent, tokenLen}
 use Rattle.lexer_scans.proofs.MarkLaws.{stands-at}
 use Rattle.lexer.proofs.KindLaws.{by-kind}
 
--- ---- a byte in front
+-- ---- a byte at the front
 
 pub lf-front : (b : ℕ) (s : List ℕ) → b ≡ 10 → lineFeeds (b ∷ s) ≡ suc (lineFeeds s)
 unfolding lineFeeds

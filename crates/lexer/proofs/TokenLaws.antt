@@ -10,18 +10,18 @@ use lib.Dec.{eqb}
 use lib.ListN.{length, getD, take, drop, drop-of-length-le, length-drop}
 use lib.Seq.{drop-drop}
 use Rattle.text_classes.specs.Classes.{wschar}
-use Rattle.text_classes.specs.Runs.{stands}
+use Rattle.text_classes.specs.Runs.{stands, triple}
 use Rattle.text_classes.proofs.Conds.{cond-case, both-right}
 use Rattle.text_classes.proofs.RunLaws.{run-le, there}
 use Rattle.text_classes.proofs.FirstLaws.{first-within}
 use Rattle.lexer_token.specs.declared.TokenKind.{TokenKind}
 use Rattle.lexer_token.specs.declared.Token.{Token}
 use Rattle.lexer_scans.specs.Extents.{hides, closes, inComment, inAtom}
-use Rattle.lexer_scans.specs.Extents.{lineTail, triple, upToTwo, mlTail, newlineTail}
+use Rattle.lexer_scans.specs.Extents.{lineTail, upToTwo, mlTail, newlineTail}
 use Rattle.lexer.specs.Lines.{lineFeeds, lineBehind}
 use Rattle.lexer.specs.Table.{kindOf, extent, tokenLen}
 use Rattle.lexer.specs.Tokens.{tokenAt, eofAt, lineAfter, walk, tokensFrom, hasBom, startOf, tokensOf}
-use Rattle.lexer_scans.proofs.MarkLaws.{triple-fits}
+use Rattle.text_classes.proofs.TripleLaws.{triple-fits}
 use Rattle.lexer.proofs.KindLaws.{by-kind}
 use Rattle.lexer.proofs.LineLaws.{feeds-none, behind-front, feeds-taken, mark-bytes}
 
@@ -106,7 +106,7 @@ walk-pass (suc n) at line b s h l =
     walk-skip n (at + 1) (lineBehind line b) s (omega arith) ∙ same-walk (drop n s) (omega arith) (behind-front line b (take n s))
 
 -- What `walk` says, without its counter: the tokens of no bytes are Eof; those of others are the first token, then the
--- tokens of what is left behind it.
+-- tokens of what is left after it.
 pub tokens-none : (at line : ℕ) → tokensFrom at line [] ≡ eofAt at line ∷ []
 unfolding tokensFrom walk
 tokens-none at line = refl
@@ -145,7 +145,7 @@ module _ (doc : List ℕ) (at : ℕ) where
   pub token-long-at : at < length doc → 0 < tokenLen (drop at doc)
   token-long-at h = token-long (drop at doc) (omega (arith, length-drop at doc))
 
-  -- a line that does not pass its place plus 1 does not behind the token either
+  -- a line that does not pass its place plus 1 does not after the token either
   pub line-fits-at : (line : ℕ) → line ≤ at + 1 → lineAfter line (drop at doc) ≤ at + tokenLen (drop at doc) + 1
   line-fits-at line h = omega (arith, feeds-taken (tokenLen (drop at doc)) (drop at doc))
 

@@ -14,7 +14,7 @@ use Rattle.lexer_token.specs.Records.{recordOf}
 use Rattle.lexer.specs.Lines.{lineFeeds, lineBehind}
 use Rattle.lexer.specs.Table.{tokenLen}
 use Rattle.lexer.specs.Tokens.{tokenAt, eofAt, lineAfter, walk, tokensFrom, startOf, tokensOf}
-use Rattle.lexer.specs.Loops.{before, tokensUntil, linePast, lineUntil, GoesOn, store}
+use Rattle.lexer.specs.Loops.{before, tokensUntil, linePast, lineUntil, placePast, placeUntil, GoesOn, store}
 use Rattle.lexer.proofs.TokenLaws.{endAt, tokens-step, tokens-end, token-fits-at, token-long-at, line-fits-at, start-fits}
 use Rattle.lexer.proofs.LineLaws.{feeds-none, feeds-end, feeds-split, behind-front}
 
@@ -81,7 +81,7 @@ walk-until at line (suc k) (b ∷ s) =
     let on = lineBehind line b in
     all-by (walk (at + 1) on k s) (omega arith) (behind-front line b s) (walk-until (at + 1) on k s)
 
--- Eof, on the line behind all LFs
+-- Eof, on the line after all LFs
 abbrev pub eofOf : List ℕ → Token
 eofOf doc = eofAt (length doc) (1 + lineFeeds (drop (startOf doc) doc))
 
@@ -99,7 +99,7 @@ until-all doc =
 pub until-count : (doc : List ℕ) → length (tokensBefore doc) + 1 ≡ length (tokensOf doc)
 until-count doc = sym (ap length (until-all doc) ∙ length-append (tokensBefore doc) (eofOf doc ∷ []))
 
--- ---- the line behind them
+-- ---- the line after them
 
 pub past-step : (doc : List ℕ) (at line : ℕ) (ts : List Token)
     → linePast doc line (tokenAt at line (drop at doc) ∷ ts) ≡ linePast doc (lineAfter line (drop at doc)) ts
@@ -113,7 +113,7 @@ pub past-none : (doc : List ℕ) (line : ℕ) → linePast doc line [] ≡ line
 unfolding linePast
 past-none doc line = refl
 
--- the line behind the tokens from a place to the end counts the LFs from there on
+-- the line after the tokens from a place to the end counts the LFs from there on
 abbrev PastAll : List ℕ → ℕ → ℕ → Type 0
 PastAll doc at line = lineUntil (length doc) at line doc ≡ line + lineFeeds (drop at doc)
 
@@ -138,6 +138,17 @@ past-from (suc n) doc at line h l =
 pub past-all : (doc : List ℕ) (at line : ℕ) → at ≤ length doc → PastAll doc at line
 past-all doc at line h = past-from (length doc) doc at line h (omega arith)
 
+-- ---- the place after them
+
+pub ends-step : (doc : List ℕ) (at line : ℕ) (ts : List Token)
+    → placePast at (tokenAt at line (drop at doc) ∷ ts) ≡ placePast (endAt doc at) ts
+unfolding placePast
+ends-step doc at line ts = refl
+
+pub ends-none : (at : ℕ) → placePast at [] ≡ at
+unfolding placePast
+ends-none at = refl
+
 -- ---- a loop over them
 
 module _ (doc : List ℕ) (stop start first : ℕ) (old : List (List ℕ)) where
@@ -150,16 +161,18 @@ module _ (doc : List ℕ) (stop start first : ℕ) (old : List (List ℕ)) where
     pub counts : (end : ℕ) → stop ≤ end → end ≤ length doc
         → n + length (tokensUntil end at line doc) ≡ length (tokensUntil end start first doc)
     pub behind : lineUntil stop at line doc ≡ lineUntil stop start first doc
+    pub ends : placeUntil stop at line doc ≡ placeUntil stop start first doc
     pub stores : store stop at line doc n new ≡ store stop start first doc 0 old
 
   -- a turn stores the first of the tokens still to come
-  pub turned : {at line n : ℕ} {new : List (List ℕ)} → Underway at line n new → at < stop → stop ≤ length doc
+  turned : {at line n : ℕ} {new : List (List ℕ)} → Underway at line n new → at < stop → stop ≤ length doc
       → Underway (endAt doc at) (lineAfter line (drop at doc)) (n + 1) (set new n (recordOf (tokenAt at line (drop at doc))))
   turned {at} {line} {n} {new} u h l =
       let here = recordOf (tokenAt at line (drop at doc)) in
       let rest = tokensUntil stop (endAt doc at) (lineAfter line (drop at doc)) doc in
       let turn = until-step doc stop at line h l in
       let behind = sym (ap (linePast doc line) turn ∙ past-step doc at line rest) in
+      let ends = sym (ap (placePast at) turn ∙ ends-step doc at line rest) in
       record {
         within = token-fits-at doc at (u .within);
         few = omega (arith, token-long-at doc at (omega arith));
@@ -167,8 +180,15 @@ module _ (doc : List ℕ) (stop start first : ℕ) (old : List (List ℕ)) where
         room = length-set new n here ∙ u .room;
         counts = λ e p q. omega (arith, u .counts e p q, ap length (until-step doc e at line (omega (arith, p)) q));
         behind = behind ∙ u .behind;
+        ends = ends ∙ u .ends;
         stores = rw (add-one n) (ap (λ (ts : List Token). sets new n (map recordOf ts)) (sym turn) ∙ u .stores);
       }
+
+  -- the same by an equal place, line and record
+  pub turned-by : {at line n end behind : ℕ} {new : List (List ℕ)} {r : List ℕ} → Underway at line n new → at < stop → stop ≤ length doc
+      → end ≡ endAt doc at → behind ≡ lineAfter line (drop at doc) → r ≡ recordOf (tokenAt at line (drop at doc))
+      → Underway end behind (n + 1) (set new n r)
+  turned-by u h l e b f = rw (e, b, f) (turned u h l)
 
   -- before the stop a record is left, where there are enough
   pub has-room : {at line n : ℕ} {new : List (List ℕ)} → Underway at line n new → at < stop → stop ≤ length doc
@@ -187,7 +207,13 @@ module _ (doc : List ℕ) (stop start first : ℕ) (old : List (List ℕ)) where
         (
           sym (ap (linePast doc line) done ∙ past-none doc line) ∙ u .behind,
           (
-            record { within = u .within; far = h; low = u .low; counts = u .counts },
+            record {
+              reached = sym (ap (placePast at) done ∙ ends-none at) ∙ u .ends;
+              within = u .within;
+              far = h;
+              low = u .low;
+              counts = u .counts;
+            },
             ap (λ (ts : List Token). sets new n (map recordOf ts)) (sym done) ∙ u .stores,
           ),
         ),
@@ -195,7 +221,7 @@ module _ (doc : List ℕ) (stop start first : ℕ) (old : List (List ℕ)) where
 
 -- ---- stores
 
--- a run of stores to the front, and one more behind it
+-- a run of stores to the front, and one more after it
 pub sets-last : {A : Type 0} (old new : List A) (a : A) → length new + 1 ≤ length old
     → set (sets old 0 new) (length new) a ≡ (new ++ (a ∷ [])) ++ drop (length new + 1) old
 sets-last {A} old new a h =

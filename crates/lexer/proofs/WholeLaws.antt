@@ -1,4 +1,4 @@
--- Whole lexing, case by case: what the tokens that begin before the end, stored, and Eof behind them leave, and what each
+-- Whole lexing, case by case: what the tokens that begin before the end, stored, and Eof after them leave, and what each
 -- answer is.
 -- Assumes nothing.
 use Prim.Native.Nat.{ℕ, _+_, _≤_, _<_}
@@ -13,19 +13,14 @@ use Rattle.text.specs.declared.refusal.Refusal.{Refusal}
 use Rattle.text.specs.declared.refusal.Refusal.the-variants.{FewTokens}
 use Rattle.text.specs.declared.utf8.Utf8Check.the-variants.{Valid, Refused as Broken}
 use Rattle.lexer_token.specs.declared.Token.{Token}
-use Rattle.lexer_token.specs.declared.TokenKind.{TokenKind}
-use Rattle.lexer_token.specs.declared.KindRead.{KindRead}
-use Rattle.lexer_token.specs.declared.KindRead.the-variants.{Kind}
-use Rattle.lexer_token.specs.KindNumbers.{kindNumber, kindOfNumber}
 use Rattle.lexer_token.specs.Records.{recordOf}
-use Rattle.lexer_token.proofs.KindLaws.{kind-back}
-use Rattle.lexer.specs.Tokens.{tokenAt, eofAt, lineAfter, startOf}
+use Rattle.lexer.specs.Tokens.{eofAt, lineAfter, startOf}
 use Rattle.lexer.specs.Whole.{recordsOf, tokenCount, lexAnswer, lexMemory}
-use Rattle.lexer.specs.Loops.{tokensUntil, linePast, lineUntil, store, recordsOver}
+use Rattle.lexer.specs.Loops.{tokensUntil, linePast, lineUntil, placePast, placeUntil, store, recordsOver}
 use Rattle.lexer.specs.declared.TokensPassed.{TokensPassed}
 use Rattle.lexer.specs.declared.Lexed.the-variants.{Tokens, Refused}
-use Rattle.lexer.proofs.TokenLaws.{start-fits}
-use Rattle.lexer.proofs.UntilLaws.{eofOf, tokensBefore, until-one, until-all, until-count, past-step, past-none, past-all, sets-last}
+use Rattle.lexer.proofs.TokenLaws.{endAt, start-fits}
+use Rattle.lexer.proofs.UntilLaws.{eofOf, tokensBefore, until-one, until-all, until-count, past-step, past-none, past-all, ends-step, ends-none, sets-last}
 
 -- ---- filling
 
@@ -37,7 +32,7 @@ records-all doc = ap (map recordOf) (until-all doc) ∙ go (tokensBefore doc)
     go [] = refl
     go (t ∷ ts) = ap (λ (r : List (List ℕ)). recordOf t ∷ r) (go ts)
 
--- what a run over all tokens before Eof leaves: so many, the line behind them, and their records over the old ones
+-- what a run over all tokens before Eof leaves: so many, the line after them, and their records over the old ones
 pub record AllPassed (doc : List ℕ) (start : ℕ) (out : TokensPassed) (old new : List (List ℕ)) : Type 0 where
   pub by : start ≡ startOf doc
   pub count : out .count ≡ length (tokensUntil (length doc) start 1 doc)
@@ -54,7 +49,7 @@ module _ {doc : List ℕ} {start : ℕ} {out : TokensPassed} {old new : List (Li
   pub filled-length : length new ≡ length old
   filled-length = ap length (p .stores) ∙ length-sets old 0 (map recordOf (tokensUntil (length doc) start 1 doc))
 
-  -- Eof behind them makes the records of the document
+  -- Eof after them makes the records of the document
   pub filled : (r : List ℕ) → r ≡ recordOf (eofAt (length doc) (out .line)) → tokenCount doc ≤ length old
       → set new (out .count) r ≡ recordsOver doc old
   filled r f l =
@@ -72,24 +67,16 @@ module _ {doc : List ℕ} {start : ℕ} {out : TokensPassed} {old new : List (Li
       ∙ ap (λ (x : List (List ℕ)). x ++ drop (length rs + 1) old) (sym (records-all doc))
       ∙ ap (λ (k : ℕ). recordsOf doc ++ drop k old) size
 
--- ---- one record, read back
+-- ---- one token
 
-abbrev spare : List (List ℕ)
-spare = (0 ∷ 0 ∷ 0 ∷ 0 ∷ []) ∷ []
+module _ (doc : List ℕ) (at line n : ℕ) (h : at < length doc) where
+  pub one-line : n ≡ lineUntil (at + 1) at line doc → n ≡ lineAfter line (drop at doc)
+  one-line e =
+      let next = lineAfter line (drop at doc) in
+      e ∙ ap (linePast doc line) (until-one doc at line h) ∙ past-step doc at line [] ∙ past-none doc next
 
-pub one-record : (doc : List ℕ) (at line : ℕ) (new : List (List ℕ)) → at < length doc
-    → new ≡ store (at + 1) at line doc 0 spare → new ≡ recordOf (tokenAt at line (drop at doc)) ∷ []
-one-record doc at line new h e = e ∙ ap (λ (ts : List Token). sets spare 0 (map recordOf ts)) (until-one doc at line h)
-
-pub one-line : (doc : List ℕ) (at line n : ℕ) → at < length doc
-    → n ≡ lineUntil (at + 1) at line doc → n ≡ lineAfter line (drop at doc)
-one-line doc at line n h e =
-    let next = lineAfter line (drop at doc) in
-    e ∙ ap (linePast doc line) (until-one doc at line h) ∙ past-step doc at line [] ∙ past-none doc next
-
-module _ (k : TokenKind) (r : KindRead) (read : r ≡ kindOfNumber (kindNumber k)) where
-  pub read-back : (j : TokenKind) → r ≡ Kind j → j ≡ k
-  read-back j e = let back = kind-back k in cc
+  pub one-place : n ≡ placeUntil (at + 1) at line doc → n ≡ endAt doc at
+  one-place e = e ∙ ap (placePast at) (until-one doc at line h) ∙ ends-step doc at line [] ∙ ends-none (endAt doc at)
 
 -- ---- the answers
 

@@ -12,6 +12,6 @@ lineFeeds (b ∷ s) = cond (eqb b 0x0A) (suc (lineFeeds s)) (lineFeeds s)
 abbrev pub lineOf : List ℕ → ℕ → ℕ
 lineOf doc offset = 1 + lineFeeds (take offset doc)
 
--- the line behind one byte
+-- the line after one byte
 abbrev pub lineBehind : ℕ → ℕ → ℕ
 lineBehind line b = cond (eqb b 0x0A) (suc line) line

@@ -9,13 +9,11 @@ use lib.ListN.{length, take, drop}
 use lib.Seq.{sets}
 use lib.Dec.{ltb}
 use Rattle.lexer_token.specs.declared.Token.{Token}
-use Rattle.lexer_token.specs.declared.TokenKind.{TokenKind}
-use Rattle.lexer_token.specs.KindNumbers.{kindNumber}
 use Rattle.lexer_token.specs.Records.{recordOf}
 use Rattle.lexer.specs.Lines.{lineFeeds}
 use Rattle.lexer.specs.Tokens.{tokenAt, lineAfter, tokensFrom}
 use Rattle.lexer.specs.Whole.{recordsOf, tokenCount}
-use Rattle.lexer.specs.declared.Entry.{Entry}
+use Rattle.lexer.specs.declared.Next.{Next}
 use Rattle.lexer.specs.declared.TokensPassed.{TokensPassed}
 
 -- ---- tokens
@@ -26,15 +24,12 @@ pub record TokenStands (doc : List ℕ) (t : Token) : Type 0 where
   pub here : t ≡ tokenAt (t .span .start) (t .line) (drop (t .span .start) doc)
   pub low : t .line ≤ t .span .start + 1
 
--- a token's record with the line behind the token: by the token, by its numbers, and at a place
-abbrev pub entryOf : Token → ℕ → Entry
-entryOf t line = record { numbers = recordOf t; line = line }
+-- a token with the line after it, and the one at a place
+abbrev pub nextOf : Token → ℕ → Next
+nextOf t line = record { token = t; line = line }
 
-abbrev pub entryFrom : ℕ → ℕ → ℕ → ℕ → ℕ → Entry
-entryFrom number start end line next = record { numbers = number ∷ start ∷ end ∷ line ∷ []; line = next }
-
-abbrev pub entryAt : ℕ → ℕ → List ℕ → Entry
-entryAt at line s = entryOf (tokenAt at line s) (lineAfter line s)
+abbrev pub nextAt : ℕ → ℕ → List ℕ → Next
+nextAt at line s = nextOf (tokenAt at line s) (lineAfter line s)
 
 -- the tokens at the front that begin before a place
 unfoldable pub before : ℕ → List Token → List Token
@@ -45,21 +40,31 @@ before stop (t ∷ ts) = cond (ltb (t .span .start) stop) (t ∷ before stop ts)
 abbrev pub tokensUntil : ℕ → ℕ → ℕ → List ℕ → List Token
 tokensUntil stop at line doc = before stop (tokensFrom at line (drop at doc))
 
--- the line behind a token: its own, and the LFs in it
+-- the line after a token: its own, and the LFs in it
 abbrev pub lineOver : List ℕ → Token → ℕ
 lineOver doc t = t .line + lineFeeds (take (t .span .end - t .span .start) (drop (t .span .start) doc))
 
--- the line behind some tokens, or the one given where there are none
+-- the line after some tokens, or the one given where there are none
 unfoldable pub linePast : List ℕ → ℕ → List Token → ℕ
 linePast doc line [] = line
 linePast doc line (t ∷ ts) = linePast doc (lineOver doc t) ts
 
--- the line behind the tokens of `tokensUntil`
+-- the line after the tokens of `tokensUntil`
 abbrev pub lineUntil : ℕ → ℕ → ℕ → List ℕ → ℕ
 lineUntil stop at line doc = linePast doc line (tokensUntil stop at line doc)
 
--- from a place behind the stop the tokens go on as from the start, those that were passed counted
+-- the place after some tokens, or the one given where there are none
+unfoldable pub placePast : ℕ → List Token → ℕ
+placePast at [] = at
+placePast at (t ∷ ts) = placePast (t .span .end) ts
+
+-- the place after the tokens of `tokensUntil`
+abbrev pub placeUntil : ℕ → ℕ → ℕ → List ℕ → ℕ
+placeUntil stop at line doc = placePast at (tokensUntil stop at line doc)
+
+-- that place is after the stop, and the tokens go on from it as from the start, those that were passed counted
 pub record GoesOn (doc : List ℕ) (stop start first : ℕ) (out : TokensPassed) : Type 0 where
+  pub reached : out .place ≡ placeUntil stop start first doc
   pub within : out .place ≤ length doc
   pub far : stop ≤ out .place
   pub low : out .line ≤ out .place + 1
@@ -67,10 +72,6 @@ pub record GoesOn (doc : List ℕ) (stop start first : ℕ) (out : TokensPassed)
       → out .count + length (tokensUntil end (out .place) (out .line) doc) ≡ length (tokensUntil end start first doc)
 
 -- ---- records
-
--- a kind is the one that has a number, where any has
-abbrev pub Numbered : ℕ → TokenKind → Type 0
-Numbered number kind = (k : TokenKind) → number ≡ kindNumber k → kind ≡ k
 
 -- their records stored over old ones, from the n-th on
 abbrev pub store : ℕ → ℕ → ℕ → List ℕ → ℕ → List (List ℕ) → List (List ℕ)

@@ -2,10 +2,10 @@
 use Prim.Native.Nat.{ℕ, suc}
 use mathlib.Core.{Bool.Bool, Bool.false, Bool.cond, List.List, List.[], List._∷_}
 use lib.{ListN.drop, Dec.eqb}
-use Rattle.text_classes.specs.{Classes.wschar, Runs.run}
+use Rattle.text_classes.specs.{Classes.wschar, Runs.run, Runs.triple}
 use Rattle.lexer_token.specs.declared.{TokenKind.TokenKind}
 use Rattle.lexer_token.specs.declared.TokenKind.the-variants.{Dot, Equals, Comma, LeftSquareBracket, RightSquareBracket, LeftCurlyBracket, RightCurlyBracket, Whitespace, Comment, Newline, LiteralString, BasicString, MlLiteralString, MlBasicString, Atom, Eof}
-use Rattle.lexer_scans.specs.{Extents.eol, Extents.inComment, Extents.inAtom, Extents.lineTail, Extents.triple, Extents.mlTail, Extents.newlineTail}
+use Rattle.lexer_scans.specs.{Extents.eol, Extents.inComment, Extents.inAtom, Extents.lineTail, Extents.mlTail, Extents.newlineTail}
 
 -- the kind by the first byte, and by whether three of it stand there: three quote marks always open the multi-line kind.
 -- In this order: . = , [ ] { } space or tab # CR or LF ' " and any other

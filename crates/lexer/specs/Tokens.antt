@@ -19,7 +19,7 @@ tokenAt at line s = tokenOf (kindOf s) at (at + tokenLen s) line
 abbrev pub eofAt : ℕ → ℕ → Token
 eofAt at line = tokenOf Eof at at line
 
--- the line behind that token, counted on by the LFs in it
+-- the line after that token, counted on by the LFs in it
 abbrev pub lineAfter : ℕ → List ℕ → ℕ
 lineAfter line s = line + lineFeeds (take (tokenLen s) s)
 
@@ -38,7 +38,7 @@ tokensFrom at line s = walk at line 0 s
 abbrev pub hasBom : List ℕ → Bool
 hasBom s = stands 0xEF s && (stands 0xBB (drop 1 s) && stands 0xBF (drop 2 s))
 
--- where lexing starts: behind a byte order mark, else at byte 0
+-- where lexing starts: after a byte order mark, else at byte 0
 unfoldable pub startOf : List ℕ → ℕ
 startOf s = cond (hasBom s) 3 0
 

@@ -8,12 +8,13 @@ ghost use lib.ListN.{length, drop, getD};
 ghost use Rattle.text.specs.Told.{checkFault};
 ghost use Rattle.lexer_token.specs.Records.{tokenOf};
 ghost use Rattle.lexer.specs.Lines.{lineOf};
-ghost use Rattle.lexer.specs.Tokens.{hasBom, startOf, tokenBy, tokenAt, lineAfter};
+ghost use Rattle.lexer.specs.Tokens.{hasBom, startOf, tokenBy, lineAfter};
+ghost use Rattle.lexer.specs.Table.{kindOf};
 ghost use Rattle.lexer.specs.Steps.{cursorOf, startAnswer};
 ghost use Rattle.lexer.specs.Told.{startNumber, startValue, startRefusal, startReturned, stepNumber, stepValue, stepRefusal, stepReturned, lexedNumber, lexedValue, lexedLength, lexRefusal, lexReturned};
 ghost use Rattle.lexer.specs.Steps.{stepOf};
 ghost use Rattle.lexer.specs.Whole.{tokenCount, lexAnswer, lexMemory};
-ghost use Rattle.lexer.specs.Loops.{TokenStands, GoesOn, Numbered, entryOf, entryFrom, entryAt, tokensUntil, lineUntil, store, recordsOver};
+ghost use Rattle.lexer.specs.Loops.{TokenStands, GoesOn, nextOf, nextAt, tokensUntil, lineUntil, store, recordsOver};
 use lexer_token::Record;
 use lexer_token::Span;
 use lexer_token::Token;
@@ -21,6 +22,11 @@ use lexer_token::TokenKind;
 use text::LIMIT;
 use text::Refusal;
 use text::Utf8Check;
+use text_classes::APOSTROPHE;
+use text_classes::COMMENT_START_SYMBOL;
+use text_classes::QUOTATION_MARK;
+use text_classes::is_at;
+use text_classes::is_triple;
 
 // Where the next token begins, on which line, and whether Eof was given.
 pub struct Cursor {
@@ -159,115 +165,68 @@ fn fill(doc: &[u8], records: &mut [Record]) -> usize
     n + 1
 }
 
-// A token, and the line behind it.
+// A token, and the line after it.
 struct Next {
     token: Token,
     line: usize,
 }
 
-// The token that begins at a place of the document, there on a line.
+// One token for a step. What is soon read is read here, without the loop of `lex_until`, which sets up more before its
+// first token than such a token costs.
 fn token_at(doc: &[u8], at: usize, line: usize) -> Next
     requires { ⌜ (at < length (now doc)) × (line ≤ at + 1) ⌝ }
-    ensures token { λ r. ⌜ r .token ≡ tokenAt at line (drop at (now (doc .entry))) ⌝ }
-    ensures line { λ r. ⌜ r .line ≡ lineAfter line (drop at (now (doc .entry))) ⌝ }
-{
-    let entry = entry_at(doc, at, line);
-    let record = entry.numbers;
-    Next {
-        token: token_of(kind_of(record[0]), record[1], record[2], record[3]),
-        line: entry.line,
-    }
-}
-
-// Its record, and the line behind it. What is soon read is read here, without the loop of `lex_until`, which sets up
-// more before its first token than such a token costs. The number of a kind of one byte is that byte.
-fn entry_at(doc: &[u8], at: usize, line: usize) -> Entry
-    requires { ⌜ (at < length (now doc)) × (line ≤ at + 1) ⌝ }
-    ensures { λ r. ⌜ r ≡ entryAt at line (drop at (now (doc .entry))) ⌝ }
+    ensures { λ r. ⌜ r ≡ nextAt at line (drop at (now (doc .entry))) ⌝ }
 {
     let b = doc[at];
     match b {
-        b'.' | b'=' | b',' | b'[' | b']' | b'{' | b'}' => entry_from(
-            b as usize,
-            at,
-            at + 1,
-            line,
-            line,
-        ),
-        b'\n' => entry_from(TokenKind::NEWLINE, at, at + 1, line, line + 1),
-        b' ' | b'\t' => entry_from(
-            TokenKind::WHITESPACE,
-            at,
-            lexer_scans::wschar_run(doc, at + 1),
-            line,
-            line,
-        ),
-        b'#' | b'\r' | b'\'' | b'"' => entry_by_loop(doc, at, line),
-        _ => entry_from(
-            TokenKind::ATOM,
-            at,
-            lexer_scans::atom_rest(doc, at + 1),
-            line,
-            line,
-        ),
+        b'.' => same_line(lex_ascii_char(doc, at, line, TokenKind::Dot)),
+        b'=' => same_line(lex_ascii_char(doc, at, line, TokenKind::Equals)),
+        b',' => same_line(lex_ascii_char(doc, at, line, TokenKind::Comma)),
+        b'[' => same_line(lex_ascii_char(doc, at, line, TokenKind::LeftSquareBracket)),
+        b']' => same_line(lex_ascii_char(doc, at, line, TokenKind::RightSquareBracket)),
+        b'{' => same_line(lex_ascii_char(doc, at, line, TokenKind::LeftCurlyBracket)),
+        b'}' => same_line(lex_ascii_char(doc, at, line, TokenKind::RightCurlyBracket)),
+        b' ' => same_line(lex_whitespace(doc, at, line)),
+        b'\t' => same_line(lex_whitespace(doc, at, line)),
+        COMMENT_START_SYMBOL => by_loop(doc, at, line, TokenKind::Comment),
+        b'\r' => by_loop(doc, at, line, TokenKind::Newline),
+        b'\n' => lex_lf(doc, at, line),
+        APOSTROPHE => {
+            if is_triple(doc, at, APOSTROPHE) {
+                by_loop(doc, at, line, TokenKind::MlLiteralString)
+            } else {
+                by_loop(doc, at, line, TokenKind::LiteralString)
+            }
+        }
+        QUOTATION_MARK => {
+            if is_triple(doc, at, QUOTATION_MARK) {
+                by_loop(doc, at, line, TokenKind::MlBasicString)
+            } else {
+                by_loop(doc, at, line, TokenKind::BasicString)
+            }
+        }
+        _ => same_line(lex_short_atom(doc, at, line)),
     }
 }
 
-fn entry_from(number: usize, start: usize, end: usize, line: usize, next: usize) -> Entry
-    ensures { λ r. ⌜ r ≡ entryFrom number start end line next ⌝ }
-{
-    Entry {
-        numbers: [number, start, end, line],
-        line: next,
-    }
-}
-
-fn entry_by_loop(doc: &[u8], at: usize, line: usize) -> Entry
-    requires { ⌜ (at < length (now doc)) × (line ≤ at + 1) ⌝ }
-    ensures { λ r. ⌜ r ≡ entryAt at line (drop at (now (doc .entry))) ⌝ }
+// A token of a kind, whose end and the line after it are found by the loop.
+fn by_loop(doc: &[u8], at: usize, line: usize, kind: TokenKind) -> Next
+    requires { ⌜ (at < length (now doc)) × (line ≤ at + 1) × (kindOf (drop at (now doc)) ≡ kind) ⌝ }
+    ensures { λ r. ⌜ r ≡ nextAt at line (drop at (now (doc .entry))) ⌝ }
 {
     let mut one = [[0usize; 4]; 1];
     let passed = lex_until(doc, at, line, at + 1, &mut one);
-    let numbers = one[0];
-    Entry {
-        numbers,
-        line: passed.line,
-    }
+    next_of(token_of(kind, at, passed.place, line), passed.line)
 }
 
-// The kind that has a number which is a kind's: `TokenKind::from_number` without a refusal, and for this one caller, so
-// that it is compiled into it.
-fn kind_of(number: usize) -> TokenKind
-    ensures { λ r. ⌜ Numbered number r ⌝ }
-{
-    match number {
-        TokenKind::DOT => TokenKind::Dot,
-        TokenKind::EQUALS => TokenKind::Equals,
-        TokenKind::COMMA => TokenKind::Comma,
-        TokenKind::LEFT_SQUARE_BRACKET => TokenKind::LeftSquareBracket,
-        TokenKind::RIGHT_SQUARE_BRACKET => TokenKind::RightSquareBracket,
-        TokenKind::LEFT_CURLY_BRACKET => TokenKind::LeftCurlyBracket,
-        TokenKind::RIGHT_CURLY_BRACKET => TokenKind::RightCurlyBracket,
-        TokenKind::WHITESPACE => TokenKind::Whitespace,
-        TokenKind::COMMENT => TokenKind::Comment,
-        TokenKind::NEWLINE => TokenKind::Newline,
-        TokenKind::LITERAL_STRING => TokenKind::LiteralString,
-        TokenKind::BASIC_STRING => TokenKind::BasicString,
-        TokenKind::ML_LITERAL_STRING => TokenKind::MlLiteralString,
-        TokenKind::ML_BASIC_STRING => TokenKind::MlBasicString,
-        TokenKind::ATOM => TokenKind::Atom,
-        _ => TokenKind::Eof,
-    }
-}
-
-// How many tokens were passed, and the place and the line behind them.
+// How many tokens were passed, and the place and the line after them.
 struct TokensPassed {
     count: usize,
     place: usize,
     line: usize,
 }
 
-// The tokens that begin at `start` or behind it, and before `stop`: how many, each written into its
+// The tokens that begin at `start` or after it, and before `stop`: how many, each written into its
 // record. The only caller of `process_token`, which is compiled into this loop.
 fn lex_until(
     doc: &[u8],
@@ -286,12 +245,12 @@ fn lex_until(
     let mut line = first;
     let mut n: usize = 0;
     while at < stop {
-        let entry = process_token(doc, at, line);
-        let record = entry.numbers;
-        records[n] = record;
+        let next = process_token(doc, at, line);
+        let token = next.token;
+        records[n] = token.as_record();
         n += 1;
-        line = entry.line;
-        at = record[2];
+        line = next.line;
+        at = token.span.end;
     }
     TokensPassed {
         count: n,
@@ -300,7 +259,7 @@ fn lex_until(
     }
 }
 
-// Where lexing starts: behind a byte order mark.
+// Where lexing starts: after a byte order mark.
 pub fn start_of(doc: &[u8]) -> usize
     ensures { λ r. ⌜ r ≡ startOf (now (doc .entry)) ⌝ }
 {
@@ -323,8 +282,7 @@ pub fn line_of(doc: &[u8], offset: usize) -> usize
 fn has_bom(doc: &[u8]) -> bool
     ensures { λ r. ⌜ r ≡ hasBom (now (doc .entry)) ⌝ }
 {
-    lexer_scans::is_at(doc, 0, 0xEF)
-        && (lexer_scans::is_at(doc, 1, 0xBB) && lexer_scans::is_at(doc, 2, 0xBF))
+    is_at(doc, 0, 0xEF) && (is_at(doc, 1, 0xBB) && is_at(doc, 2, 0xBF))
 }
 
 fn token_of(kind: TokenKind, start: usize, end: usize, line: usize) -> Token
@@ -333,11 +291,10 @@ fn token_of(kind: TokenKind, start: usize, end: usize, line: usize) -> Token
     Token::new(kind, Span::new(start, end), line)
 }
 
-// The token that begins at a place of the document, by the byte there. Its record and the line behind it are made in
-// the arms, where the kind is known.
-fn process_token(doc: &[u8], at: usize, line: usize) -> Entry
+// The token that begins at a place of the document, by the byte there, and the line after it.
+fn process_token(doc: &[u8], at: usize, line: usize) -> Next
     requires { ⌜ (at < length (now doc)) × (line ≤ at + 1) ⌝ }
-    ensures { λ r. ⌜ r ≡ entryAt at line (drop at (now (doc .entry))) ⌝ }
+    ensures { λ r. ⌜ r ≡ nextAt at line (drop at (now (doc .entry))) ⌝ }
 {
     let b = doc[at];
     match b {
@@ -350,18 +307,18 @@ fn process_token(doc: &[u8], at: usize, line: usize) -> Entry
         b'}' => same_line(lex_ascii_char(doc, at, line, TokenKind::RightCurlyBracket)),
         b' ' => same_line(lex_whitespace(doc, at, line)),
         b'\t' => same_line(lex_whitespace(doc, at, line)),
-        b'#' => same_line(lex_comment(doc, at, line)),
+        COMMENT_START_SYMBOL => same_line(lex_comment(doc, at, line)),
         b'\r' => lex_crlf(doc, at, line),
-        b'\n' => entry_of(lex_ascii_char(doc, at, line, TokenKind::Newline), line + 1),
-        b'\'' => {
-            if lexer_scans::is_ml_literal(doc, at) {
+        b'\n' => lex_lf(doc, at, line),
+        APOSTROPHE => {
+            if is_triple(doc, at, APOSTROPHE) {
                 over_lines(doc, lex_ml_literal_string(doc, at, line))
             } else {
                 same_line(lex_literal_string(doc, at, line))
             }
         }
-        b'"' => {
-            if lexer_scans::is_ml_basic(doc, at) {
+        QUOTATION_MARK => {
+            if is_triple(doc, at, QUOTATION_MARK) {
                 over_lines(doc, lex_ml_basic_string(doc, at, line))
             } else {
                 same_line(lex_basic_string(doc, at, line))
@@ -371,34 +328,25 @@ fn process_token(doc: &[u8], at: usize, line: usize) -> Entry
     }
 }
 
-// A token's record, and the line behind the token.
-struct Entry {
-    numbers: Record,
-    line: usize,
-}
-
-fn entry_of(token: Token, line: usize) -> Entry
-    ensures { λ r. ⌜ r ≡ entryOf token line ⌝ }
+fn next_of(token: Token, line: usize) -> Next
+    ensures { λ r. ⌜ r ≡ nextOf token line ⌝ }
 {
-    Entry {
-        numbers: token.as_record(),
-        line,
-    }
+    Next { token, line }
 }
 
 // Of a token that holds no LF.
-fn same_line(token: Token) -> Entry
-    ensures { λ r. ⌜ r ≡ entryOf token (token .line) ⌝ }
+fn same_line(token: Token) -> Next
+    ensures { λ r. ⌜ r ≡ nextOf token (token .line) ⌝ }
 {
-    entry_of(token, token.line)
+    next_of(token, token.line)
 }
 
 // Of a token that may hold LFs: they are counted.
-fn over_lines(doc: &[u8], token: Token) -> Entry
+fn over_lines(doc: &[u8], token: Token) -> Next
     requires { ⌜ TokenStands (now doc) token ⌝ }
-    ensures { λ r. ⌜ r ≡ entryOf token (lineAfter (token .line) (drop (token .span .start) (now (doc .entry)))) ⌝ }
+    ensures { λ r. ⌜ r ≡ nextOf token (lineAfter (token .line) (drop (token .span .start) (now (doc .entry)))) ⌝ }
 {
-    entry_of(token, lines::line_after(doc, token))
+    next_of(token, lines::line_after(doc, token))
 }
 
 // A token of one byte.
@@ -435,15 +383,23 @@ fn lex_comment(doc: &[u8], at: usize, line: usize) -> Token
     )
 }
 
-// newline =/ %x0D.0A ; and a CR alone, which ends no line
-fn lex_crlf(doc: &[u8], at: usize, line: usize) -> Entry
-    requires { ⌜ (at < length (now doc)) × (line ≤ at + 1) × (getD (now doc) at 0 ≡ 13) ⌝ }
-    ensures { λ r. ⌜ r ≡ entryAt at line (drop at (now (doc .entry))) ⌝ }
+// newline = %x0A
+fn lex_lf(doc: &[u8], at: usize, line: usize) -> Next
+    requires { ⌜ (at < length (now doc)) × (line ≤ at + 1) × (getD (now doc) at 0 ≡ 10) ⌝ }
+    ensures { λ r. ⌜ r ≡ nextAt at line (drop at (now (doc .entry))) ⌝ }
 {
-    if lexer_scans::is_at(doc, at + 1, b'\n') {
-        return entry_of(token_of(TokenKind::Newline, at, at + 2, line), line + 1);
+    next_of(lex_ascii_char(doc, at, line, TokenKind::Newline), line + 1)
+}
+
+// newline =/ %x0D.0A ; and a CR alone, which ends no line
+fn lex_crlf(doc: &[u8], at: usize, line: usize) -> Next
+    requires { ⌜ (at < length (now doc)) × (line ≤ at + 1) × (getD (now doc) at 0 ≡ 13) ⌝ }
+    ensures { λ r. ⌜ r ≡ nextAt at line (drop at (now (doc .entry))) ⌝ }
+{
+    if is_at(doc, at + 1, b'\n') {
+        return next_of(token_of(TokenKind::Newline, at, at + 2, line), line + 1);
     }
-    entry_of(token_of(TokenKind::Newline, at, at + 1, line), line)
+    next_of(token_of(TokenKind::Newline, at, at + 1, line), line)
 }
 
 // literal-string = apostrophe *literal-char apostrophe
@@ -507,6 +463,19 @@ fn lex_atom(doc: &[u8], at: usize, line: usize) -> Token
         TokenKind::Atom,
         at,
         lexer_scans::atom_run(doc, at + 1),
+        line,
+    )
+}
+
+// The same, byte by byte: for a step, whose atom is most often short.
+fn lex_short_atom(doc: &[u8], at: usize, line: usize) -> Token
+    requires { ⌜ at < length (now doc) ⌝ }
+    ensures { λ r. ⌜ r ≡ tokenBy TokenKind.Atom at line (drop at (now (doc .entry))) ⌝ }
+{
+    token_of(
+        TokenKind::Atom,
+        at,
+        lexer_scans::atom_rest(doc, at + 1),
         line,
     )
 }

@@ -7,7 +7,7 @@ ghost use Rattle.lexer.specs.Tokens.{lineAfter};
 ghost use Rattle.lexer.specs.Loops.{TokenStands};
 use lexer_token::Token;
 
-// The line behind a token: its own, and the LFs in it.
+// The line after a token: its own, and the LFs in it.
 pub(crate) fn line_after(doc: &[u8], token: Token) -> usize
     requires { ⌜ TokenStands (now doc) token ⌝ }
     ensures { λ r. ⌜ r ≡ lineAfter (token .line) (drop (token .span .start) (now (doc .entry))) ⌝ }

@@ -1,16 +1,16 @@
--- Blocks in which the first place of a byte is found: the least of the places seen, and two bytes looked for as three.
+-- Blocks in which the first place of a byte is found: the least of the places seen.
 -- Assumes nothing.
 use Prim.Native.Nat.{ℕ, _+_, _≤_, _<_}
-use mathlib.Core.Path.{_≡_, refl, subst}
-use mathlib.Core.Bool.{Bool, true, false, not, _||_}
-use mathlib.Core.List.{List, [], _∷_}
+use mathlib.Core.Path.{_≡_}
+use mathlib.Core.Bool.{Bool, true}
+use mathlib.Core.List.{List}
 use native.Mathlib.Decide.{decLt}
 use native.Mathlib.Omega.{arith}
-use lib.Dec.{eqb}
-use lib.ListN.{length, getD, drop}
-use Rattle.text_classes.specs.Runs.{run}
-use Rattle.text_classes.proofs.RunLaws.{Block, SameEnd, block-start, block-step, block-end}
-use Rattle.lexer_scans.specs.Scans.{noneOf}
+use lib.ListN.{length, getD}
+use Rattle.text_classes.proofs.RunLaws.{Block, block-start, block-step, block-end}
+use Rattle.lexer_scans.specs.Scans.{widthOf}
+use Rattle.lexer_scans.specs.declared.Sought.{Sought}
+use Rattle.lexer_scans.specs.declared.Sought.the-variants.{One, Two, Three}
 
 module _ (p : ℕ → Bool) (s : List ℕ) (i : ℕ) where
   -- of j bytes, those before the least place pass
@@ -29,25 +29,8 @@ module _ (p : ℕ → Bool) (s : List ℕ) (i : ℕ) where
             (block-step p s i j h (f (omega arith)) (kept j (omega arith) (omega arith)))
       ]
 
--- what passes the one test passes the other
-pub run-same : (p q : ℕ → Bool) → ((x : ℕ) → p x ≡ q x) → (s : List ℕ) → run p s ≡ run q s
-unfolding run
-run-same p q h [] = refl
-run-same p q h (x ∷ s) = rw (h x, run-same p q h s)
-
-order : (s t : Bool) → not (t || (s || s)) ≡ not (s || (s || t))
-order true true = refl
-order true false = refl
-order false true = refl
-order false false = refl
-
-module _ (s : List ℕ) (start r a b c : ℕ) where
-  -- two of three bytes are the same: the last two, or the first two
-  pub same-last : b ≡ c → SameEnd (run (noneOf a b b)) s start r → SameEnd (run (noneOf a b c)) s start r
-  same-last e h = subst (λ (k : ℕ). SameEnd (run (noneOf a b k)) s start r) e h
-
-  pub same-first : a ≡ b → SameEnd (run (noneOf c a a)) s start r → SameEnd (run (noneOf a b c)) s start r
-  same-first e h =
-      let each = run-same (noneOf c a a) (noneOf a a c) (λ x. order (eqb x a) (eqb x c)) in
-      subst (λ (k : ℕ). SameEnd (run (noneOf a k c)) s start r) e
-      (h .0, omega (arith, h .1, each (drop r s), each (drop start s)))
+-- a block has a byte
+pub width-positive : (w : Sought) → 0 < widthOf w
+width-positive (One a) = omega arith
+width-positive (Two a b) = omega arith
+width-positive (Three a b c) = omega arith

@@ -28,12 +28,3 @@ ml-literal-tail κs a x y s t p q = p ∙ sym q
 
 pub ml-basic-tail : OneAnswer promised.ml_basic_tail.Reads.Learnt
 ml-basic-tail κs a x y s t p q = p ∙ sym q
-
-pub is-ml-literal : OneAnswer promised.is_ml_literal.Reads.Learnt
-is-ml-literal κs a x y s t p q = p ∙ sym q
-
-pub is-ml-basic : OneAnswer promised.is_ml_basic.Reads.Learnt
-is-ml-basic κs a x y s t p q = p ∙ sym q
-
-pub is-at : OneAnswer promised.is_at.Reads.Learnt
-is-at κs a x y s t p q = p ∙ sym q

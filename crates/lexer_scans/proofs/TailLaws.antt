@@ -7,17 +7,18 @@ use mathlib.Core.Bool.{Bool, true, false, not, cond, _&&_, _||_}
 use mathlib.Core.List.{List, [], _∷_}
 use native.Mathlib.Numerals.{add-one}
 use native.Mathlib.Omega.{arith}
-use borrow.Author.Tests.{eqb-true, eq-eqb, ne-eqb}
+use native.Mathlib.Decide.{decLt}
+use borrow.Author.Tests.{not-true, eq-eqb, ne-eqb}
 use lib.Dec.{eqb}
 use lib.ListN.{length, getD, drop, drop-of-length-le, length-drop}
 use lib.Seq.{drop-cons, drop-drop, getD-drop}
-use Rattle.text_classes.specs.Runs.{run}
+use Rattle.text_classes.specs.Runs.{run, stands, triple}
 use Rattle.text_classes.proofs.Conds.{cond-case, not-both}
+use Rattle.text_classes.proofs.FirstLaws.{first-there, stands-there}
 use Rattle.text_classes.proofs.RunLaws.{run-le, SameEnd}
-use Rattle.lexer_scans.specs.Extents.{hides, closes, inComment}
-use Rattle.lexer_scans.specs.Extents.{lineTail, triple, upToTwo, mlTail}
-use Rattle.lexer_scans.specs.Scans.{noneOf, escapeOf}
-use Rattle.lexer_scans.proofs.BlockLaws.{run-same}
+use Rattle.lexer_scans.specs.Extents.{hides, closes, lineTail, upToTwo, mlTail}
+use Rattle.lexer_scans.specs.Scans.{unsought}
+use Rattle.lexer_scans.specs.declared.Sought.the-variants.{One, Two, Three}
 
 -- ---- by a byte
 
@@ -53,58 +54,16 @@ module _ (q : ℕ) (h : Bool) (s : List ℕ) (i : ℕ) (l : length s ≤ i) wher
   unfolding mlTail
   ml-end = rw (drop-of-length-le s l)
 
--- ---- one of three bytes
+-- ---- none of some bytes
 
-none-each : (x y z : Bool) → not (x || (y || z)) ≡ true → (x ≡ false) × (y ≡ false) × (z ≡ false)
-none-each true y z h = not-both h refl
-none-each false true z h = not-both h refl
-none-each false false true h = not-both h refl
-none-each false false false h = (refl, refl, refl)
+none-of-two : (x y : Bool) → not (x || y) ≡ true → (x ≡ false) × (y ≡ false)
+none-of-two true y h = not-both h refl
+none-of-two false true h = not-both h refl
+none-of-two false false h = (refl, refl)
 
-some-first : (x z : Bool) → not (x || (x || z)) ≡ false → z ≡ false → x ≡ true
-some-first true z h c = refl
-some-first false true h c = not-both refl c
-some-first false false h c = not-both refl h
-
-some-last : (x y : Bool) → not (x || (y || y)) ≡ false → x ≡ false → y ≡ true
-some-last true y h a = not-both refl a
-some-last false true h a = refl
-some-last false false h a = not-both refl h
-
--- two of the three are the same
-two-of-three : (x y : Bool) → not (x || (y || y)) ≡ not (x || y)
-two-of-three true y = refl
-two-of-three false true = refl
-two-of-three false false = refl
-
-first-or-last : (x y : Bool) → not (x || (y || y)) ≡ not (x || (x || y))
-first-or-last true y = refl
-first-or-last false true = refl
-first-or-last false false = refl
-
--- ---- the escape of a string with the mark q
-
-no-escape : (q b : ℕ) → eqb b (escapeOf q) ≡ false → hides q false b ≡ false
-no-escape q b = go (eqb q 34)
-  where
-    go : (x : Bool) → eqb b (cond x 92 q) ≡ false → (x && eqb b 92) ≡ false
-    go true e = e
-    go false e = refl
-
-an-escape : (q b : ℕ) → eqb b (escapeOf q) ≡ true → eqb b q ≡ false → hides q false b ≡ true
-an-escape q b = go (eqb q 34)
-  where
-    go : (x : Bool) → eqb b (cond x 92 q) ≡ true → eqb b q ≡ false → (x && eqb b 92) ≡ true
-    go true e n = e
-    go false e n = not-both e n
-
--- a mark hides nothing
-mark-hides : (q b : ℕ) → b ≡ q → hides q false b ≡ false
-mark-hides q b e = rw e (go (eqb q 34) refl)
-  where
-    go : (x : Bool) → eqb q 34 ≡ x → (x && eqb q 92) ≡ false
-    go true t = ne-eqb q 92 (λ u. omega (arith, eqb-true q 34 t))
-    go false t = refl
+none-of-three : (x y z : Bool) → not (x || (y || z)) ≡ true → (x ≡ false) × (y ≡ false) × (z ≡ false)
+none-of-three true y z h = not-both h refl
+none-of-three false y z h = let n = none-of-two y z h in (refl, n .0, n .1)
 
 -- ---- by a run of plain bytes
 
@@ -129,21 +88,29 @@ over-run-at F p f s i r e =
     let rest : drop n (drop i s) ≡ drop r s = drop-drop n i s ∙ ap (λ (k : ℕ). drop k s) (sym e) in
     omega (arith, over-run F p f (drop i s), ap F rest)
 
-line-over : (q b : ℕ) (s : List ℕ) → noneOf q (escapeOf q) 10 b ≡ true → lineTail q false (b ∷ s) ≡ suc (lineTail q false s)
+-- the bytes that a string of each kind goes on over
+
+literal-over : Over (lineTail 39 false) (unsought (Two 39 10))
 unfolding lineTail
-line-over q b s t =
-    let n = none-each (eqb b q) (eqb b (escapeOf q)) (eqb b 10) t in
-    rw (n .0, n .2, no-escape q b (n .1))
+literal-over b s t = let n = none-of-two (eqb b 39) (eqb b 10) t in rw (n .0, n .1)
+
+basic-over : Over (lineTail 34 false) (unsought (Three 34 92 10))
+unfolding lineTail
+basic-over b s t = let n = none-of-three (eqb b 34) (eqb b 92) (eqb b 10) t in rw (n .0, n .1, n .2)
 
 other-mark : (q b : ℕ) (s : List ℕ) → eqb b q ≡ false → triple q (b ∷ s) ≡ false
 unfolding triple
 other-mark q b s t = rw t
 
-ml-over : (q b : ℕ) (s : List ℕ) → noneOf q (escapeOf q) (escapeOf q) b ≡ true → mlTail q false (b ∷ s) ≡ suc (mlTail q false s)
+ml-literal-over : Over (mlTail 39 false) (unsought (One 39))
 unfolding mlTail
-ml-over q b s t =
-    let n = none-each (eqb b q) (eqb b (escapeOf q)) (eqb b (escapeOf q)) t in
-    rw (other-mark q b s (n .0), no-escape q b (n .1))
+ml-literal-over b s t = rw (other-mark 39 b s (not-true _ t))
+
+ml-basic-over : Over (mlTail 34 false) (unsought (Two 34 92))
+unfolding mlTail
+ml-basic-over b s t =
+    let n = none-of-two (eqb b 34) (eqb b 92) t in
+    rw (other-mark 34 b s (n .0), n .1)
 
 -- ---- a run ends within the list, and at a byte that fails the test
 
@@ -165,6 +132,98 @@ module _ (p : ℕ → Bool) where
         ap (λ (n : ℕ). p (getD s n 0)) e ∙ ap p (sym (getD-drop i s (run p (drop i s)) 0))
         ∙ fails-behind (drop i s) (omega (arith, length-drop i s))
 
+-- ---- after a search for the bytes that matter
+
+-- from place i to place r, over bytes of the class p, none of which moves the end
+pub record Found (reach : List ℕ → ℕ) (p : ℕ → Bool) (s : List ℕ) (i r : ℕ) : Type 0 where
+  pub forward : i ≤ r
+  pub within : i ≤ length s → r ≤ length s
+  pub same : r + reach (drop r s) ≡ i + reach (drop i s)
+  pub stopped : r < length s → p (getD s r 0) ≡ false
+
+found : (F : List ℕ → ℕ) (p : ℕ → Bool) → Over F p
+    → (s : List ℕ) (i r : ℕ) → r ≡ i + run p (drop i s) → Found F p s i r
+found F p f s i r e =
+    record {
+      forward = omega arith;
+      within = run-within p s i r e;
+      same = over-run-at F p f s i r e;
+      stopped = run-fails p s i r e;
+    }
+
+-- for each kind of string
+abbrev pub LiteralFound : List ℕ → ℕ → ℕ → Type 0
+LiteralFound = Found (lineTail 39 false) (unsought (Two 39 10))
+
+abbrev pub BasicFound : List ℕ → ℕ → ℕ → Type 0
+BasicFound = Found (lineTail 34 false) (unsought (Three 34 92 10))
+
+abbrev pub MlLiteralFound : List ℕ → ℕ → ℕ → Type 0
+MlLiteralFound = Found (mlTail 39 false) (unsought (One 39))
+
+abbrev pub MlBasicFound : List ℕ → ℕ → ℕ → Type 0
+MlBasicFound = Found (mlTail 34 false) (unsought (Two 34 92))
+
+module _ (s : List ℕ) (i r : ℕ) where
+  pub literal-found : r ≡ i + run (unsought (Two 39 10)) (drop i s) → LiteralFound s i r
+  literal-found = found (lineTail 39 false) (unsought (Two 39 10)) literal-over s i r
+
+  pub basic-found : r ≡ i + run (unsought (Three 34 92 10)) (drop i s) → BasicFound s i r
+  basic-found = found (lineTail 34 false) (unsought (Three 34 92 10)) basic-over s i r
+
+  pub ml-literal-found : r ≡ i + run (unsought (One 39)) (drop i s) → MlLiteralFound s i r
+  ml-literal-found = found (mlTail 39 false) (unsought (One 39)) ml-literal-over s i r
+
+  pub ml-basic-found : r ≡ i + run (unsought (Two 34 92)) (drop i s) → MlBasicFound s i r
+  ml-basic-found = found (mlTail 34 false) (unsought (Two 34 92)) ml-basic-over s i r
+
+-- over some of the bytes that do not matter, the end of the string stays where it is too
+pub basic-passed : (s : List ℕ) (i r : ℕ) → SameEnd (run (unsought (Three 34 92 10))) s i r → SameEnd (lineTail 34 false) s i r
+basic-passed s i r e =
+    let end = i + run (unsought (Three 34 92 10)) (drop i s) in
+    let one = basic-found s i end refl .same in
+    let two = basic-found s r end (sym (e .1)) .same in
+    (e .0, omega arith)
+
+-- ---- at the mark or the LF that ends a string on a line
+
+-- the mark closes it
+pub line-closed : (q : ℕ) (s : List ℕ) (i : ℕ) → stands q (drop i s) ≡ true → lineTail q false (drop i s) ≡ 1
+line-closed q s i t =
+    let there = stands-there q s i t in
+    line-close q false s i (there .0) (eq-eqb _ _ (there .1))
+
+-- an LF, or the end of the document, stops it
+line-halts : (q : ℕ) (s : List ℕ) (i : ℕ) → (i < length s → (eqb (getD s i 0) q ≡ false) × (eqb (getD s i 0) 10 ≡ true))
+    → lineTail q false (drop i s) ≡ 0
+line-halts q s i f =
+    elim (decLt i (length s)) [
+      | yes l ↦ line-lf q false s i l (f l .0) (f l .1)
+      | no l ↦ line-end q false s i (omega arith)
+    ]
+
+some-of-two : (x y : Bool) → not (x || y) ≡ false → x ≡ false → y ≡ true
+some-of-two true y h e = not-both refl e
+some-of-two false true h e = refl
+some-of-two false false h e = not-both refl h
+
+module _ (s : List ℕ) (i r : ℕ) where
+  abbrev there : (q : ℕ) → r < length s → stands q (drop r s) ≡ false → eqb (getD s r 0) q ≡ false
+  there q l e = sym (first-there (λ b. eqb b q) s r l) ∙ e
+
+  pub literal-halts : LiteralFound s i r → stands 39 (drop r s) ≡ false → lineTail 39 false (drop r s) ≡ 0
+  literal-halts f m =
+      line-halts 39 s r
+      (λ l. (there 39 l m, some-of-two (eqb (getD s r 0) 39) (eqb (getD s r 0) 10) (f .stopped l) (there 39 l m)))
+
+  pub basic-halts : BasicFound s i r → stands 34 (drop r s) ≡ false → stands 92 (drop r s) ≡ false
+      → lineTail 34 false (drop r s) ≡ 0
+  basic-halts f m e =
+      let b = getD s r 0 in
+      let lf : (l : r < length s) → eqb b 10 ≡ true =
+      λ l. some-of-two (eqb b 92) (eqb b 10) (rw (there 34 l m) at (f .stopped l)) (there 92 l e) in
+      line-halts 34 s r (λ l. (there 34 l m, lf l))
+
 -- ---- at an escape, and at the byte that it hides
 
 pub line-escape : (s : List ℕ) (i : ℕ) → i < length s → getD s i 0 ≡ 92
@@ -174,89 +233,42 @@ line-escape s i l e =
     line-step 34 false s i l (other 34 (omega arith)) (other 10 (omega arith))
     ∙ ap (λ (h : Bool). suc (lineTail 34 h (drop (i + 1) s))) (eq-eqb _ _ e)
 
-module _ (q : ℕ) (s : List ℕ) (i : ℕ) (l : i < length s) where
-  pub line-hidden : (getD s i 0 ≡ 10 → ⊥) → lineTail q true (drop i s) ≡ suc (lineTail q false (drop (i + 1) s))
-  line-hidden n = line-step q true s i l refl (ne-eqb _ _ n)
-
-  pub ml-mark : triple q (drop i s) ≡ false → getD s i 0 ≡ q → mlTail q false (drop i s) ≡ suc (mlTail q false (drop (i + 1) s))
-  ml-mark t e =
-      ml-step q false s i l t ∙ ap (λ (h : Bool). suc (mlTail q h (drop (i + 1) s))) (mark-hides q (getD s i 0) e)
-
-  pub ml-escape : triple q (drop i s) ≡ false → noneOf q (escapeOf q) (escapeOf q) (getD s i 0) ≡ false → (getD s i 0 ≡ q → ⊥)
-      → mlTail q false (drop i s) ≡ suc (mlTail q true (drop (i + 1) s))
-  ml-escape t u m =
-      let b = getD s i 0 in
-      let escape = some-last (eqb b q) (eqb b (escapeOf q)) u (ne-eqb _ _ m) in
-      ml-step q false s i l t ∙ ap (λ (h : Bool). suc (mlTail q h (drop (i + 1) s))) (an-escape q b escape (ne-eqb _ _ m))
-
-  pub ml-hidden : mlTail q true (drop i s) ≡ suc (mlTail q false (drop (i + 1) s))
-  ml-hidden = ml-step q true s i l refl
-
 -- over both of them, where the one that is hidden is no LF
 pub line-escaped : (s : List ℕ) (i : ℕ) → i + 1 < length s → getD s i 0 ≡ 92 → (getD s (i + 1) 0 ≡ 10 → ⊥)
     → lineTail 34 false (drop i s) ≡ 2 + lineTail 34 false (drop (i + 2) s)
 line-escaped s i l e n =
     let same : i + 1 + 1 ≡ i + 2 = omega arith in
-    let hidden = line-hidden 34 s (i + 1) l n in
+    let hidden = line-step 34 true s (i + 1) l refl (ne-eqb _ _ n) in
     omega (arith, line-escape s i (omega arith) e, ap (λ (k : ℕ). lineTail 34 false (drop k s)) same)
 
--- ---- behind a search for the bytes that matter
+-- ---- in a string on several lines, where no three marks stand
 
--- from place i to place r, over bytes of the class p, none of which moves the end
-pub record Found (reach : List ℕ → ℕ) (p : ℕ → Bool) (s : List ℕ) (i r : ℕ) : Type 0 where
-  pub forward : i ≤ r
-  pub same : SameEnd reach s i r
-  pub stopped : r < length s → p (getD s r 0) ≡ false
+module _ (s : List ℕ) (i : ℕ) where
+  -- over one byte of a literal one
+  pub ml-literal-on : i < length s → triple 39 (drop i s) ≡ false → mlTail 39 false (drop i s) ≡ suc (mlTail 39 false (drop (i + 1) s))
+  ml-literal-on l t = ml-step 39 false s i l t
 
-found : (F : List ℕ → ℕ) (p : ℕ → Bool) → Over F p
-    → (s : List ℕ) (i r : ℕ) → i ≤ length s → r ≡ i + run p (drop i s) → Found F p s i r
-found F p f s i r l e =
-    record {
-      forward = omega arith;
-      same = (run-within p s i r e l, over-run-at F p f s i r e);
-      stopped = run-fails p s i r e;
-    }
+  -- over one byte of a basic one that is no escape
+  pub ml-basic-on : i < length s → triple 34 (drop i s) ≡ false → (getD s i 0 ≡ 92 → ⊥)
+      → mlTail 34 false (drop i s) ≡ suc (mlTail 34 false (drop (i + 1) s))
+  ml-basic-on l t n = ml-step 34 false s i l t ∙ ap (λ (h : Bool). suc (mlTail 34 h (drop (i + 1) s))) (ne-eqb _ _ n)
 
--- for a string on one line, and for one on several
-abbrev pub LineFound : ℕ → List ℕ → ℕ → ℕ → Type 0
-LineFound q = Found (lineTail q false) (noneOf q (escapeOf q) 10)
+  -- over an escape and the byte that it hides
+  pub ml-escaped : i + 1 < length s → triple 34 (drop i s) ≡ false → getD s i 0 ≡ 92
+      → mlTail 34 false (drop i s) ≡ 2 + mlTail 34 false (drop (i + 2) s)
+  ml-escaped l t e =
+      let escape = ml-step 34 false s i (omega arith) t ∙ ap (λ (h : Bool). suc (mlTail 34 h (drop (i + 1) s))) (eq-eqb _ _ e) in
+      let same : i + 1 + 1 ≡ i + 2 = omega arith in
+      let hidden = ml-step 34 true s (i + 1) l refl in
+      omega (arith, ap (λ (k : ℕ). mlTail 34 false (drop k s)) same)
 
-abbrev pub MlFound : ℕ → List ℕ → ℕ → ℕ → Type 0
-MlFound q = Found (mlTail q false) (noneOf q (escapeOf q) (escapeOf q))
-
-module _ (q : ℕ) (s : List ℕ) (i r escape : ℕ) (by : escape ≡ escapeOf q) (l : i ≤ length s) where
-  pub line-found : r ≡ i + run (noneOf q escape 10) (drop i s) → LineFound q s i r
-  line-found e = found (lineTail q false) (noneOf q (escapeOf q) 10) (line-over q) s i r l (rw by at e)
-
-  pub ml-found : r ≡ i + run (noneOf q escape escape) (drop i s) → MlFound q s i r
-  ml-found e = found (mlTail q false) (noneOf q (escapeOf q) (escapeOf q)) (ml-over q) s i r l (rw by at e)
-
--- a literal string has no escape: what stops it is its mark or an LF
-pub literal-found : (s : List ℕ) (i r : ℕ) → i ≤ length s → r ≡ i + run (noneOf 39 10 10) (drop i s) → LineFound 39 s i r
-literal-found s i r l e =
-    let same = run-same (noneOf 39 10 10) (noneOf 39 39 10) (λ b. first-or-last (eqb b 39) (eqb b 10)) (drop i s) in
-    line-found 39 s i r 39 refl l (e ∙ ap (λ (n : ℕ). i + n) same)
-
-pub literal-close : (s : List ℕ) (i : ℕ) → i < length s → noneOf 39 39 10 (getD s i 0) ≡ false → (getD s i 0 ≡ 10 → ⊥)
-    → lineTail 39 false (drop i s) ≡ 1
-literal-close s i l t n = line-close 39 false s i l (some-first (eqb b 39) (eqb b 10) t (ne-eqb _ _ n))
-  where
-    b : ℕ
-    b = getD s i 0
-
--- over some of the bytes that do not matter, the end of the string stays where it is too
-pub line-passed : (q : ℕ) (s : List ℕ) (i r escape : ℕ) → escape ≡ escapeOf q → i ≤ length s
-    → SameEnd (run (noneOf q escape 10)) s i r → SameEnd (lineTail q false) s i r
-line-passed q s i r escape by l e =
-    let end = i + run (noneOf q escape 10) (drop i s) in
-    let one = line-found q s i end escape by l refl .same in
-    let two = line-found q s r end escape by (e .0) (sym (e .1)) .same in
-    (e .0, omega arith)
-
--- ---- a comment's bytes
-
-pub comment-bytes : (s : List ℕ) → run (noneOf 13 10 10) s ≡ run inComment s
-comment-bytes = run-same (noneOf 13 10 10) inComment (λ b. two-of-three (eqb b 13) (eqb b 10))
+  -- one byte that is left, or none, is the rest of the string
+  pub ml-last : (q : ℕ) → i ≤ length s → length s ≤ i + 1 → triple q (drop i s) ≡ false → i + mlTail q false (drop i s) ≡ length s
+  ml-last q h l t =
+      elim (decLt i (length s)) [
+        | yes k ↦ omega (arith, ml-step q false s i k t, ml-end q (hides q false (getD s i 0)) s (i + 1) l)
+        | no k ↦ omega (arith, ml-end q false s i (omega arith))
+      ]
 
 -- ---- what a backslash hides matters only if it is a backslash or the mark
 

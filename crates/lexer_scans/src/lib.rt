@@ -1,16 +1,23 @@
-// Scanning: how far a run of bytes, or a string behind its opening, reaches. Each function that others call takes the
-// document and any place, and answers the place behind, which beyond the end is that place itself.
+// Scanning: how far a run of bytes, or a string after its opening, reaches. Each function that others call takes the
+// document and any place, and answers the place after, which beyond the end is that place itself.
 // Rules: specs/Extents.antt.
 ghost use mathlib.Core.Path.{_≡_};
 ghost use mathlib.Core.Bool.{true, false};
 ghost use Prim.Native.Nat.{_+_, _≤_, _<_};
 ghost use lib.ListN.{length, drop, getD};
 ghost use Rattle.text_classes.specs.Classes.{wschar};
-ghost use Rattle.text_classes.specs.Runs.{run, stands};
+ghost use Rattle.text_classes.specs.Runs.{run};
 ghost use Rattle.text_classes.proofs.RunLaws.{Block, SameEnd};
-ghost use Rattle.lexer_scans.specs.Extents.{inComment, inAtom};
-ghost use Rattle.lexer_scans.specs.Extents.{lineTail, triple, upToTwo, mlTail};
-ghost use Rattle.lexer_scans.specs.Scans.{oneOf, noneOf, escapeOf};
+ghost use Rattle.lexer_scans.specs.Extents.{inComment, inAtom, lineTail, upToTwo, mlTail};
+ghost use Rattle.lexer_scans.specs.Scans.{isSought, unsought, widthOf};
+ghost use Rattle.lexer_scans.specs.declared.Sought.the-variants.{Three};
+use text_classes::APOSTROPHE;
+use text_classes::ESCAPE;
+use text_classes::QUOTATION_MARK;
+use text_classes::is_at;
+use text_classes::is_token_start;
+use text_classes::is_triple;
+use text_classes::is_wschar;
 
 // Over the spaces and tabs.
 pub fn wschar_run(doc: &[u8], start: usize) -> usize
@@ -18,7 +25,7 @@ pub fn wschar_run(doc: &[u8], start: usize) -> usize
 {
     let mut i = start;
     while i < doc.len() {
-        if !text_classes::is_wschar(doc[i]) {
+        if !is_wschar(doc[i]) {
             return i;
         }
         i += 1;
@@ -30,21 +37,20 @@ pub fn wschar_run(doc: &[u8], start: usize) -> usize
 pub fn atom_run(doc: &[u8], start: usize) -> usize
     ensures { λ r. ⌜ r ≡ start + run inAtom (drop start (now (doc .entry))) ⌝ }
 {
-    if doc.len() <= start {
-        return start;
-    }
+    // from a place before `last` on there are four bytes
+    let last = if doc.len() < 4 { 0 } else { doc.len() - 3 };
     let mut i = start;
-    while 4 <= doc.len() - i {
-        if text_classes::is_token_start(doc[i]) {
+    while i < last {
+        if is_token_start(doc[i]) {
             return i;
         }
-        if text_classes::is_token_start(doc[i + 1]) {
+        if is_token_start(doc[i + 1]) {
             return i + 1;
         }
-        if text_classes::is_token_start(doc[i + 2]) {
+        if is_token_start(doc[i + 2]) {
             return i + 2;
         }
-        if text_classes::is_token_start(doc[i + 3]) {
+        if is_token_start(doc[i + 3]) {
             return i + 3;
         }
         i += 4;
@@ -58,7 +64,7 @@ pub fn atom_rest(doc: &[u8], start: usize) -> usize
 {
     let mut i = start;
     while i < doc.len() {
-        if text_classes::is_token_start(doc[i]) {
+        if is_token_start(doc[i]) {
             return i;
         }
         i += 1;
@@ -70,20 +76,33 @@ pub fn atom_rest(doc: &[u8], start: usize) -> usize
 pub fn comment_run(doc: &[u8], start: usize) -> usize
     ensures { λ r. ⌜ r ≡ start + run inComment (drop start (now (doc .entry))) ⌝ }
 {
-    if doc.len() <= start {
-        return start;
-    }
-    find_slice(doc, start, b'\r', b'\n', b'\n')
+    find_slice(doc, start, Sought::Two(b'\r', b'\n'))
 }
 
-// The place of the first byte that is one of three, or the end.
-fn find_slice(doc: &[u8], start: usize, a: u8, b: u8, c: u8) -> usize
-    requires { ⌜ start ≤ length (now doc) ⌝ }
-    ensures { λ r. ⌜ r ≡ start + run (noneOf a b c) (drop start (now (doc .entry))) ⌝ }
+// The bytes that a search is for.
+enum Sought {
+    One(u8),
+    Two(u8, u8),
+    Three(u8, u8, u8),
+}
+
+fn is_sought(sought: Sought, x: u8) -> bool
+    ensures { λ r. ⌜ r ≡ isSought sought x ⌝ }
 {
-    let mut i = find_block(doc, start, a, b, c);
+    match sought {
+        Sought::One(a) => x == a,
+        Sought::Two(a, b) => x == a || x == b,
+        Sought::Three(a, b, c) => x == a || (x == b || x == c),
+    }
+}
+
+// The place of the first byte from `start` on that is sought, or the end.
+fn find_slice(doc: &[u8], start: usize, sought: Sought) -> usize
+    ensures { λ r. ⌜ r ≡ start + run (unsought sought) (drop start (now (doc .entry))) ⌝ }
+{
+    let mut i = find_block(doc, start, sought);
     while i < doc.len() {
-        if is_one_of(doc[i], a, b, c) {
+        if is_sought(sought, doc[i]) {
             return i;
         }
         i += 1;
@@ -91,106 +110,73 @@ fn find_slice(doc: &[u8], start: usize, a: u8, b: u8, c: u8) -> usize
     i
 }
 
-// Over the bytes that are none of the three, as long as whole blocks are left: a place from which the search goes on.
-// Where two of them are the same, two are looked for.
-fn find_block(doc: &[u8], start: usize, a: u8, b: u8, c: u8) -> usize
-    requires { ⌜ start ≤ length (now doc) ⌝ }
-    ensures { λ r. ⌜ SameEnd (run (noneOf a b c)) (now (doc .entry)) start r ⌝ }
+// Over bytes that are not sought, as long as whole blocks are left: a place from which the search goes on. Each caller
+// names what it looks for, so that the compiler makes a loop of its own for it, with those bytes as constants.
+fn find_block(doc: &[u8], start: usize, sought: Sought) -> usize
+    ensures { λ r. ⌜ r + run (unsought sought) (drop r (now (doc .entry))) ≡ start + run (unsought sought) (drop start (now (doc .entry))) ⌝ }
 {
-    if b == c {
-        return find_pair(doc, start, a, b);
+    let width = width_of(sought) as usize;
+    if doc.len() < width {
+        return start;
     }
-    if a == b {
-        return find_pair(doc, start, c, a);
-    }
+    let last = doc.len() - width;
     let mut i = start;
-    while 32 <= doc.len() - i {
-        let n = clear_bytes(doc, i, a, b, c);
-        if n < 32 {
+    while i <= last {
+        let n = clear_bytes(doc, i, sought);
+        if n < width {
             return i + n;
         }
-        i += 32;
+        i += width;
     }
     i
 }
 
-// The same for two.
-fn find_pair(doc: &[u8], start: usize, a: u8, b: u8) -> usize
-    requires { ⌜ start ≤ length (now doc) ⌝ }
-    ensures { λ r. ⌜ SameEnd (run (noneOf a b b)) (now (doc .entry)) start r ⌝ }
+// How many bytes a block has: so few that little is read in vain, and so many that the compiler does not unroll its loop.
+fn width_of(sought: Sought) -> u8
+    ensures { λ r. ⌜ r ≡ widthOf sought ⌝ }
 {
-    let mut i = start;
-    while 48 <= doc.len() - i {
-        let n = clear_of_pair(doc, i, a, b);
-        if n < 48 {
-            return i + n;
-        }
-        i += 48;
+    match sought {
+        Sought::One(_) => 64,
+        Sought::Two(_, _) => 48,
+        Sought::Three(_, _, _) => 32,
     }
-    i
 }
 
-// How many of the 32 bytes from i on are none of the three, before the first that is one: the least of 32 places,
-// counted in a byte, so that the compiler takes sixteen at once. A shorter block it would unroll.
-fn clear_bytes(doc: &[u8], i: usize, a: u8, b: u8, c: u8) -> usize
-    requires { ⌜ i + 32 ≤ length (now doc) ⌝ }
-    ensures { λ r. ⌜ (r ≤ 32) × Block (noneOf a b c) (now (doc .entry)) i r ⌝ }
+// How many bytes of the block from i on stand before the first that is sought: the least of their places, counted in a
+// byte, so that the compiler takes sixteen at once.
+fn clear_bytes(doc: &[u8], i: usize, sought: Sought) -> usize
+    requires { ⌜ i + widthOf sought ≤ length (now doc) ⌝ }
+    ensures { λ r. ⌜ (r ≤ widthOf sought) × Block (unsought sought) (now (doc .entry)) i r ⌝ }
 {
-    let mut first: u8 = 32;
+    let width = width_of(sought);
+    let mut first = width;
     let mut k: u8 = 0;
-    let mut j = 0;
-    while j < 32 {
-        first = least(place_of(doc[i + j], a, b, c, k), first);
+    while k < width {
+        first = least(place_of(sought, doc[i + k as usize], k), first);
         k += 1;
-        j += 1;
     }
     first as usize
 }
 
-// The same for two, of 48 bytes.
-fn clear_of_pair(doc: &[u8], i: usize, a: u8, b: u8) -> usize
-    requires { ⌜ i + 48 ≤ length (now doc) ⌝ }
-    ensures { λ r. ⌜ (r ≤ 48) × Block (noneOf a b b) (now (doc .entry)) i r ⌝ }
+// The place k where x is sought, else one beyond every block. Each byte is compared by itself and without a jump, which is
+// what the compiler takes sixteen of at once.
+fn place_of(sought: Sought, x: u8, k: u8) -> u8
+    ensures { λ r. ⌜ (k < r → unsought sought x ≡ true) ⌝ }
 {
-    let mut first: u8 = 48;
-    let mut k: u8 = 0;
-    let mut j = 0;
-    while j < 48 {
-        first = least(place_of_pair(doc[i + j], a, b, k), first);
-        k += 1;
-        j += 1;
+    match sought {
+        Sought::One(a) => place_if(x == a, k),
+        Sought::Two(a, b) => least(place_if(x == a, k), place_if(x == b, k)),
+        Sought::Three(a, b, c) => least(
+            place_if(x == a, k),
+            least(place_if(x == b, k), place_if(x == c, k)),
+        ),
     }
-    first as usize
 }
 
-// The place k where x is one of the three, else the end of the block.
-fn place_of(x: u8, a: u8, b: u8, c: u8, k: u8) -> u8
-    requires { ⌜ k ≤ 32 ⌝ }
-    ensures { λ r. ⌜ (r ≤ 32) × (k < r → noneOf a b c x ≡ true) ⌝ }
+fn place_if(met: bool, k: u8) -> u8
+    ensures { λ r. ⌜ (k < r → met ≡ false) ⌝ }
 {
-    if x == a {
-        return k;
-    }
-    if x == b {
-        return k;
-    }
-    if x == c {
-        return k;
-    }
-    32
-}
-
-fn place_of_pair(x: u8, a: u8, b: u8, k: u8) -> u8
-    requires { ⌜ k ≤ 48 ⌝ }
-    ensures { λ r. ⌜ (r ≤ 48) × (k < r → noneOf a b b x ≡ true) ⌝ }
-{
-    if x == a {
-        return k;
-    }
-    if x == b {
-        return k;
-    }
-    48
+    if met { k } else { 0xFF }
 }
 
 fn least(a: u8, b: u8) -> u8
@@ -199,61 +185,31 @@ fn least(a: u8, b: u8) -> u8
     if a < b { a } else { b }
 }
 
-fn is_one_of(x: u8, a: u8, b: u8, c: u8) -> bool
-    ensures { λ r. ⌜ r ≡ oneOf a b c x ⌝ }
-{
-    x == a || (x == b || x == c)
-}
-
-// The byte that hides the next one in a string with the mark q; where none does, the mark.
-fn escape_of(q: u8) -> u8
-    ensures { λ r. ⌜ r ≡ escapeOf q ⌝ }
-{
-    if q == b'"' { b'\\' } else { q }
-}
-
-// Behind the opening mark of a literal string.
+// After the opening mark of a literal string.
 pub fn literal_tail(doc: &[u8], start: usize) -> usize
     ensures { λ r. ⌜ r ≡ start + lineTail 39 false (drop start (now (doc .entry))) ⌝ }
 {
-    if doc.len() <= start {
-        return start;
+    let i = find_slice(doc, start, Sought::Two(APOSTROPHE, b'\n'));
+    if is_at(doc, i, APOSTROPHE) {
+        return i + 1;
     }
-    let i = find_slice(doc, start, b'\'', b'\n', b'\n');
-    if i == doc.len() {
-        return i;
-    }
-    if doc[i] == b'\n' {
-        return i;
-    }
-    i + 1
+    i
 }
 
-// Behind the opening mark of a basic string.
+// After the opening mark of a basic string.
 pub fn basic_tail(doc: &[u8], start: usize) -> usize
     ensures { λ r. ⌜ r ≡ start + lineTail 34 false (drop start (now (doc .entry))) ⌝ }
 {
-    let mut i = if start < doc.len() {
-        find_slice(doc, start, b'"', b'\\', b'\n')
-    } else {
-        start
-    };
+    let mut i = start;
     while i < doc.len() {
-        let b = doc[i];
-        if b == b'"' {
+        i = find_slice(doc, i, Sought::Three(QUOTATION_MARK, ESCAPE, b'\n'));
+        if is_at(doc, i, QUOTATION_MARK) {
             return i + 1;
         }
-        if b == b'\n' {
+        if !is_at(doc, i, ESCAPE) {
             return i;
         }
-        if b == b'\\' {
-            if i + 1 == doc.len() {
-                return i + 1;
-            }
-            i = over_escapes(doc, i);
-        } else {
-            i = find_slice(doc, i, b'"', b'\\', b'\n');
-        }
+        i = over_escapes(doc, i);
     }
     i
 }
@@ -261,47 +217,45 @@ pub fn basic_tail(doc: &[u8], start: usize) -> usize
 // From an escape on: over it and the byte that it hides, and over more of them as long as the next one is near. A place
 // from which the search goes on.
 fn over_escapes(doc: &[u8], start: usize) -> usize
-    requires { ⌜ (start + 2 ≤ length (now doc)) × (getD (now doc) start 0 ≡ 92) ⌝ }
+    requires { ⌜ (start < length (now doc)) × (getD (now doc) start 0 ≡ 92) ⌝ }
     ensures { λ r. ⌜ (start < r) × SameEnd (lineTail 34 false) (now (doc .entry)) start r ⌝ }
 {
     let mut i = start;
-    while 2 <= doc.len() - i {
+    while i + 1 < doc.len() {
         if doc[i + 1] == b'\n' {
             return i + 1;
         }
         i = near(doc, i + 2);
-        if i == doc.len() {
-            return i;
-        }
-        if doc[i] != b'\\' {
+        if !is_at(doc, i, ESCAPE) {
             return i;
         }
     }
-    i
+    doc.len()
 }
 
-// Over sixteen bytes at most that are no mark, no escape and no LF, one by one and four to a turn: behind an escape the
+// Over sixteen bytes at most that are no mark, no escape and no LF, one by one and four to a turn: after an escape the
 // next is often near, and a block would be read in vain. A place from which the search goes on.
 fn near(doc: &[u8], start: usize) -> usize
     requires { ⌜ start ≤ length (now doc) ⌝ }
-    ensures { λ r. ⌜ (start ≤ r) × SameEnd (run (noneOf 34 92 10)) (now (doc .entry)) start r ⌝ }
+    ensures { λ r. ⌜ (start ≤ r) × SameEnd (run (unsought (Three 34 92 10))) (now (doc .entry)) start r ⌝ }
 {
+    let sought = Sought::Three(QUOTATION_MARK, ESCAPE, b'\n');
     let mut i = start;
     let mut n: usize = 0;
     while n < 4 {
         if doc.len() - i < 4 {
             return i;
         }
-        if is_one_of(doc[i], b'"', b'\\', b'\n') {
+        if is_sought(sought, doc[i]) {
             return i;
         }
-        if is_one_of(doc[i + 1], b'"', b'\\', b'\n') {
+        if is_sought(sought, doc[i + 1]) {
             return i + 1;
         }
-        if is_one_of(doc[i + 2], b'"', b'\\', b'\n') {
+        if is_sought(sought, doc[i + 2]) {
             return i + 2;
         }
-        if is_one_of(doc[i + 3], b'"', b'\\', b'\n') {
+        if is_sought(sought, doc[i + 3]) {
             return i + 3;
         }
         i += 4;
@@ -310,73 +264,45 @@ fn near(doc: &[u8], start: usize) -> usize
     i
 }
 
-// Behind the three opening marks of a multi-line literal string, and of a multi-line basic string.
+// After the three opening marks of a multi-line literal string.
 pub fn ml_literal_tail(doc: &[u8], start: usize) -> usize
     ensures { λ r. ⌜ r ≡ start + mlTail 39 false (drop start (now (doc .entry))) ⌝ }
 {
-    ml_tail(doc, start, b'\'')
-}
-
-pub fn ml_basic_tail(doc: &[u8], start: usize) -> usize
-    ensures { λ r. ⌜ r ≡ start + mlTail 34 false (drop start (now (doc .entry))) ⌝ }
-{
-    ml_tail(doc, start, b'"')
-}
-
-// Behind the three opening marks q, where q is not 0.
-fn ml_tail(doc: &[u8], start: usize, q: u8) -> usize
-    requires { ⌜ 0 < q ⌝ }
-    ensures { λ r. ⌜ r ≡ start + mlTail q false (drop start (now (doc .entry))) ⌝ }
-{
-    let escape = escape_of(q);
     let mut i = start;
     while i < doc.len() {
-        i = find_slice(doc, i, q, escape, escape);
+        i = find_slice(doc, i, Sought::One(APOSTROPHE));
+        if is_triple(doc, i, APOSTROPHE) {
+            return over_marks(doc, i + 3, APOSTROPHE);
+        }
         if i == doc.len() {
             return i;
         }
-        if is_triple(doc, i, q) {
-            return over_marks(doc, i + 3, q);
-        }
-        let b = doc[i];
         i += 1;
-        if b != q {
-            // an escape: over the byte behind it too
-            if i == doc.len() {
-                return i;
-            }
-            i += 1;
-        }
     }
     i
 }
 
-// Do three apostrophes stand at i, or three quotation marks?
-pub fn is_ml_literal(doc: &[u8], i: usize) -> bool
-    ensures { λ r. ⌜ r ≡ triple 39 (drop i (now (doc .entry))) ⌝ }
+// After the three opening marks of a multi-line basic string.
+pub fn ml_basic_tail(doc: &[u8], start: usize) -> usize
+    ensures { λ r. ⌜ r ≡ start + mlTail 34 false (drop start (now (doc .entry))) ⌝ }
 {
-    i < doc.len() && is_triple(doc, i, b'\'')
-}
-
-pub fn is_ml_basic(doc: &[u8], i: usize) -> bool
-    ensures { λ r. ⌜ r ≡ triple 34 (drop i (now (doc .entry))) ⌝ }
-{
-    i < doc.len() && is_triple(doc, i, b'"')
-}
-
-// Do three marks stand at i?
-fn is_triple(doc: &[u8], i: usize, q: u8) -> bool
-    requires { ⌜ i ≤ length (now doc) ⌝ }
-    ensures { λ r. ⌜ r ≡ triple q (drop i (now (doc .entry))) ⌝ }
-{
-    is_at(doc, i, q) && (is_at(doc, i + 1, q) && is_at(doc, i + 2, q))
-}
-
-// Does the byte q stand at i?
-pub fn is_at(doc: &[u8], i: usize, q: u8) -> bool
-    ensures { λ r. ⌜ r ≡ stands q (drop i (now (doc .entry))) ⌝ }
-{
-    i < doc.len() && doc[i] == q
+    let mut i = start;
+    while i < doc.len() {
+        i = find_slice(doc, i, Sought::Two(QUOTATION_MARK, ESCAPE));
+        if is_triple(doc, i, QUOTATION_MARK) {
+            return over_marks(doc, i + 3, QUOTATION_MARK);
+        }
+        if doc.len() - i < 2 {
+            return doc.len();
+        }
+        // over a mark, or over an escape and the byte that it hides
+        if doc[i] == ESCAPE {
+            i += 2;
+        } else {
+            i += 1;
+        }
+    }
+    i
 }
 
 // Over two marks at most.

@@ -107,9 +107,9 @@ module _ (s : List ℕ) (i : ℕ) (h : i + 4 ≤ length s) (byte : (k : ℕ) →
       two s i 4 h byte 2 (i + 2) (i + 3) (omega arith) (omega arith) (omega arith) (each .0)
       (two s i 4 h byte 0 i (i + 1) (omega arith) (omega arith) (omega arith) (each .1) (block-start ascii s i))
 
--- ---- two blocks of n, one in front and one at the end
+-- ---- two blocks of n, one at the front and one at the end
 
--- a run goes on behind each part of it
+-- a run goes on after each part of it
 run-on : (p : ℕ → Bool) (k : ℕ) (s : List ℕ) → k ≤ run p s → run p s ≡ k + run p (drop k s)
 unfolding run
 run-on p zero s h = omega arith

@@ -6,8 +6,10 @@ use mathlib.Core.Bool.{Bool, true, false}
 use mathlib.Core.List.{List, [], _∷_}
 use native.Mathlib.Decide.{decLt}
 use native.Mathlib.Omega.{arith}
+use borrow.Author.Tests.{eqb-true}
+use lib.Dec.{eqb}
 use lib.ListN.{length, getD, take, drop, List·getD-eq-default}
-use Rattle.text_classes.specs.Runs.{firstIs}
+use Rattle.text_classes.specs.Runs.{firstIs, stands}
 use Rattle.text_classes.proofs.Conds.{not-both}
 
 module _ (p : ℕ → Bool) where
@@ -43,3 +45,9 @@ module _ (p : ℕ → Bool) where
   first-take [] (suc n) i h = refl
   first-take (b ∷ s) (suc n) zero h = refl
   first-take (b ∷ s) (suc n) (suc i) h = first-take s n i (omega arith)
+
+-- a byte that stands at a place is the byte there
+pub stands-there : (q : ℕ) (s : List ℕ) (i : ℕ) → stands q (drop i s) ≡ true → (i < length s) × (getD s i 0 ≡ q)
+stands-there q s i t =
+    let within = first-within (λ b. eqb b q) s i t in
+    (within, eqb-true _ _ (sym (first-there (λ b. eqb b q) s i within) ∙ t))

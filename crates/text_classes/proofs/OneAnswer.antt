@@ -57,3 +57,9 @@ is-unquoted-char κs a x y s t p q = p ∙ sym q
 
 pub is-continuation : OneAnswer promised.is_continuation.Reads.Learnt
 is-continuation κs a x y s t p q = p ∙ sym q
+
+pub is-at : OneAnswer promised.is_at.Reads.Learnt
+is-at κs a x y s t p q = p ∙ sym q
+
+pub is-triple : OneAnswer promised.is_triple.Reads.Learnt
+is-triple κs a x y s t p q = p ∙ sym q

@@ -1,8 +1,22 @@
-// The byte sets that toml_parser, the Rust library that this project follows, tests with
-// `contains_token`, each under its name there; and the bytes inside a character.
-// Rule: specs/Classes.antt, a definition for each.
+// The bytes and the byte sets that toml_parser, the Rust library that this project follows, gives a name, each under its name
+// there; the bytes inside a character; and whether a byte, or three of it, stand at a place. Rules: specs/Classes.antt, a
+// definition for each set, and specs/Runs.antt.
 ghost use mathlib.Core.Path.{_≡_};
+ghost use lib.ListN.{drop};
 ghost use Rattle.text_classes.specs.Classes.{wschar, tokenStart, nonAscii, literalChar, mllChar, basicUnescaped, mlbUnescaped, digit, hexdig, unquotedChar, continuation};
+ghost use Rattle.text_classes.specs.Runs.{stands, triple};
+
+// comment-start-symbol = %x23 ; #
+pub const COMMENT_START_SYMBOL: u8 = b'#';
+
+// apostrophe = %x27 ; ' apostrophe
+pub const APOSTROPHE: u8 = b'\'';
+
+// quotation-mark = %x22 ; "
+pub const QUOTATION_MARK: u8 = b'"';
+
+// escape = %x5C ; \
+pub const ESCAPE: u8 = b'\\';
 
 // WSCHAR
 pub fn is_wschar(b: u8) -> bool
@@ -124,4 +138,19 @@ pub fn is_continuation(b: u8) -> bool
         0x80..=0xBF => true,
         _ => false,
     }
+}
+
+// Does the byte q stand at place i?
+pub fn is_at(s: &[u8], i: usize, q: u8) -> bool
+    ensures { λ r. ⌜ r ≡ stands q (drop i (now (s .entry))) ⌝ }
+{
+    i < s.len() && s[i] == q
+}
+
+// Do three marks q stand from place i on? Of apostrophes that is ml-literal-string-delim, of quotation marks
+// ml-basic-string-delim.
+pub fn is_triple(s: &[u8], i: usize, q: u8) -> bool
+    ensures { λ r. ⌜ r ≡ triple q (drop i (now (s .entry))) ⌝ }
+{
+    is_at(s, i, q) && (is_at(s, i + 1, q) && is_at(s, i + 2, q))
 }

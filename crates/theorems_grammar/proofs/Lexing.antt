@@ -10,7 +10,8 @@ use Rattle.text_classes.specs.Classes.{wschar}
 use Rattle.text.specs.Utf8.{encodeScalar, encodes, All}
 use Rattle.text.proofs.EncodeLaws.{encode-length}
 use Rattle.lexer_token.specs.declared.TokenKind.{TokenKind}
-use Rattle.lexer_scans.specs.Extents.{lineTail, triple}
+use Rattle.text_classes.specs.Runs.{triple}
+use Rattle.lexer_scans.specs.Extents.{lineTail}
 use Rattle.lexer.specs.Table.{kindBy, kindOf, extent, tokenLen}
 use Rattle.decoder_rules.specs.declared.Edition.{Edition}
 use Rattle.theorems_grammar.specs.Grammar.{LiteralChars, LiteralString, literal-string, BasicUnescaped, EscapeSeqChar, escaped, basic-unescaped, escaped-char, BasicChars, BasicString, basic-string, MlLiteralString, ml-literal-string, MlBasicString, ml-basic-string}

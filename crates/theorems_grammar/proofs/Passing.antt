@@ -13,9 +13,9 @@ use borrow.Author.Tests.{ne-eqb, eq-eqb}
 use Rattle.text.specs.Utf8.{encodes, All}
 use Rattle.text.proofs.EncodeLaws.{parts, encode-1}
 use Rattle.text.proofs.ReadLaws.{encodes-append}
-use Rattle.text_classes.specs.Runs.{stands}
+use Rattle.text_classes.specs.Runs.{stands, triple}
 use Rattle.lexer_scans.specs.Extents.{hides}
-use Rattle.lexer_scans.specs.Extents.{lineTail, triple, upToTwo, mlTail}
+use Rattle.lexer_scans.specs.Extents.{lineTail, upToTwo, mlTail}
 use Rattle.theorems_grammar.specs.Grammar.{x20, x09, Newline, x0A, x0D-0A, BasicUnescaped, LiteralChar}
 use Rattle.theorems_grammar.specs.Strings.{Apart}
 use Rattle.theorems_grammar.proofs.Encoded.{chars-bytes}

@@ -8,7 +8,7 @@ use mathlib.Core.List.{List, [], _∷_, _++_, append-assoc, cons≢nil}
 use native.Mathlib.Omega.{arith}
 use lib.ListN.{length}
 use Rattle.text_classes.specs.Classes.{wschar, literalChar, mllChar, basicUnescaped, mlbUnescaped, hexdig}
-use Rattle.text_classes.specs.Runs.{run}
+use Rattle.text_classes.specs.Runs.{run, triple}
 use Rattle.text_classes.proofs.Conds.{not-both}
 use Rattle.text.specs.Utf8.{encodeScalar, encodes}
 use Rattle.decoder_rules.specs.declared.Edition.{Edition}
@@ -17,9 +17,9 @@ use Rattle.decoder_rules.specs.Encodings.{mllPlain, mlbPlain, basicInvalid}
 use Rattle.decoder_rules.specs.Pieces.{gives, notes}
 use Rattle.decoder_rules.specs.Escapes.{letterOf, hexValue, hexFrom, hexPiece, escapePiece}
 use Rattle.decoder_rules.specs.Bodies.{literalPiece, mlLiteralPiece, basicPiece, skips, escapedNl, escapedMore, mlbContent, mlBasicPiece}
-use Rattle.decoder_rules.specs.Marks.{lineEnds, threes, newlineLen, mlStart, mlClosed, mlEnd, mlEnds}
+use Rattle.decoder_rules.specs.Marks.{lineEnds, newlineLen, mlStart, mlClosed, mlEnd, mlEnds}
 use Rattle.decoder_rules.specs.Decoding.{bytesOf, errorsOf}
-use Rattle.lexer_scans.specs.Extents.{triple, upToTwo, mlTail}
+use Rattle.lexer_scans.specs.Extents.{upToTwo, mlTail}
 use Rattle.lexer.specs.Table.{kindBy, kindOf, extent, tokenLen}
 use Rattle.theorems_grammar.specs.Grammar.{Wschar, Ws, Newline, OptNewline, NonAscii, BasicUnescaped, HexDig, HexDigits, EscapeSeqChar, escaped, BasicChar, BasicChars, BasicString, basic-string, MlbUnescaped, MlbChar, WscharNewline, WscharNewlines, mlb-escaped-nl, MlbContent, MlbContents, MlbContents1, MlbQuotes, MlbGroups, OptMlbQuotes, ml-basic-body, ml-basic-string, LiteralChar, LiteralChars, literal-string, MllChar, MllContent, MllContents, MllContents1, MllQuotes, MllGroups, OptMllQuotes, ml-literal-body, ml-literal-string}
 use Rattle.theorems_grammar.specs.Prose.{startsNewline, startsBlank}
@@ -39,7 +39,7 @@ abbrev unlexed : List ℕ
 unlexed = 39 ∷ 39 ∷ 39 ∷ 97 ∷ 39 ∷ 39 ∷ 39 ∷ 98 ∷ 39 ∷ 39 ∷ 39 ∷ []
 
 pub unlexed-decodes : Decodes Toml10 ml-literal unlexed (97 ∷ 39 ∷ 39 ∷ 39 ∷ 98 ∷ [])
-unfolding errorsOf bytesOf mlEnds mlStart mlClosed mlEnd newlineLen threes notes gives mlLiteralPiece run mllPlain mllChar
+unfolding errorsOf bytesOf mlEnds mlStart mlClosed mlEnd newlineLen triple notes gives mlLiteralPiece run mllPlain mllChar
 unlexed-decodes = (refl, refl)
 
 pub unlexed-short : tokenLen (encodes unlexed ++ []) ≡ 7
@@ -179,7 +179,7 @@ ml-literal-means =
     )
 
 pub ml-literal-decodes : Decodes Toml10 ml-literal (encodes ml-literal-text) (97 ∷ 13 ∷ 10 ∷ 39 ∷ 39 ∷ 98 ∷ [])
-unfolding encodeScalar errorsOf bytesOf notes mlEnds mlStart mlClosed mlEnd newlineLen threes gives mlLiteralPiece run mllPlain mllChar
+unfolding encodeScalar errorsOf bytesOf notes mlEnds mlStart mlClosed mlEnd newlineLen triple gives mlLiteralPiece run mllPlain mllChar
 ml-literal-decodes = (refl, refl)
 
 -- ---- an ml-basic string: """a\ space LF space "b CR LF""" means a"b CR LF: the line-ending backslash drops the blanks after it
@@ -209,7 +209,7 @@ ml-basic-means =
     )
 
 pub ml-basic-decodes : Decodes Toml10 ml-basic (encodes ml-basic-text) (97 ∷ 34 ∷ 98 ∷ 13 ∷ 10 ∷ [])
-unfolding encodeScalar errorsOf bytesOf notes mlEnds mlStart mlClosed mlEnd newlineLen threes gives mlBasicPiece mlbContent run mlbPlain mlbUnescaped skips wschar escapedNl escapedMore escapePiece
+unfolding encodeScalar errorsOf bytesOf notes mlEnds mlStart mlClosed mlEnd newlineLen triple gives mlBasicPiece mlbContent run mlbPlain mlbUnescaped skips wschar escapedNl escapedMore escapePiece
 ml-basic-decodes = (refl, refl)
 
 -- ---- the editions differ: "\e\x41" means U+001B and A in TOML 1.1, and TOML 1.0 does not derive it

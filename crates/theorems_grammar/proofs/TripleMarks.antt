@@ -19,10 +19,11 @@ use Rattle.decoder_rules.specs.declared.Ends.{Ends}
 use Rattle.decoder_rules.specs.Encodings.{markError}
 use Rattle.decoder_rules.specs.Pieces.{gives, notesAt, collect}
 use Rattle.decoder_rules.specs.Bodies.{pieceOf}
-use Rattle.text_classes.specs.Runs.{stands}
-use Rattle.decoder_rules.specs.Marks.{threes, newlineLen, mlStart, mlClosed, mlEnds, endsOf, bodyOf}
+use Rattle.text_classes.specs.Runs.{stands, triple}
+use Rattle.decoder_rules.specs.Marks.{newlineLen, mlStart, mlClosed, mlEnds, endsOf, bodyOf}
 use Rattle.decoder_rules.specs.Decoding.{bytesOf, errorsOf}
 use Rattle.text_classes.proofs.Conds.{both-left, both-right}
+use Rattle.text_classes.proofs.TripleLaws.{triple-bytes, triple-fits}
 use Rattle.decoder_rules.proofs.MarkLaws.{ml-is, start-open, closed-is, end-closed}
 use Rattle.decoder_rules.proofs.DecodeLaws.{bytes-is, errors-is}
 use Rattle.lexer_scans.specs.Extents.{mlTail}
@@ -33,25 +34,17 @@ use Rattle.theorems_grammar.proofs.Encoded.{side, ascii, beyond, first-
 use Rattle.theorems_grammar.proofs.Reading.{ErrorFree, Reads, ReadsNewlines, reads-none}
 use Rattle.theorems_grammar.proofs.LineMarks.{both-marks}
 use Rattle.theorems_grammar.proofs.ClassLaws.{no-true}
-use Rattle.theorems_grammar.proofs.Passing.{Mark, InMl, newline-in, pass-all, ml-pass}
+use Rattle.theorems_grammar.proofs.Passing.{Mark, InMl, triple-yes, newline-in, pass-all, ml-pass}
 
 -- ---- three marks at the front
 
 abbrev pub delim : ℕ → List ℕ
 delim q = q ∷ (q ∷ (q ∷ []))
 
-threes-at : (q : ℕ) (s : List ℕ) → threes q (q ∷ (q ∷ (q ∷ s))) ≡ true
-unfolding threes
-threes-at q s = rw (le-leb 3 (suc (suc (suc (length s)))) (omega arith), eq-eqb q q refl)
-
-threes-inv : (q : ℕ) (s : List ℕ) → threes q s ≡ true → (r : List ℕ) × (s ≡ q ∷ (q ∷ (q ∷ r)))
-unfolding threes
-threes-inv q s marks =
-    let first-on = both-right (leb 3 (length s)) _ marks in
-    let second-on = both-right (eqb (getD s 0 0) q) _ first-on in
-    by-length s (leb-true 3 (length s) (both-left (leb 3 (length s)) _ marks))
-    (eqb-true _ q (both-left (eqb (getD s 0 0) q) _ first-on))
-    (eqb-true _ q (both-left (eqb (getD s 1 0) q) _ second-on)) (eqb-true _ q (both-right (eqb (getD s 1 0) q) _ second-on))
+triple-inv : (q : ℕ) (s : List ℕ) → triple q s ≡ true → (r : List ℕ) × (s ≡ q ∷ (q ∷ (q ∷ r)))
+triple-inv q s opens =
+    let marks = triple-bytes q s opens in
+    by-length s (triple-fits q s opens) (marks .0) (marks .1) (marks .2)
   where
     by-length : (s : List ℕ) → 3 ≤ length s → getD s 0 0 ≡ q → getD s 1 0 ≡ q → getD s 2 0 ≡ q
         → (r : List ℕ) × (s ≡ q ∷ (q ∷ (q ∷ r)))
@@ -174,8 +167,8 @@ module _ (trims : Bool) (q : ℕ) where
       let end = length t - 3 in
       let last : drop end t ≡ delim q =
       ap (drop end) split ∙ drop-at (delim q ++ (n ++ m)) (delim q) end (omega (arith, length-append n m)) in
-      let shut : threes q (drop end t) ≡ true = ap (threes q) last ∙ threes-at q [] in
-      ml-is trims q t true true (3 + length n) end (sym (threes-at q (n ++ (m ++ delim q))))
+      let shut : triple q (drop end t) ≡ true = ap (triple q) last ∙ triple-yes q [] in
+      ml-is trims q t true true (3 + length n) end (sym (triple-yes q (n ++ (m ++ delim q))))
       (ap (λ (i : ℕ). 3 + i) (sym newline) ∙ start-open t)
       (sym shut ∙ closed-is q (3 + length n) t (omega arith)) (end-closed q (3 + length n) t trims)
 
@@ -190,7 +183,7 @@ module _ (trims : Bool) (q : ℕ) where
   ml-inv : (t : List ℕ) → mlEnds trims q t .opened ≡ true → mlEnds trims q t .closed ≡ true → Fenced t
   unfolding mlEnds mlStart mlClosed
   ml-inv t opened closed =
-      let front = threes-inv q t opened in
+      let front = triple-inv q t opened in
       by-front (front .0) (front .1) (rw opened at closed)
     where
       split-there : (s : List ℕ) → t ≡ q ∷ (q ∷ (q ∷ s)) → (line : Split s) → (3 + length (line .newline)) + 3 ≤ length t
@@ -223,12 +216,12 @@ module _ (trims : Bool) (q : ℕ) where
       roomy : Bool
       roomy = leb ((3 + newlineLen (drop 3 t)) + 3) (length t)
 
-      by-front : (s : List ℕ) → t ≡ q ∷ (q ∷ (q ∷ s)) → (roomy && threes q (drop (length t - 3) t)) ≡ true → Fenced t
+      by-front : (s : List ℕ) → t ≡ q ∷ (q ∷ (q ∷ s)) → (roomy && triple q (drop (length t - 3) t)) ≡ true → Fenced t
       by-front s text closed =
           let line = newline-split s in
           let newline : newlineLen (drop 3 t) ≡ length (line .newline) = ap (λ y. newlineLen (drop 3 y)) text ∙ line .long in
           let long = leb-true ((3 + newlineLen (drop 3 t)) + 3) (length t) (both-left roomy _ closed) in
-          split-there s text line (omega arith) (threes-inv q (drop (length t - 3) t) (both-right roomy _ closed))
+          split-there s text line (omega arith) (triple-inv q (drop (length t - 3) t) (both-right roomy _ closed))
 
   fenced-body : (n m : List ℕ) → bodyOf (fenced-ends-at (3 + length n) (fenced q n m)) (fenced q n m) ≡ m
   fenced-body n m =

@@ -9,12 +9,12 @@ use lib.ListN.{drop}
 use lib.Dec.{T, eqb, ltb, ltb→lt}
 use borrow.Author.Tests.{eqb-true, not-false}
 use Rattle.text_classes.specs.Classes.{wschar, tokenStart}
-use Rattle.text_classes.specs.Runs.{run}
+use Rattle.text_classes.specs.Runs.{run, triple}
 use Rattle.text_classes.proofs.Conds.{cond-case, both-right, not-both}
 use Rattle.text_classes.proofs.ByteTable.{allOf, and-left as front-of, and-right as rest-of}
 use Rattle.lexer_token.specs.declared.TokenKind.{TokenKind}
 use Rattle.lexer_scans.specs.Extents.{eol, hides, closes, inComment, inAtom}
-use Rattle.lexer_scans.specs.Extents.{lineTail, triple, upToTwo, mlTail, newlineTail}
+use Rattle.lexer_scans.specs.Extents.{lineTail, upToTwo, mlTail, newlineTail}
 use Rattle.lexer.specs.Table.{kindOf, extent, tokenLen}
 use Rattle.lexer.proofs.KindLaws.{by-kind}
 use Rattle.theorems_tokens.specs.Cuts.{Clean, at-end, before, after, further}

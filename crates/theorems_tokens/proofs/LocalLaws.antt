@@ -12,13 +12,13 @@ use lib.Dec.{eqb}
 use lib.ListN.{length, getD, take, drop}
 use lib.Seq.{getD-take, drop-drop}
 use Rattle.text_classes.specs.Classes.{wschar}
-use Rattle.text_classes.specs.Runs.{run, firstIs, stands}
+use Rattle.text_classes.specs.Runs.{run, firstIs, stands, triple}
 use Rattle.text_classes.proofs.Conds.{cond-case}
 use Rattle.text_classes.proofs.FirstLaws.{first-take}
 use Rattle.lexer_token.specs.declared.TokenKind.{TokenKind}
 use Rattle.lexer_token.specs.declared.TokenKind.the-variants.{Dot, Equals, Comma, LeftSquareBracket, RightSquareBracket, LeftCurlyBracket, RightCurlyBracket, Whitespace, Comment, Newline, LiteralString, BasicString, MlLiteralString, MlBasicString, Atom, Eof}
 use Rattle.lexer_scans.specs.Extents.{hides, closes, inComment, inAtom}
-use Rattle.lexer_scans.specs.Extents.{lineTail, triple, upToTwo, mlTail, newlineTail}
+use Rattle.lexer_scans.specs.Extents.{lineTail, upToTwo, mlTail, newlineTail}
 use Rattle.lexer.specs.Table.{kindBy, kindOf, extent, tokenLen}
 use Rattle.lexer.proofs.TokenLaws.{token-long}
 

@@ -1,4 +1,4 @@
--- `fill` is right because the tokens that begin before the end of the document are stored first, and Eof behind them.
+-- `fill` is right because the tokens that begin before the end of the document are stored first, and Eof after them.
 -- Assumes nothing.
 use Prim.Native.Nat.{ℕ, _+_}
 use mathlib.Core.Path.{_≡_, refl, ap, _∙_}

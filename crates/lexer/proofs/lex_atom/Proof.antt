@@ -1,4 +1,4 @@
--- `lex_atom` is right because an atom is its first byte and the run behind it.
+-- `lex_atom` is right because an atom is its first byte and the run after it.
 -- Assumes nothing.
 use mathlib.Core.Path.{_∙_}
 use lib.Seq.{drop-drop}

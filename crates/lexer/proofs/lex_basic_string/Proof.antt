@@ -1,4 +1,4 @@
--- `lex_basic_string` is right because the token is its opening and the tail behind it.
+-- `lex_basic_string` is right because the token is its opening and the tail after it.
 -- Assumes nothing.
 use mathlib.Core.Path.{_∙_}
 use lib.Seq.{drop-drop}

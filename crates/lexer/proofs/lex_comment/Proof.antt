@@ -1,4 +1,4 @@
--- `lex_comment` is right because a comment is its first byte and the run behind it.
+-- `lex_comment` is right because a comment is its first byte and the run after it.
 -- Assumes nothing.
 use mathlib.Core.Path.{_∙_}
 use lib.Seq.{drop-drop}

@@ -1,4 +1,4 @@
--- `lex_crlf` is right because a CR stands at its place, and it asks for the LF behind it.
+-- `lex_crlf` is right because a CR stands at its place, and it asks for the LF after it.
 -- Assumes nothing.
 use Prim.Native.Nat.{_+_}
 use mathlib.Core.Path.{_≡_, refl, sym, _∙_}
@@ -13,7 +13,7 @@ use Rattle.lexer.specs.Table.{kindBy, extent}
 use Rattle.lexer.specs.Tokens.{tokenBy}
 use Rattle.lexer.proofs.KindLaws.{KindThere}
 use Rattle.lexer_scans.proofs.MarkLaws.{stands-at, newlineTail-at}
-use Rattle.lexer.proofs.EntryLaws.{entry-lf, entry-cr}
+use Rattle.lexer.proofs.NextLaws.{next-lf, next-cr}
 use borrow.Author.Needs.{needs}
 use native.Mathlib.Omega.{arith}
 use Rattle.lexer.proofs.lex_crlf.Statement.{statement}
@@ -24,7 +24,7 @@ newline : (c : tie.Start) → KindThere (c .args .doc .now) (c .args .at) Newlin
 unfolding kindBy wschar
 newline c = rw (c .pre .2)
 
--- whether an LF stands behind it
+-- whether an LF stands after it
 lf-behind : (c : tie.Start)
     → eqb (getD (c .args .doc .now) (c .args .at + 1) 0) 10 ≡ stands 10 (drop (c .args .at + 1) (c .args .doc .now))
 lf-behind c = sym (stands-at 10 refl (c .args .doc .now) (c .args .at + 1))
@@ -41,11 +41,11 @@ add-token-of c = search needs
 token-of-requires : tie.Need-token-of-requires
 token-of-requires c κs = search needs
 
-add-entry-of : tie.Need-add-entry-of
-add-entry-of c = search needs
+add-next-of : tie.Need-add-next-of
+add-next-of c = search needs
 
-entry-of-requires : tie.Need-entry-of-requires
-entry-of-requires c κs = search needs
+next-of-requires : tie.Need-next-of-requires
+next-of-requires c κs = search needs
 
 returns : tie.Need-returns
 unfolding extent
@@ -56,8 +56,8 @@ returns c =
     let two : newlineTail (drop (is .at) (is .doc .now)) ≡ 1 = simp (newlineTail-at, start .pre .2, second) in
     let made : c .before .token-of .result ≡ tokenBy Newline (is .at) (is .line) (drop (is .at) (is .doc .now)) =
     c .before .token-of .ensures ∙ simp (two) in
-    c .entry-of .ensures
-    ∙ entry-lf Newline (is .doc .now) (is .at) (is .line) (start .pre .0) (newline start) _ made refl
+    c .next-of .ensures
+    ∙ next-lf Newline (is .doc .now) (is .at) (is .line) (start .pre .0) (newline start) _ made refl
     (is .at + 1) (omega arith) (eqb-true _ _ second)
 
 add-token-of-2 : tie.Need-add-token-of-2
@@ -66,8 +66,8 @@ add-token-of-2 c = search needs
 token-of-requires-2 : tie.Need-token-of-requires-2
 token-of-requires-2 c κs = search needs
 
-entry-of-requires-2 : tie.Need-entry-of-requires-2
-entry-of-requires-2 c κs = search needs
+next-of-requires-2 : tie.Need-next-of-requires-2
+next-of-requires-2 c κs = search needs
 
 returns-2 : tie.Need-returns-2
 unfolding extent
@@ -78,8 +78,8 @@ returns-2 c =
     let one : newlineTail (drop (is .at) (is .doc .now)) ≡ 0 = simp (newlineTail-at, start .pre .2, second) in
     let made : c .before .token-of2 .result ≡ tokenBy Newline (is .at) (is .line) (drop (is .at) (is .doc .now)) =
     c .before .token-of2 .ensures ∙ simp (one) in
-    c .entry-of2 .ensures
-    ∙ entry-cr Newline (is .doc .now) (is .at) (is .line) (start .pre .0) (newline start) _ made refl
+    c .next-of2 .ensures
+    ∙ next-cr Newline (is .doc .now) (is .at) (is .line) (start .pre .0) (newline start) _ made refl
     (is .at) (omega arith) (λ e. omega (arith, start .pre .2))
 
 pub lex-crlf-spec : {M : Type 1} → statement M
@@ -90,10 +90,10 @@ lex-crlf-spec =
     is-at-requires
     add-token-of
     token-of-requires
-    add-entry-of
-    entry-of-requires
+    add-next-of
+    next-of-requires
     returns
     add-token-of-2
     token-of-requires-2
-    entry-of-requires-2
+    next-of-requires-2
     returns-2)

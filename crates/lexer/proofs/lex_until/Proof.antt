@@ -1,15 +1,13 @@
 -- `lex_until` is right because the tokens still to come, stored from here on, give the records at the end: a turn stores
--- the first of them, for which a record is left, and takes the line behind it.
+-- the first of them, for which a record is left, and takes the line after it.
 -- Assumes nothing.
 use Prim.Native.Nat.{_-_, _<_}
-use mathlib.Core.Path.{_≡_, refl, ap}
-use lib.ListN.{length, getD, drop}
-use Rattle.lexer_token.specs.declared.Token.{Token}
+use mathlib.Core.Path.{_≡_, refl, ap, _∙_}
+use lib.ListN.{length}
 use Rattle.lexer_token.specs.Records.{recordOf}
-use Rattle.lexer.specs.Tokens.{tokenAt, lineAfter}
-use Rattle.lexer.specs.declared.Entry.{Entry}
+use Rattle.lexer.specs.declared.Next.{Next}
 use Rattle.lexer.proofs.TokenLaws.{endAt, token-fits-at, token-long-at}
-use Rattle.lexer.proofs.UntilLaws.{Underway, turned, has-room, arrived}
+use Rattle.lexer.proofs.UntilLaws.{Underway, turned-by, has-room, arrived}
 use borrow.Author.Needs.{needs}
 use native.Mathlib.Omega.{arith}
 use Rattle.lexer.proofs.lex_until.Statement.{statement}
@@ -22,10 +20,6 @@ Inv-loop doc start first stop records₀ at₀ line₀ n₀ records at line n =
 abbrev μ-loop : tie.MeasureT-loop
 μ-loop doc start first stop records₀ at₀ line₀ n₀ records at line n = length doc - at
 
--- the token of a turn
-abbrev there : tie.At-loop Inv-loop μ-loop → Token
-there c = tokenAt (c .loop .at) (c .loop .line) (drop (c .loop .at) (c .before .before .args .doc .now))
-
 loop-holds : tie.Need-loop-holds Inv-loop μ-loop
 loop-holds c =
     record {
@@ -35,18 +29,39 @@ loop-holds c =
       room = refl;
       counts = λ e _ _. omega arith;
       behind = refl;
+      ends = refl;
       stores = refl;
     }
 
 process-token-requires : tie.Need-process-token-requires Inv-loop μ-loop
 process-token-requires c κs = (omega arith, omega arith)
 
+as-record-requires : tie.Need-as-record-requires Inv-loop μ-loop
+as-record-requires c κs = search needs
+
+-- ---- a turn, once its record is made
+
+abbrev Turn : Type 0
+Turn = tie.After-as-record Inv-loop μ-loop
+
+abbrev start : Turn → tie.Start Inv-loop μ-loop
+start c = c .before .before .before .before .before .before
+
+abbrev now : Turn → tie.At-loop Inv-loop μ-loop
+now c = c .before .before .before .before
+
 -- a record is left for it
-room : (c : tie.After-record Inv-loop μ-loop) → c .before .before .before .loop .n < length (c .before .before .before .loop .records)
+room : (c : Turn) → now c .loop .n < length (now c .loop .records)
 room c =
-    let is = c .before .before .before .before .before .args in
-    has-room (is .doc .now) (is .stop) (is .start) (is .first) (is .records .now) (c .before .before .before .loop .inv) (omega arith) (omega arith)
-    (c .before .before .before .before .before .pre .3)
+    let is = start c .args in
+    has-room (is .doc .now) (is .stop) (is .start) (is .first) (is .records .now) (now c .loop .inv) (omega arith) (omega arith)
+    (start c .pre .3)
+
+-- the place after its token
+end : (c : Turn) → c .before .before .process-token .result .token .span .end ≡ endAt (start c .args .doc .now) (now c .loop .at)
+end c = ap (λ (e : Next). e .token .span .end) (c .before .before .process-token .ensures)
+
+-- ---- the needs of such a turn
 
 mul-t13 : tie.Need-mul-t13 Inv-loop μ-loop
 mul-t13 c = omega (arith, room c)
@@ -57,30 +72,20 @@ slice-set-from-records c = omega (arith, room c)
 add-n : tie.Need-add-n Inv-loop μ-loop
 add-n c = omega arith
 
-array-read-at : tie.Need-array-read-at Inv-loop μ-loop
-array-read-at c = search needs
-
--- what a turn leaves
-end : (c : tie.After-record Inv-loop μ-loop) → getD (c .before .process-token .result .numbers) 2 0
-    ≡ endAt (c .before .before .before .before .before .args .doc .now) (c .before .before .before .loop .at)
-end c = ap (λ (e : Entry). getD (e .numbers) 2 0) (c .before .process-token .ensures)
-
 loop-less : tie.Need-loop-less Inv-loop μ-loop
 loop-less c =
-    let doc = c .before .before .before .before .before .args .doc .now in
-    let at = c .before .before .before .loop .at in
+    let doc = start c .args .doc .now in
+    let at = now c .loop .at in
     omega (arith, end c, token-long-at doc at (omega arith), token-fits-at doc at (omega arith))
 
 loop-again : tie.Need-loop-again Inv-loop μ-loop
 loop-again c =
-    let is = c .before .before .before .before .before .args in
-    let now = c .before .before .before .loop in
-    let here = c .before .process-token .ensures in
-    let record-is : c .before .process-token .result .numbers ≡ recordOf (there (c .before .before .before)) = ap (λ (e : Entry). e .numbers) here in
-    let on : c .before .process-token .result .line ≡ lineAfter (now .line) (drop (now .at) (is .doc .now)) =
-    ap (λ (e : Entry). e .line) here in
-    let next = turned (is .doc .now) (is .stop) (is .start) (is .first) (is .records .now) (now .inv) (omega arith) (omega arith) in
-    rw (end c, on, record-is) next
+    let is = start c .args in
+    let here = c .before .before .process-token .ensures in
+    let on = ap (λ (e : Next). e .line) here in
+    let record-is = c .as-record .ensures ∙ ap (λ (e : Next). recordOf (e .token)) here in
+    turned-by (is .doc .now) (is .stop) (is .start) (is .first) (is .records .now) (now c .loop .inv) (omega arith) (omega arith)
+    (end c) on record-is
 
 same-length : tie.Need-same-length Inv-loop μ-loop
 same-length c = c .before .loop .inv .room
@@ -98,10 +103,10 @@ lex-until-spec =
     μ-loop
     loop-holds
     process-token-requires
+    as-record-requires
     mul-t13
     slice-set-from-records
     add-n
-    array-read-at
     loop-less
     loop-again
     same-length

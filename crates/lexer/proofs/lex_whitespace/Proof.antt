@@ -1,4 +1,4 @@
--- `lex_whitespace` is right because whitespace is its first byte and the run behind it.
+-- `lex_whitespace` is right because whitespace is its first byte and the run after it.
 -- Assumes nothing.
 use mathlib.Core.Path.{_∙_}
 use lib.Seq.{drop-drop}

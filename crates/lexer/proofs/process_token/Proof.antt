@@ -1,22 +1,20 @@
 -- `process_token` is right because its arms are the table's, first byte by first byte, and each function reads that kind's
 -- token; the kinds on one line leave the line as it was, an LF is one more, and in the others the LFs are counted.
 -- Assumes nothing.
-use mathlib.Core.Path.{_≡_, refl, sym, ap, _∙_}
+use mathlib.Core.Path.{_≡_, refl, sym, _∙_}
 use mathlib.Core.Bool.{false}
 use lib.ListN.{drop}
-use borrow.Author.Tests.{ne-eqb}
 use Rattle.text_classes.specs.Classes.{wschar}
+use Rattle.text_classes.proofs.TripleLaws.{triple-fits-at}
 use Rattle.lexer_token.specs.declared.Token.{Token}
 use Rattle.lexer_token.specs.declared.TokenKind.{TokenKind}
 use Rattle.lexer_token.specs.declared.TokenKind.the-variants.{Dot, Equals, Comma, LeftSquareBracket, RightSquareBracket, LeftCurlyBracket, RightCurlyBracket, Whitespace, Comment, Newline, LiteralString, BasicString, MlLiteralString, MlBasicString, Atom}
-use Rattle.lexer_scans.specs.Extents.{newlineTail}
 use Rattle.lexer.specs.Table.{kindBy, extent}
 use Rattle.lexer.specs.Tokens.{tokenBy}
-use Rattle.lexer.specs.Loops.{entryOf, entryAt}
-use Rattle.lexer_scans.proofs.MarkLaws.{triple-fits-at, newlineTail-at}
-use Rattle.lexer.proofs.KindLaws.{KindThere, end-is}
+use Rattle.lexer.specs.Loops.{nextOf, nextAt}
+use Rattle.lexer.proofs.KindLaws.{KindThere, atom-by}
 use Rattle.lexer.proofs.LineLaws.{holdsLf}
-use Rattle.lexer.proofs.EntryLaws.{entry-plain, entry-stands, entry-over, entry-lf}
+use Rattle.lexer.proofs.NextLaws.{next-same, next-stands, next-over}
 use borrow.Author.Needs.{needs}
 use native.Mathlib.Omega.{arith}
 use Rattle.lexer.proofs.process_token.Statement.{statement}
@@ -31,19 +29,19 @@ Made c k t = t ≡ tokenBy k (c .args .at) (c .args .line) (drop (c .args .at) (
 
 -- on one line
 plain : (c : tie.Start) (k : TokenKind) (t : Token) → There c k → Made c k t → holdsLf k ≡ false
-    → entryOf t (t .line) ≡ entryAt (c .args .at) (c .args .line) (drop (c .args .at) (c .args .doc .now))
+    → nextOf t (t .line) ≡ nextAt (c .args .at) (c .args .line) (drop (c .args .at) (c .args .doc .now))
 plain c k t e m f =
     let is = c .args in
-    ap (λ (u : Token). entryOf t (u .line)) m ∙ entry-plain k (is .doc .now) (is .at) (is .line) (c .pre .0) e t m f
+    next-same k (is .doc .now) (is .at) (is .line) (c .pre .0) e t m f
 
 -- three marks at the place, or not
 literal-three : (c : tie.Then1) → There (c .before .before .before .before .before) MlLiteralString
 unfolding kindBy wschar
-literal-three c = rw (c .before .before .match .keys13, sym (c .before .is-ml-literal .ensures) ∙ c .if1 .taken)
+literal-three c = rw (c .before .before .match .keys13, sym (c .before .is-triple .ensures) ∙ c .if1 .taken)
 
 basic-three : (c : tie.Then2) → There (c .before .before .before .before .before) MlBasicString
 unfolding kindBy wschar
-basic-three c = rw (c .before .before .match .keys14, sym (c .before .is-ml-basic .ensures) ∙ c .if2 .taken)
+basic-three c = rw (c .before .before .match .keys14, sym (c .before .is-triple2 .ensures) ∙ c .if2 .taken)
 
 shared-slice-read-b : tie.Need-shared-slice-read-b
 shared-slice-read-b c = search needs
@@ -111,28 +109,22 @@ same-line-requires-10 c κs = search needs
 lex-crlf-requires : tie.Need-lex-crlf-requires
 lex-crlf-requires c κs = (omega arith, omega arith, c .match .keys11)
 
-lex-ascii-char-requires-8 : tie.Need-lex-ascii-char-requires-8
-lex-ascii-char-requires-8 c κs = search needs
+lex-lf-requires : tie.Need-lex-lf-requires
+lex-lf-requires c κs = (omega arith, omega arith, c .match .keys12)
 
-add-entry-of : tie.Need-add-entry-of
-add-entry-of c = omega arith
-
-entry-of-requires : tie.Need-entry-of-requires
-entry-of-requires c κs = search needs
-
-is-ml-literal-requires : tie.Need-is-ml-literal-requires
-is-ml-literal-requires c κs = search needs
+is-triple-requires : tie.Need-is-triple-requires
+is-triple-requires c κs = search needs
 
 lex-ml-literal-string-requires : tie.Need-lex-ml-literal-string-requires
 lex-ml-literal-string-requires c κs =
     let is = c .before .before .before .before .before .args in
-    triple-fits-at 39 (is .doc .now) (is .at) (sym (c .before .is-ml-literal .ensures) ∙ c .if1 .taken)
+    triple-fits-at 39 (is .doc .now) (is .at) (sym (c .before .is-triple .ensures) ∙ c .if1 .taken)
 
 over-lines-requires : tie.Need-over-lines-requires
 over-lines-requires c κs =
     let start = c .before .before .before .before .before .before in
     let is = start .args in
-    entry-stands MlLiteralString (is .doc .now) (is .at) (is .line) (start .pre .0) (literal-three (c .before)) _
+    next-stands MlLiteralString (is .doc .now) (is .at) (is .line) (start .pre .0) (literal-three (c .before)) _
     (c .lex-ml-literal-string .ensures) (start .pre .1)
 
 lex-literal-string-requires : tie.Need-lex-literal-string-requires
@@ -141,19 +133,19 @@ lex-literal-string-requires c κs = search needs
 same-line-requires-11 : tie.Need-same-line-requires-11
 same-line-requires-11 c κs = search needs
 
-is-ml-basic-requires : tie.Need-is-ml-basic-requires
-is-ml-basic-requires c κs = search needs
+is-triple-requires-2 : tie.Need-is-triple-requires-2
+is-triple-requires-2 c κs = search needs
 
 lex-ml-basic-string-requires : tie.Need-lex-ml-basic-string-requires
 lex-ml-basic-string-requires c κs =
     let is = c .before .before .before .before .before .args in
-    triple-fits-at 34 (is .doc .now) (is .at) (sym (c .before .is-ml-basic .ensures) ∙ c .if2 .taken)
+    triple-fits-at 34 (is .doc .now) (is .at) (sym (c .before .is-triple2 .ensures) ∙ c .if2 .taken)
 
 over-lines-requires-2 : tie.Need-over-lines-requires-2
 over-lines-requires-2 c κs =
     let start = c .before .before .before .before .before .before in
     let is = start .args in
-    entry-stands MlBasicString (is .doc .now) (is .at) (is .line) (start .pre .0) (basic-three (c .before)) _
+    next-stands MlBasicString (is .doc .now) (is .at) (is .line) (start .pre .0) (basic-three (c .before)) _
     (c .lex-ml-basic-string .ensures) (start .pre .1)
 
 lex-basic-string-requires : tie.Need-lex-basic-string-requires
@@ -232,28 +224,19 @@ returns-11 : tie.Need-returns-11
 returns-11 c = c .lex-crlf .ensures
 
 returns-12 : tie.Need-returns-12
-unfolding kindBy wschar extent
-returns-12 c =
-    let start = c .before .before .before .before .before in
-    let is = start .args in
-    let lf = c .before .before .match .keys12 in
-    let one : newlineTail (drop (is .at) (is .doc .now)) ≡ 0 = simp (newlineTail-at, lf) in
-    let made : Made start Newline (c .before .lex-ascii-char8 .result) = c .before .lex-ascii-char8 .ensures ∙ end-is (rw one) in
-    c .entry-of .ensures
-    ∙ entry-lf Newline (is .doc .now) (is .at) (is .line) (start .pre .0) (rw lf) _ made refl
-    (is .at) (omega arith) lf
+returns-12 c = c .lex-lf .ensures
 
 returns-13 : tie.Need-returns-13
 returns-13 c =
     let start = c .before .before .before .before .before .before .before in
     let is = start .args in
     c .over-lines .ensures
-    ∙ entry-over MlLiteralString (is .doc .now) (is .at) (is .line) (start .pre .0) (literal-three (c .before .before)) _ (c .before .lex-ml-literal-string .ensures)
+    ∙ next-over MlLiteralString (is .doc .now) (is .at) (is .line) (start .pre .0) (literal-three (c .before .before)) _ (c .before .lex-ml-literal-string .ensures)
 
 returns-14 : tie.Need-returns-14
 unfolding kindBy wschar
 returns-14 c =
-    let fewer = sym (c .before .before .before .is-ml-literal .ensures) ∙ c .before .before .if1 .left in
+    let fewer = sym (c .before .before .before .is-triple .ensures) ∙ c .before .before .if1 .left in
     c .same-line11 .ensures
     ∙ plain (c .before .before .before .before .before .before .before) LiteralString _ (rw (c .before .before .before .before .match .keys13, fewer)) (c .before .lex-literal-string .ensures) refl
 
@@ -262,36 +245,19 @@ returns-15 c =
     let start = c .before .before .before .before .before .before .before in
     let is = start .args in
     c .over-lines2 .ensures
-    ∙ entry-over MlBasicString (is .doc .now) (is .at) (is .line) (start .pre .0) (basic-three (c .before .before)) _ (c .before .lex-ml-basic-string .ensures)
+    ∙ next-over MlBasicString (is .doc .now) (is .at) (is .line) (start .pre .0) (basic-three (c .before .before)) _ (c .before .lex-ml-basic-string .ensures)
 
 returns-16 : tie.Need-returns-16
 unfolding kindBy wschar
 returns-16 c =
-    let fewer = sym (c .before .before .before .is-ml-basic .ensures) ∙ c .before .before .if2 .left in
+    let fewer = sym (c .before .before .before .is-triple2 .ensures) ∙ c .before .before .if2 .left in
     c .same-line12 .ensures
     ∙ plain (c .before .before .before .before .before .before .before) BasicString _ (rw (c .before .before .before .before .match .keys14, fewer)) (c .before .lex-basic-string .ensures) refl
 
 returns-17 : tie.Need-returns-17
-unfolding kindBy wschar
 returns-17 c =
-    let r = c .before .before .match .rest in
     c .same-line13 .ensures
-    ∙ plain (c .before .before .before .before .before) Atom _ (simp (
-      ne-eqb _ _ (r .1),
-      ne-eqb _ _ (r .0 .1),
-      ne-eqb _ _ (r .0 .0 .1),
-      ne-eqb _ _ (r .0 .0 .0 .1),
-      ne-eqb _ _ (r .0 .0 .0 .0 .1),
-      ne-eqb _ _ (r .0 .0 .0 .0 .0 .1),
-      ne-eqb _ _ (r .0 .0 .0 .0 .0 .0 .1),
-      ne-eqb _ _ (r .0 .0 .0 .0 .0 .0 .0 .1),
-      ne-eqb _ _ (r .0 .0 .0 .0 .0 .0 .0 .0 .1),
-      ne-eqb _ _ (r .0 .0 .0 .0 .0 .0 .0 .0 .0 .1),
-      ne-eqb _ _ (r .0 .0 .0 .0 .0 .0 .0 .0 .0 .0 .1),
-      ne-eqb _ _ (r .0 .0 .0 .0 .0 .0 .0 .0 .0 .0 .0 .1),
-      ne-eqb _ _ (r .0 .0 .0 .0 .0 .0 .0 .0 .0 .0 .0 .0 .1),
-      ne-eqb _ _ (r .0 .0 .0 .0 .0 .0 .0 .0 .0 .0 .0 .0 .0 .1),
-    )) (c .before .lex-atom .ensures) refl
+    ∙ plain (c .before .before .before .before .before) Atom _ (atom-by _ _ (c .before .before .match .rest)) (c .before .lex-atom .ensures) refl
 
 pub process-token-spec : {M : Type 1} → statement M
 process-token-spec =
@@ -319,15 +285,13 @@ process-token-spec =
     lex-comment-requires
     same-line-requires-10
     lex-crlf-requires
-    lex-ascii-char-requires-8
-    add-entry-of
-    entry-of-requires
-    is-ml-literal-requires
+    lex-lf-requires
+    is-triple-requires
     lex-ml-literal-string-requires
     over-lines-requires
     lex-literal-string-requires
     same-line-requires-11
-    is-ml-basic-requires
+    is-triple-requires-2
     lex-ml-basic-string-requires
     over-lines-requires-2
     lex-basic-string-requires

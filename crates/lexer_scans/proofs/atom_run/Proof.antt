@@ -1,23 +1,26 @@
 -- `atom_run` is right because a byte that begins no other token leaves the end of the run where it was.
 -- Assumes nothing.
-use Prim.Native.Nat.{ℕ, _+_, _-_}
-use mathlib.Core.Path.{sym, ap, _∙_}
+use Prim.Native.Nat.{ℕ, _+_, _-_, _≤_}
+use mathlib.Core.Path.{_≡_, refl, sym, ap, _∙_}
+use mathlib.Core.Logic.{⊎-elim}
 use mathlib.Core.Bool.{not}
 use mathlib.Core.List.{List}
-use lib.ListN.{length}
+use lib.ListN.{length, drop}
 use Rattle.text_classes.specs.Runs.{run}
-use Rattle.text_classes.proofs.RunLaws.{run-step, run-stop, run-end, SameEnd, Block, block-step}
+use Rattle.text_classes.proofs.RunLaws.{run-step, run-stop, Block, block-step}
 use Rattle.lexer_scans.specs.Extents.{inAtom}
 use borrow.Author.Needs.{needs}
 use native.Mathlib.Omega.{arith}
 use Rattle.lexer_scans.proofs.atom_run.Statement.{statement}
 use Rattle.lexer_scans.proofs.atom_run.Tie as tie
 
+-- four bytes stand from each place before `last` on
 abbrev Inv-loop : tie.InvT-loop
-Inv-loop doc start i₀ i = SameEnd (run inAtom) doc start i
+Inv-loop doc start last i₀ i =
+    (last ≤ length doc - 3) × (i + run inAtom (drop i doc) ≡ start + run inAtom (drop start doc))
 
 abbrev μ-loop : tie.MeasureT-loop
-μ-loop doc start i₀ i = length doc - i
+μ-loop doc start last i₀ i = length doc - i
 
 -- ---- a turn of four: how many bytes passed
 
@@ -68,16 +71,11 @@ four c =
 
 -- ---- the needs
 
-returns : tie.Need-returns Inv-loop μ-loop
-returns c =
-    let is = c .before .before .args in
-    omega (arith, run-end inAtom (is .doc .now) (is .start) (omega arith))
+sub-last : tie.Need-sub-last Inv-loop μ-loop
+sub-last c = omega arith
 
 loop-holds : tie.Need-loop-holds Inv-loop μ-loop
-loop-holds c = omega arith
-
-sub-loop : tie.Need-sub-loop Inv-loop μ-loop
-sub-loop c = omega arith
+loop-holds c = (⊎-elim (λ w. omega arith) (λ w. omega arith) (c .if1 .came), refl)
 
 shared-slice-read-is-token-start :
     tie.Need-shared-slice-read-is-token-start Inv-loop μ-loop
@@ -86,8 +84,8 @@ shared-slice-read-is-token-start c = omega arith
 is-token-start-requires : tie.Need-is-token-start-requires Inv-loop μ-loop
 is-token-start-requires c κs = search needs
 
-returns-2 : tie.Need-returns-2 Inv-loop μ-loop
-returns-2 c =
+returns : tie.Need-returns Inv-loop μ-loop
+returns c =
     let t = c .before .before .before in
     let stop = ap not (sym (c .before .is-token-start .ensures) ∙ c .if2 .taken) in
     omega (arith, run-stop inAtom (doc t) (at t) (omega arith) stop)
@@ -105,8 +103,8 @@ is-token-start-requires-2 c κs = search needs
 add-result : tie.Need-add-result Inv-loop μ-loop
 add-result c = omega arith
 
-returns-3 : tie.Need-returns-3 Inv-loop μ-loop
-returns-3 c =
+returns-2 : tie.Need-returns-2 Inv-loop μ-loop
+returns-2 c =
     let e = c .before .before .before in
     let t = turn1 e in
     let stop = ap not (sym (c .before .is-token-start2 .ensures) ∙ c .if3 .taken) in
@@ -125,8 +123,8 @@ is-token-start-requires-3 c κs = search needs
 add-result-2 : tie.Need-add-result-2 Inv-loop μ-loop
 add-result-2 c = omega arith
 
-returns-4 : tie.Need-returns-4 Inv-loop μ-loop
-returns-4 c =
+returns-3 : tie.Need-returns-3 Inv-loop μ-loop
+returns-3 c =
     let e = c .before .before .before in
     let t = turn2 e in
     let stop = ap not (sym (c .before .is-token-start3 .ensures) ∙ c .if4 .taken) in
@@ -145,8 +143,8 @@ is-token-start-requires-4 c κs = search needs
 add-result-3 : tie.Need-add-result-3 Inv-loop μ-loop
 add-result-3 c = omega arith
 
-returns-5 : tie.Need-returns-5 Inv-loop μ-loop
-returns-5 c =
+returns-4 : tie.Need-returns-4 Inv-loop μ-loop
+returns-4 c =
     let e = c .before .before .before in
     let t = turn3 e in
     let stop = ap not (sym (c .before .is-token-start4 .ensures) ∙ c .if5 .taken) in
@@ -164,8 +162,8 @@ loop-again c = omega (arith, four c)
 atom-rest-requires : tie.Need-atom-rest-requires Inv-loop μ-loop
 atom-rest-requires c κs = omega arith
 
-returns-6 : tie.Need-returns-6 Inv-loop μ-loop
-returns-6 c = omega (arith, c .atom-rest .ensures)
+returns-5 : tie.Need-returns-5 Inv-loop μ-loop
+returns-5 c = omega (arith, c .atom-rest .ensures)
 
 pub atom-run-spec : {M : Type 1} → statement M
 atom-run-spec =
@@ -173,29 +171,28 @@ atom-run-spec =
     (tie.spec
     Inv-loop
     μ-loop
-    returns
+    sub-last
     loop-holds
-    sub-loop
     shared-slice-read-is-token-start
     is-token-start-requires
-    returns-2
+    returns
     add-is-token-start
     shared-slice-read-is-token-start-2
     is-token-start-requires-2
     add-result
-    returns-3
+    returns-2
     add-is-token-start-2
     shared-slice-read-is-token-start-3
     is-token-start-requires-3
     add-result-2
-    returns-4
+    returns-3
     add-is-token-start-3
     shared-slice-read-is-token-start-4
     is-token-start-requires-4
     add-result-3
-    returns-5
+    returns-4
     add-i
     loop-less
     loop-again
     atom-rest-requires
-    returns-6)
+    returns-5)

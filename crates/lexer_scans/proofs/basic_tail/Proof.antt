@@ -1,17 +1,16 @@
 -- `basic_tail` is right because neither a run of plain bytes nor escapes move the end of the string, and a mark or an LF
 -- that is met is the end.
 -- Assumes nothing.
-use Prim.Native.Nat.{ℕ, _+_, _-_, _≤_}
-use mathlib.Core.Path.{_≡_, refl, ap, _∙_}
-use mathlib.Core.Logic.{⊎-elim}
+use Prim.Native.Nat.{ℕ, _+_, _-_}
+use mathlib.Core.Path.{_≡_, refl, sym, _∙_}
 use mathlib.Core.Bool.{true, false}
 use mathlib.Core.List.{List}
-use borrow.Author.Tests.{eq-eqb, ne-eqb}
-use lib.ListN.{length, drop, getD}
-use Rattle.text_classes.proofs.RunLaws.{run-step}
+use borrow.Author.Tests.{not-true, not-false}
+use lib.ListN.{length, drop}
+use Rattle.text_classes.specs.Runs.{stands}
 use Rattle.lexer_scans.specs.Extents.{lineTail}
-use Rattle.lexer_scans.specs.Scans.{noneOf}
-use Rattle.lexer_scans.proofs.TailLaws.{line-found, line-end, line-close, line-lf, line-escape}
+use Rattle.text_classes.proofs.FirstLaws.{stands-there}
+use Rattle.lexer_scans.proofs.TailLaws.{BasicFound, basic-found, basic-halts, line-closed, line-end}
 use borrow.Author.Needs.{needs}
 use native.Mathlib.Omega.{arith}
 use Rattle.lexer_scans.proofs.basic_tail.Statement.{statement}
@@ -23,94 +22,73 @@ Inv-loop doc start i₀ i = i + lineTail 34 false (drop i doc) ≡ start + lineT
 abbrev μ-loop : tie.MeasureT-loop
 μ-loop doc start i₀ i = length doc - i
 
--- ---- a turn
+-- ---- a turn, once the search has stopped
 
 abbrev Turn : Type 0
-Turn = tie.In-loop Inv-loop μ-loop
+Turn = tie.After-find-slice Inv-loop μ-loop
 
 abbrev doc : Turn → List ℕ
 doc t = t .before .before .before .before .args .doc .now
 
-abbrev at : Turn → ℕ
-at t = t .before .loop .i
+-- where the search began, and where it stopped
+abbrev first : Turn → ℕ
+first t = t .before .before .loop .i
 
-abbrev turn : tie.Else4 Inv-loop μ-loop → Turn
-turn c = c .before .before .before .before
+abbrev place : Turn → ℕ
+place t = t .find-slice .result
 
--- a byte that is neither a mark nor an LF nor a backslash is passed, so that a search goes on
-plain : (c : tie.Else4 Inv-loop μ-loop) → noneOf 34 92 10 (getD (doc (turn c)) (at (turn c)) 0) ≡ true
-plain c = simp (ne-eqb _ _ (c .before .before .if2 .left), ne-eqb _ _ (c .before .if3 .left), ne-eqb _ _ (c .if4 .left))
+-- the search did not move the end of the string
+found : (t : Turn) → BasicFound (doc t) (first t) (place t)
+found t = basic-found (doc t) (first t) (place t) (t .find-slice .ensures)
+
+marked : (c : tie.Then1 Inv-loop μ-loop) → stands 34 (drop (place (c .before .before)) (doc (c .before .before))) ≡ true
+marked c = sym (c .before .is-at .ensures) ∙ c .if1 .taken
 
 -- ---- the needs
+
+loop-holds : tie.Need-loop-holds Inv-loop μ-loop
+loop-holds c = refl
 
 find-slice-requires : tie.Need-find-slice-requires Inv-loop μ-loop
 find-slice-requires c κs = search needs
 
-loop-holds : tie.Need-loop-holds Inv-loop μ-loop
-loop-holds c =
-    let is = c .before .before .args in
-    ⊎-elim
-    (λ w.
-    let l : is .start ≤ length (is .doc .now) = omega (arith, w .0 .taken) in
-    line-found 34 (is .doc .now) (is .start) (c .if1 .i) 92 refl l (w .2 ∙ w .1 .ensures) .same .1)
-    (λ w. ap (λ (k : ℕ). k + lineTail 34 false (drop k (is .doc .now))) (w .1))
-    (c .if1 .came)
-
-shared-slice-read-b : tie.Need-shared-slice-read-b Inv-loop μ-loop
-shared-slice-read-b c = omega arith
+is-at-requires : tie.Need-is-at-requires Inv-loop μ-loop
+is-at-requires c κs = search needs
 
 add-result : tie.Need-add-result Inv-loop μ-loop
-add-result c = omega arith
+add-result c =
+    let t = c .before .before in
+    omega (arith, stands-there 34 (doc t) (place t) (marked c))
 
 returns : tie.Need-returns Inv-loop μ-loop
 returns c =
-    let t = c .before .before .before in
-    omega (arith, line-close 34 false (doc t) (at t) (omega arith) (eq-eqb _ _ (c .before .if2 .taken)))
+    let t = c .before .before in
+    omega (arith, found t .same, line-closed 34 (doc t) (place t) (marked c))
+
+is-at-requires-2 : tie.Need-is-at-requires-2 Inv-loop μ-loop
+is-at-requires-2 c κs = search needs
 
 returns-2 : tie.Need-returns-2 Inv-loop μ-loop
 returns-2 c =
-    let t = c .before .before .before in
-    let other = ne-eqb _ _ (c .before .if2 .left) in
-    omega (arith, line-lf 34 false (doc t) (at t) (omega arith) other (eq-eqb _ _ (c .if3 .taken)))
+    let t = c .before .before .before .before in
+    let unmarked = sym (c .before .before .before .is-at .ensures) ∙ c .before .before .if1 .left in
+    let unescaped = sym (c .before .is-at2 .ensures) ∙ not-true _ (c .if2 .taken) in
+    omega (arith, found t .same, basic-halts (doc t) (first t) (place t) (found t) unmarked unescaped)
 
-add-if5 : tie.Need-add-if5 Inv-loop μ-loop
-add-if5 c = omega arith
+over-escapes-requires : tie.Need-over-escapes-requires Inv-loop μ-loop
+over-escapes-requires c κs =
+    let t = c .before .before .before .before in
+    stands-there 92 (doc t) (place t) (sym (c .before .is-at2 .ensures) ∙ not-false _ (c .if2 .left))
 
-add-result-2 : tie.Need-add-result-2 Inv-loop μ-loop
-add-result-2 c = omega arith
+loop-less : tie.Need-loop-less Inv-loop μ-loop
+loop-less c = omega (arith, c .over-escapes .ensures .0, found (c .before .before .before .before .before) .forward)
+
+loop-again : tie.Need-loop-again Inv-loop μ-loop
+loop-again c = omega (arith, c .over-escapes .ensures .1 .1, found (c .before .before .before .before .before) .same)
 
 returns-3 : tie.Need-returns-3 Inv-loop μ-loop
 returns-3 c =
-    let t = c .before .before .before .before .before .before in
-    let hidden = line-end 34 true (doc t) (at t + 1) (omega arith) in
-    omega (arith, line-escape (doc t) (at t) (omega arith) (c .before .before .if4 .taken))
-
-over-escapes-requires : tie.Need-over-escapes-requires Inv-loop μ-loop
-over-escapes-requires c κs = (omega arith, c .before .before .if4 .taken)
-
-loop-less : tie.Need-loop-less Inv-loop μ-loop
-loop-less c = omega arith
-
-loop-again : tie.Need-loop-again Inv-loop μ-loop
-loop-again c = omega arith
-
-find-slice-requires-2 : tie.Need-find-slice-requires-2 Inv-loop μ-loop
-find-slice-requires-2 c κs = omega arith
-
-loop-less-2 : tie.Need-loop-less-2 Inv-loop μ-loop
-loop-less-2 c =
-    let t = c .before .before .before .before .before in
-    omega (arith, c .find-slice2 .ensures, run-step (noneOf 34 92 10) (doc t) (at t) (omega arith) (plain (c .before)))
-
-loop-again-2 : tie.Need-loop-again-2 Inv-loop μ-loop
-loop-again-2 c =
-    let t = c .before .before .before .before .before in
-    let f = line-found 34 (doc t) (at t) (c .find-slice2 .result) 92 refl (omega arith) (c .find-slice2 .ensures) .same in
-    omega arith
-
-returns-4 : tie.Need-returns-4 Inv-loop μ-loop
-returns-4 c =
-    omega (arith, line-end 34 false (c .before .before .before .before .args .doc .now) (c .before .loop .i) (omega arith))
+    omega (arith, line-end 34 false (c .before .before .before .args .doc .now) (c .before .loop .i) (omega arith))
 
 pub basic-tail-spec : {M : Type 1} → statement M
 basic-tail-spec =
@@ -118,19 +96,14 @@ basic-tail-spec =
     (tie.spec
     Inv-loop
     μ-loop
-    find-slice-requires
     loop-holds
-    shared-slice-read-b
+    find-slice-requires
+    is-at-requires
     add-result
     returns
+    is-at-requires-2
     returns-2
-    add-if5
-    add-result-2
-    returns-3
     over-escapes-requires
     loop-less
     loop-again
-    find-slice-requires-2
-    loop-less-2
-    loop-again-2
-    returns-4)
+    returns-3)

@@ -2,64 +2,63 @@
 -- that is met is the end.
 -- Assumes nothing.
 use Prim.Native.Nat.{ℕ}
-use mathlib.Core.Path.{_≡_}
-use mathlib.Core.Bool.{false}
+use mathlib.Core.Path.{_≡_, sym, _∙_}
+use mathlib.Core.Bool.{true}
 use mathlib.Core.List.{List}
-use borrow.Author.Tests.{eq-eqb, ne-eqb}
-use lib.Dec.{eqb}
-use lib.ListN.{getD}
-use Rattle.lexer_scans.proofs.TailLaws.{LineFound, literal-found, literal-close, line-end, line-lf}
+use lib.ListN.{drop}
+use Rattle.text_classes.specs.Runs.{stands}
+use Rattle.text_classes.proofs.FirstLaws.{stands-there}
+use Rattle.lexer_scans.proofs.TailLaws.{LiteralFound, literal-found, literal-halts, line-closed}
 use borrow.Author.Needs.{needs}
 use native.Mathlib.Omega.{arith}
 use Rattle.lexer_scans.proofs.literal_tail.Statement.{statement}
 use Rattle.lexer_scans.proofs.literal_tail.Tie as tie
 
--- the document, and where the search stopped
-abbrev doc : tie.After-find-slice → List ℕ
-doc c = c .before .before .before .args .doc .now
+-- ---- once the search has stopped
 
-abbrev place : tie.After-find-slice → ℕ
-place c = c .find-slice .result
+abbrev Turn : Type 0
+Turn = tie.After-find-slice
 
--- that did not move the end of the string
-found : (c : tie.After-find-slice) → LineFound 39 (doc c) (c .before .before .before .args .start) (place c)
-found c = literal-found (doc c) (c .before .before .before .args .start) (place c) (omega arith) (c .find-slice .ensures)
+abbrev doc : Turn → List ℕ
+doc t = t .before .before .args .doc .now
 
-returns : tie.Need-returns
-returns c =
-    let is = c .before .before .args in
-    omega (arith, line-end 39 false (is .doc .now) (is .start) (omega arith))
+-- where the search began, and where it stopped
+abbrev first : Turn → ℕ
+first t = t .before .before .args .start
+
+abbrev place : Turn → ℕ
+place t = t .find-slice .result
+
+-- the search did not move the end of the string
+found : (t : Turn) → LiteralFound (doc t) (first t) (place t)
+found t = literal-found (doc t) (first t) (place t) (t .find-slice .ensures)
+
+marked : (c : tie.Then1) → stands 39 (drop (place (c .before .before)) (doc (c .before .before))) ≡ true
+marked c = sym (c .before .is-at .ensures) ∙ c .if1 .taken
+
+-- ---- the needs
 
 find-slice-requires : tie.Need-find-slice-requires
 find-slice-requires c κs = search needs
 
-returns-2 : tie.Need-returns-2
-returns-2 c =
-    let t = c .before in
-    let f = found t in
-    omega (arith, line-end 39 false (doc t) (place t) (omega arith))
-
-shared-slice-read-if3 : tie.Need-shared-slice-read-if3
-shared-slice-read-if3 c = let f = found (c .before .before) in omega arith
-
-returns-3 : tie.Need-returns-3
-returns-3 c =
-    let t = c .before .before .before in
-    let f = found t in
-    let lf : getD (doc t) (place t) 0 ≡ 10 = c .if3 .taken in
-    let other : eqb (getD (doc t) (place t) 0) 39 ≡ false = ne-eqb (getD (doc t) (place t) 0) 39 (λ e. omega arith) in
-    omega (arith, line-lf 39 false (doc t) (place t) (omega arith) other (eq-eqb _ _ lf))
+is-at-requires : tie.Need-is-at-requires
+is-at-requires c κs = search needs
 
 add-result : tie.Need-add-result
-add-result c = let f = found (c .before .before .before) in omega arith
+add-result c =
+    let t = c .before .before in
+    omega (arith, stands-there 39 (doc t) (place t) (marked c))
 
-returns-4 : tie.Need-returns-4
-returns-4 c =
-    let t = c .before .before .before in
-    let f = found t in
-    omega (arith, literal-close (doc t) (place t) (omega arith) (f .stopped (omega arith)) (c .if3 .left))
+returns : tie.Need-returns
+returns c =
+    let t = c .before .before in
+    omega (arith, found t .same, line-closed 39 (doc t) (place t) (marked c))
+
+returns-2 : tie.Need-returns-2
+returns-2 c =
+    let t = c .before .before in
+    let unmarked = sym (c .before .is-at .ensures) ∙ c .if1 .left in
+    omega (arith, found t .same, literal-halts (doc t) (first t) (place t) (found t) unmarked)
 
 pub literal-tail-spec : {M : Type 1} → statement M
-literal-tail-spec =
-    tie.close
-    (tie.spec returns find-slice-requires returns-2 shared-slice-read-if3 returns-3 add-result returns-4)
+literal-tail-spec = tie.close (tie.spec find-slice-requires is-at-requires add-result returns returns-2)

@@ -76,8 +76,7 @@ returns-6 c =
       within (c .before .before .before .before),
       ne-eqb _ _ (c .before .before .before .if4 .left),
       c .cursor-of2 .ensures,
-      c .before .before .token-at .ensures .0,
-      c .before .before .token-at .ensures .1,
+      c .before .before .token-at .ensures,
     ))
 
 pub step-spec : {M : Type 1} → statement M

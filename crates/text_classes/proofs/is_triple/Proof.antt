@@ -1,22 +1,30 @@
--- `is_triple` is right because it asks of the three places in the definition's order.
+-- `is_triple` is right because it asks of the three places in the definition's order. A mark that stands is within the
+-- slice, so that the next place can be reached.
 -- Assumes nothing.
+use Prim.Native.Nat.{_+_}
 use mathlib.Core.Path.{sym, _∙_}
-use Rattle.lexer_scans.proofs.MarkLaws.{triple-at}
+use native.Mathlib.Omega.{arith}
+use Rattle.text_classes.proofs.FirstLaws.{stands-there}
+use Rattle.text_classes.proofs.TripleLaws.{triple-at}
 use borrow.Author.Needs.{needs}
-use Rattle.lexer_scans.proofs.is_triple.Statement.{statement}
-use Rattle.lexer_scans.proofs.is_triple.Tie as tie
+use Rattle.text_classes.proofs.is_triple.Statement.{statement}
+use Rattle.text_classes.proofs.is_triple.Tie as tie
 
 is-at-requires : tie.Need-is-at-requires
 is-at-requires c κs = search needs
 
 add-is-at : tie.Need-add-is-at
-add-is-at c = search needs
+add-is-at c =
+    let is = c .before .before .before .args in
+    omega (arith, stands-there (is .q) (is .s .now) (is .i) (sym (c .before .is-at .ensures) ∙ c .if1 .taken))
 
 is-at-requires-2 : tie.Need-is-at-requires-2
 is-at-requires-2 c κs = search needs
 
 add-is-at-2 : tie.Need-add-is-at-2
-add-is-at-2 c = search needs
+add-is-at-2 c =
+    let is = c .before .before .before .before .before .args in
+    omega (arith, stands-there (is .q) (is .s .now) (is .i + 1) (sym (c .before .is-at2 .ensures) ∙ c .if2 .taken))
 
 is-at-requires-3 : tie.Need-is-at-requires-3
 is-at-requires-3 c κs = search needs
