@@ -13,12 +13,11 @@ use lib.Dec.{eqb}
 use lib.ListN.{length, drop, length-drop, length-append, drop-of-length-le}
 use lib.Seq.{drop-append-le, take-length, take-append-seam, drop-append-seam}
 use Rattle.text_classes.specs.Classes.{wschar, tokenStart}
-use Rattle.text_classes.specs.Runs.{run}
+use Rattle.text_classes.specs.Runs.{run, triple}
 use Rattle.lexer_token.specs.declared.TokenKind.{TokenKind}
 use Rattle.lexer_token.specs.declared.TokenKind.the-variants.{Newline, Atom}
 use Rattle.lexer_token.specs.declared.Token.{Token}
 use Rattle.lexer_token.specs.KindNumbers.{kindNumber}
-use Rattle.lexer_scans.specs.Extents.{triple}
 use Rattle.lexer.specs.Lines.{lineFeeds, lineOf}
 use Rattle.lexer.specs.Table.{kindBy, kindOf, extent, tokenLen}
 use Rattle.lexer.specs.Tokens.{eofAt, walk, tokensFrom, hasBom, startOf, tokensOf}

@@ -13,13 +13,13 @@ use lib.Dec.{eqb}
 use lib.ListN.{length, drop, length-drop, drop-of-length-le, length-append}
 use lib.Seq.{take-append-le, drop-append-le}
 use Rattle.text_classes.specs.Classes.{wschar}
-use Rattle.text_classes.specs.Runs.{stands}
+use Rattle.text_classes.specs.Runs.{stands, triple}
 use Rattle.text_classes.proofs.Conds.{or-inv, not-both, of-choice}
 use Rattle.lexer_token.specs.declared.TokenKind.{TokenKind}
 use Rattle.lexer_token.specs.declared.TokenKind.the-variants.{Newline}
 use Rattle.lexer_token.specs.declared.Token.{Token}
 use Rattle.lexer_token.specs.KindNumbers.{kindNumber}
-use Rattle.lexer_scans.specs.Extents.{eol, triple, newlineTail}
+use Rattle.lexer_scans.specs.Extents.{eol, newlineTail}
 use Rattle.lexer.specs.Lines.{lineFeeds, lineBehind}
 use Rattle.lexer.specs.Table.{kindBy, kindOf, extent, tokenLen}
 use Rattle.lexer.specs.Tokens.{tokenAt, lineAfter, walk, tokensFrom}
