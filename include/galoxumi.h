@@ -12,7 +12,7 @@
  *   1        the bytes are not UTF-8                                 length of the longest valid prefix
  *   2        more than GALOXUMI_LIMIT bytes                          GALOXUMI_LIMIT
  *   3        fewer token records than tokens, Eof counted            tokens needed
- *   4        the output is shorter than the decoded bytes            bytes needed
+ *   4        the output is shorter than what is to be written       bytes needed
  *   5        fewer error records than errors                         records needed
  *   6        a place beyond the document; for a cursor also a line   the document's length
  *            past its place plus 1; for a span also a start after
@@ -159,6 +159,14 @@ galoxumi_decoded galoxumi_decode(const uint8_t *text, size_t text_len, size_t ki
  * escape is neither those nor 1.0's, and 9 for an \x with fewer digits. Refusals 2, 1, 7, 9, 4, 5. */
 galoxumi_decoded galoxumi_decode_in(const uint8_t *text, size_t text_len, size_t edition, size_t kind, uint8_t *output,
                                     size_t output_len, size_t (*errors)[3], size_t errors_len);
+
+/* The shortest text that TOML 1.0.0 reads as a literal or basic string with the value, into output from its front; the
+ * rest keeps its contents. It is the literal string where there is one: where the value has no apostrophe and, tabs apart,
+ * no control byte (00 to 1F and 7F). In the basic string a quotation mark, a backslash, 08, 0A, 0C and 0D are written as a
+ * backslash and a letter or mark, the other control bytes but tabs as \u and four digits in capitals; all else stands for
+ * itself. value is the count of bytes. The text may be longer than GALOXUMI_LIMIT; it has at most 6 * value_len + 2 bytes,
+ * and where so many are lent nothing is counted first, which saves a pass. Refusals 2, 1, 4; with 4 the text's length. */
+galoxumi_answer galoxumi_write_value(const uint8_t *value, size_t value_len, uint8_t *output, size_t output_len);
 
 /* The words for a kind: their length, and the words with zeros after them; all zero where refused. Refusal 7. */
 typedef struct {

@@ -262,6 +262,33 @@ def joined():
     return by_reference(*[call('lexline', part) for part in HEADS + TAILS]) + out
 
 
+# what a basic string can only have by an escape, what it can have both ways, and what only one of the two marks allows
+VALUES = [b'', b"'", b'"', b'\\', b'\t', b'\n', b'\r\n', b'\x00', b'\x08', b'\x0c', b'\x1b', b'\x1f', b'\x7f', b' ', b'a', b"'a", b'\x7f\x80', b'\xff',
+          '\u00e9'.encode(), '\u00e9\n'.encode(), '\U0001f600\''.encode(), '\ud7ff\n'.encode(), BOM + b"'", b'C:\\temp', b"it's", b'-mbarrier "x" \\', b'\xed\xa0\x80']
+
+
+def derivations(value):
+    """Every text that is a literal or a basic string with this value, from the spellings of each of its characters."""
+    basic = [b'"' + b''.join(parts) + b'"' for parts in itertools.product(*map(reference.spellings, value.decode()))]
+    return ([b"'" + value + b"'"] if all(b in reference.LITERAL for b in value) else []) + basic
+
+
+def values():
+    """Values by the second implementation; the short ones are held to the shortest of all their texts, which decode to them."""
+    short = [bytes(t) for n in range(3) for t in itertools.product(b'\'"\\\n\t\x00\x1fa\x7f', repeat=n)]
+    lines = by_reference(*[call('write', value) for value in VALUES + [bytes([b]) for b in range(256)]])
+    for value in short:
+        texts = derivations(value)
+        if any(reference.decode(39 if text[:1] == b"'" else 34, text) != (value, []) for text in texts):
+            sys.exit('a text of %s is read otherwise' % value.hex())
+        best = min(texts, key=lambda text: (len(text), text[:1] == b'"', text))
+        lines += agreed([(call('write', value), best.hex().encode())])
+    lent = [call('writecap', room, value) for value in VALUES
+            for room in (around(len(reference.written(value))) if not reference.check(value) else (0, MAX % 1000))]
+    large = [call('writecap', room, b'\x00' * 65536) for room in (393217, 393218, 393219, 393220)] + [call('write', b"'" * 65536)]
+    return lines + by_reference(*lent, *large)
+
+
 def every_byte():
     """Each byte as a whole document, and between the marks of each kind."""
     marks = {39: b"'", 34: b'"', 1: b"'''", 2: b'"""', 3: b'a'}
@@ -296,7 +323,7 @@ def wrong_lines():
 
 
 SECTIONS = [scope, valid_cases, left_out_cases, later_cases, invalid_utf8, invalid_strings, vectors, lent_records, lent_output, sizes, cursors, lines, spans,
-            positions, kinds, editions, faults, joined, every_byte, short_texts, wrong_lines]
+            positions, kinds, editions, faults, joined, values, every_byte, short_texts, wrong_lines]
 
 
 def main():

@@ -8,6 +8,7 @@ with the proved code (no pieces, no blocks, no tables), so that the two do not s
 
     tests/reference.py < calls > answers
 """
+import itertools
 import sys
 
 LIMIT = 16777216
@@ -372,15 +373,55 @@ def fault(doc):
     return '%d %d %d' % (no, number, fault_length(doc) if no == 1 else 0)
 
 
-# For each name its function and the words after it: n a number, b a flag, r records lent, o output lent, x bytes in hex.
+# ---- writing a value
+
+def spellings(char):
+    """Every way to write a character in a basic string: as it is, by a letter, by digits of either case."""
+    code, out = ord(char), []
+    if all(b in BASIC for b in char.encode()):
+        out.append(char.encode())
+    out += [b'\\' + bytes([letter]) for letter, stands in SIMPLE.items() if stands == code]
+    for letter, digits in (b'u', 4), (b'U', 8):
+        if code < 16 ** digits:
+            cases = [{d, d.lower()} for d in '%0*X' % (digits, code)]
+            out += [b'\\' + letter + ''.join(chosen).encode() for chosen in itertools.product(*cases)]
+    return out
+
+
+def shortlex(text):
+    return len(text), text
+
+
+def written(value):
+    """The shortest text of a value: the literal where there is one, else character by character the least in shortlex order."""
+    if all(b in LITERAL for b in value):
+        return b"'" + value + b"'"
+    return b'"' + b''.join(min(spellings(char), key=shortlex) for char in value.decode()) + b'"'
+
+
+def write(value):
+    refusal = check(value)
+    return refused(refusal, value) if refusal else hexed(written(value))
+
+
+def writecap(room, value):
+    refusal = check(value)
+    if not refusal:
+        needed = len(written(value))
+        refusal = (4, needed) if room < needed else (0, needed)
+    return '%d %d' % refusal
+
+
+# For each name its function and the words after it: n a number, b a flag, r records lent, o output lent, w output lent for a text that is written, x bytes in hex.
 CALLS = {b'lex': (lex, 'x'), b'lexline': (lexline, 'x'), b'lexcap': (lexcap, 'rx'), b'dec': (dec, 'nx'), b'deccap': (deccap, 'norx'),
          b'decin': (decin, 'nnx'), b'utf8': (utf8, 'x'), b'fault': (fault, 'x'),
          b'start': (start, 'x'), b'step': (step, 'nbx'), b'stepline': (stepline, 'nbnx'), b'span': (span, 'nnx'), b'text': (text, 'nnx'), b'pos': (pos, 'nx'),
-         b'desc': (desc, 'n')}
+         b'desc': (desc, 'n'),
+         b'write': (write, 'x'), b'writecap': (writecap, 'wx')}
 
-# The most that the program takes: bytes of a line, bytes of a document, bytes of output, records.
-LINE, DOCUMENT, OUTPUT, RECORDS = 131200, 65536, 98305, 65539
-MOST = {'o': OUTPUT, 'r': RECORDS}
+# The most that the program takes: bytes of a line, of a document, of output, of a text that is written; records.
+LINE, DOCUMENT, OUTPUT, WRITTEN, RECORDS = 131200, 65536, 98305, 393219, 65539
+MOST = {'o': OUTPUT, 'w': WRITTEN, 'r': RECORDS}
 
 
 class NoCall(Exception):
@@ -420,7 +461,7 @@ def answer(line):
         for letter, value in zip(shape, values):
             if letter == 'b' and value > 1:
                 raise NoCall('not 0 or 1')
-            if letter in 'or' and value > MOST[letter]:
+            if letter in 'owr' and value > MOST[letter]:
                 raise NoCall('more than can be lent')
         return call(*values).encode()
     except NoCall as reason:

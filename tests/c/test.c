@@ -191,6 +191,52 @@ static void decoding_refused(void)
     EXPECT(out[0] == 0xA5 && out[1] == 0xA5 && is_record(errors[0], 7, 8, 9));
 }
 
+/* ---- writing */
+
+/* Written with a byte to spare: the text, and the byte after it kept. With as many as it has: the same. With one fewer,
+ * and with none: refusal 4, and nothing written. Decoded as `kind` the text has the value, with no error. */
+static int writes(const uint8_t *value, size_t len, size_t kind, const uint8_t *text, size_t n)
+{
+    uint8_t out[64], old[64], back[64];
+    size_t errors[1][3];
+    memset(old, 0xA5, sizeof old);
+    for (size_t room = n; room <= n + 1; room++) {
+        memcpy(out, old, sizeof old);
+        if (!answers(galoxumi_write_value(value, len, out, room), 0, n) || memcmp(out, text, n) != 0 || out[n] != 0xA5) {
+            return 0;
+        }
+    }
+    galoxumi_decoded d = galoxumi_decode(out, n, kind, back, sizeof back, errors, 0);
+    if (!answers(d.answer, 0, len) || d.errors != 0 || memcmp(back, value, len) != 0) {
+        return 0;
+    }
+    memcpy(out, old, sizeof old);
+    return answers(galoxumi_write_value(value, len, out, n - 1), 4, n) && answers(galoxumi_write_value(value, len, out, 0), 4, n)
+           && memcmp(out, old, sizeof old) == 0;
+}
+
+#define WRITES(value, kind, text) EXPECT(writes(BYTES(value), kind, BYTES(text)) && #value)
+
+static void writing(void)
+{
+    uint8_t out[8];
+    FROM("docs/TRACE.md, k2: the shortest text; the ABNF of TOML 1.0.0: literal-char, and what a basic string has to escape");
+    WRITES("", 39, "''");
+    WRITES("-O2 \"x\" \\", 39, "'-O2 \"x\" \\'");
+    WRITES("a\tb", 39, "'a\tb'");
+    WRITES("\xC3\xA9", 39, "'\xC3\xA9'");
+    WRITES("it's", 34, "\"it's\"");
+    WRITES("'\"\\\t", 34, "\"'\\\"\\\\\t\"");
+    WRITES("\b\f\n\r", 34, "\"\\b\\f\\n\\r\"");
+    WRITES("\xF0\x9F\x98\x80\n", 34, "\"\xF0\x9F\x98\x80\\n\"");
+    FROM("docs/TRACE.md, k3: of equally short texts the one with the smallest bytes, so hex digits in capitals");
+    WRITES("\x1F\x7F", 34, "\"\\u001F\\u007F\"");
+    EXPECT(writes((const uint8_t *)"", 1, 34, BYTES("\"\\u0000\"")));
+    FROM("docs/RULES.md, the refusals: 1 before 4, with the valid prefix and the length of the faulty sequence");
+    galoxumi_answer a = galoxumi_write_value(BYTES("a\xE2\x82" "b"), out, 0);
+    EXPECT(answers(a, 1, 1) && a.length == 2);
+}
+
 /* ---- spans, places, kinds */
 
 static int is_part(galoxumi_part p, size_t start, size_t length)
@@ -315,6 +361,9 @@ static void at_the_limit(struct memory m, size_t len)
     EXPECT(answers(galoxumi_decode(m.doc, len, 34, m.out, len - 2, m.records, 0).answer, 0, len - 2));
     EXPECT(answers(galoxumi_decode(m.doc, len, 34, m.out, len - 3, m.records, 0).answer, 4, len - 2));
     EXPECT(answers(galoxumi_decode_in(m.doc, len, 11, 34, m.out, len - 2, m.records, 0).answer, 0, len - 2));
+    FROM("crates/built_writing/specs/Writing.antt: a text is written where it fits, and may be longer than the limit");
+    EXPECT(answers(galoxumi_write_value(m.doc, len, m.out, len + 2), 0, len + 2) && m.out[0] == '\'' && m.out[len + 1] == '\'');
+    EXPECT(answers(galoxumi_write_value(m.doc, len, m.out, len + 1), 4, len + 2));
     FROM("docs/RULES.md, the refusals: 1 at the last byte");
     m.doc[len - 1] = 0xC3;
     EXPECT(answers(galoxumi_check_utf8(m.doc, len), 1, len - 1));
@@ -343,6 +392,8 @@ static void past_the_limit(struct memory m, size_t len)
     EXPECT(answers(d.answer, 2, LIMIT) && d.errors == 0);
     d = galoxumi_decode(m.doc, len, 34, m.out, LIMIT, m.records, LIMIT);
     EXPECT(answers(d.answer, 2, LIMIT) && d.errors == 0);
+    EXPECT(answers(galoxumi_write_value(m.doc, len, m.out, 0), 2, LIMIT));
+    EXPECT(answers(galoxumi_write_value(m.doc, len, m.out, LIMIT), 2, LIMIT));
     d = galoxumi_decode_in(m.doc, len, 12, 34, m.out, LIMIT, m.records, LIMIT);
     EXPECT(answers(d.answer, 2, LIMIT) && d.errors == 0);
     EXPECT(m.out[0] == 0xA5 && m.records[0][0] == 7 && m.tokens[0][0] == 7);
@@ -461,6 +512,25 @@ static void editions(void)
     EXPECT(out[0] == 0xA5);
 }
 
+/* Six bytes for each of the value's, and two marks: the longest text that there is. */
+static void longest_text(void)
+{
+    size_t len = LIMIT, n = 6 * len + 2;
+    uint8_t *value = malloc(len), *out = malloc(n);
+    if (!value || !out) {
+        printf("FAILED: no memory for the longest text: it needs 120 MB\n");
+        broke++;
+        return;
+    }
+    memset(value, 1, len);
+    FROM("docs/TRACE.md, k5: refusal 4 with the shortest text's length; a text is written where it fits");
+    EXPECT(answers(galoxumi_write_value(value, len, out, n - 1), 4, 100663298));
+    EXPECT(answers(galoxumi_write_value(value, len, out, n), 0, 100663298));
+    EXPECT(out[0] == '"' && memcmp(out + n - 7, "\\u0001\"", 7) == 0);
+    free(value);
+    free(out);
+}
+
 static void long_documents(void)
 {
     size_t len = LIMIT;
@@ -488,11 +558,13 @@ int main(void)
     RUN(stepping);
     RUN(decoding);
     RUN(decoding_refused);
+    RUN(writing);
     RUN(places);
     RUN(kinds);
     RUN(words_of_errors);
     RUN(editions);
     RUN(faults);
+    RUN(longest_text);
     RUN(long_documents);
     printf("C: %d expectations held\n", held);
     printf("C: %d passed, %d failed\n", passed, failed);

@@ -103,6 +103,7 @@ mod archive {
             errors: *mut [usize; 3],
             errors_len: usize,
         ) -> Decoded;
+        pub fn galoxumi_write_value(value: *const u8, len: usize, output: *mut u8, output_len: usize) -> Answer;
         pub fn galoxumi_description(kind: usize) -> Described;
         pub fn galoxumi_encoding(kind: usize) -> Encoded;
         pub fn galoxumi_error_words(error: usize, edition: usize, which: usize) -> ErrorWords;
@@ -150,6 +151,10 @@ pub(crate) fn decode_in(text: &[u8], edition: usize, kind: usize, output: &mut [
             errors.len(),
         )
     }
+}
+
+pub(crate) fn write_value(value: &[u8], output: &mut [u8]) -> Answer {
+    unsafe { archive::galoxumi_write_value(value.as_ptr(), value.len(), output.as_mut_ptr(), output.len()) }
 }
 
 pub(crate) fn description(kind: usize) -> Described {

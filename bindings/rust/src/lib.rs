@@ -1,6 +1,6 @@
 //! TOML tokens and strings, read by a library whose every function is proved to meet its contract.
 //!
-//! Slices go in; typed tokens, decoded bytes and positioned errors come out, in the names that users
+//! Slices go in; typed tokens, decoded bytes, positioned errors and written values come out, in the names that users
 //! of toml_parser know. A document that cannot be served is answered by a [`Refusal`], never by a
 //! panic. No call looks at more than the bytes that it is given, and none keeps any of them.
 //!
@@ -26,7 +26,7 @@ mod token;
 pub use error::{Expected, ParseError};
 pub use token::{Edition, Encoding, Span, Token, TokenKind};
 
-/// The most bytes that a document or a text may have.
+/// The most bytes that a document, a text to decode or a value to write may have.
 pub const LIMIT: usize = 16_777_216;
 
 /// Why a call did not answer. A refused call has written nothing.
@@ -46,7 +46,7 @@ pub enum Refusal {
         /// The tokens, `Eof` counted.
         needed: usize,
     },
-    /// 4: the lent output is shorter than the decoded bytes.
+    /// 4: the lent output is shorter than what is to be written.
     ShortOutput {
         /// The bytes.
         needed: usize,
@@ -252,4 +252,37 @@ pub fn decode_in(text: &[u8], encoding: Encoding, edition: Edition) -> Result<De
     bytes.truncate(Refusal::read(decoded.answer)?);
     let errors = records[..decoded.errors].iter().map(|record| ParseError::from_record(*record, text, edition)).collect();
     Ok(Decoded { bytes, errors })
+}
+
+/// The shortest text that TOML 1.0 reads as a literal or basic string with a value: the literal string where there is
+/// one, else the basic string with the fewest and then the smallest bytes. The value has to be UTF-8 and within the
+/// limit; its text may be longer than that.
+///
+/// ```
+/// use galoxumi::{decode, write_value, Encoding};
+///
+/// assert_eq!(write_value(b"C:\\temp")?, br"'C:\temp'");
+/// let text = write_value(b"it's\n")?;
+/// assert_eq!(text, br#""it's\n""#);
+/// assert_eq!(decode(&text, Encoding::BasicString)?.bytes, b"it's\n");
+/// # Ok::<(), galoxumi::Refusal>(())
+/// ```
+pub fn write_value(value: &[u8]) -> Result<Vec<u8>, Refusal> {
+    // As a literal string a value has two bytes more. Where that is too short, the refusal says how long the text is.
+    let mut text = vec![0u8; value.len().min(LIMIT) + 2];
+    let count = match write_value_into(value, &mut text) {
+        Err(Refusal::ShortOutput { needed }) => {
+            text.resize(needed, 0);
+            write_value_into(value, &mut text)?
+        }
+        answer => answer?,
+    };
+    text.truncate(count);
+    Ok(text)
+}
+
+/// The same text in lent memory from its front. Answers how many bytes it has; bytes after it keep their contents. Where
+/// the memory is shorter, [`Refusal::ShortOutput`] says how many are needed, and nothing is written.
+pub fn write_value_into(value: &[u8], output: &mut [u8]) -> Result<usize, Refusal> {
+    Refusal::read(ffi::write_value(value, output))
 }

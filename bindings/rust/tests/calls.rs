@@ -53,7 +53,7 @@ fn documents_of_16777216_bytes_are_taken() {
     assert_eq!(LIMIT, len);
     // one comment as a document, and a text of a string without its marks: few tokens and few errors come back
     let doc = vec![b'#'; len + 1];
-    let calls: [(&str, fn(&[u8]) -> Result<(), Refusal>); 9] = [
+    let calls: [(&str, fn(&[u8]) -> Result<(), Refusal>); 10] = [
         ("check_utf8", check_utf8),
         ("Lexer::new", |doc| Lexer::new(doc).map(|_| ())),
         ("Lexer::next", |doc| Lexer::at(doc, 0, false, 1).next().expect("a token or a refusal").map(|_| ())),
@@ -63,6 +63,7 @@ fn documents_of_16777216_bytes_are_taken() {
         ("position", |doc| position(doc, 1).map(|_| ())),
         ("decode", |doc| decode(doc, Encoding::BasicString).map(|_| ())),
         ("decode_in", |doc| decode_in(doc, Encoding::BasicString, Edition::Toml11).map(|_| ())),
+        ("write_value", |doc| write_value(doc).map(|_| ())),
     ];
     for (name, call) in calls {
         assert_eq!(call(&doc[..len]), Ok(()), "{name}");
@@ -196,4 +197,28 @@ fn tokens_bear_their_lines() {
     let steps: Result<Vec<Token>, Refusal> = Lexer::at(doc, 1, false, 2).collect();
     assert_eq!(steps.expect("stepped").last().map(Token::line), Some(6));
     assert_eq!(Lexer::at(doc, 1, false, 3).next(), Some(Err(Refusal::OutOfPlace { length: doc.len() })));
+}
+
+/// From docs/TRACE.md, k2 and k3: the shortest text, a literal string on a tie, hex digits in capitals; from the ABNF of
+/// TOML 1.0.0: what has to be escaped.
+#[test]
+fn values_are_written_as_their_shortest_text() {
+    let cases: [(&[u8], &[u8], Encoding); 6] = [
+        (b"", b"''", Encoding::LiteralString),
+        (b"say \"\\\"\t", b"'say \"\\\"\t'", Encoding::LiteralString),
+        ("é".as_bytes(), "'é'".as_bytes(), Encoding::LiteralString),
+        (b"it's", b"\"it's\"", Encoding::BasicString),
+        (b"'\"\\\n", br#""'\"\\\n""#, Encoding::BasicString),
+        (b"\0\x1F\x7F", br#""\u0000\u001F\u007F""#, Encoding::BasicString),
+    ];
+    for (value, text, encoding) in cases {
+        assert_eq!(write_value(value).as_deref(), Ok(text));
+        assert_eq!(decode(text, encoding).expect("decoded").value().as_deref(), Ok(value));
+        let mut lent = vec![0xA5; text.len() + 1];
+        assert_eq!(write_value_into(value, &mut lent), Ok(text.len()));
+        assert_eq!((&lent[..text.len()], lent[text.len()]), (text, 0xA5));
+        assert_eq!(write_value_into(value, &mut lent[..text.len() - 1]), Err(Refusal::ShortOutput { needed: text.len() }));
+    }
+    let error_len = core::num::NonZeroUsize::new(1);
+    assert_eq!(write_value(b"a\xFF"), Err(Refusal::NotUtf8 { valid: 1, error_len }));
 }

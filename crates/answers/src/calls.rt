@@ -25,6 +25,8 @@ pub(crate) fn make(
         Call::DecIn => decin(numbers, doc, bytes, errors),
         Call::Text => text_of_span(numbers, doc, bytes),
         Call::Desc => desc(numbers, bytes),
+        Call::Write => write(doc, bytes),
+        Call::WriteCap => writecap(numbers, doc, bytes),
         _ => make_plain(call, numbers, doc),
     }
 }
@@ -149,6 +151,16 @@ fn desc(numbers: [usize; 3], bytes: &mut [u8]) -> Reply {
         count,
         TokenKind::encoding(kind).number,
     )
+}
+
+fn write(doc: &[u8], bytes: &mut [u8]) -> Reply {
+    answers_forms::wrote(built_writing::write_value(doc, bytes))
+}
+
+// The number is how many bytes of output are lent.
+fn writecap(numbers: [usize; 3], doc: &[u8], bytes: &mut [u8]) -> Reply {
+    let lent = least(numbers[0], bytes.len());
+    answers_forms::wrote_count(built_writing::write_value(doc, &mut bytes[..lent]))
 }
 
 // Copies `part` to the front of `bytes`, as far as both reach, and answers how many bytes that are.

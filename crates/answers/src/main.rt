@@ -7,17 +7,17 @@ mod calls;
 ghost use Prim.Native.Nat.{_≤_};
 ghost use lib.ListN.{length};
 use answers_asking::LineFault;
-use answers_asking::OUTPUT;
 use answers_asking::RECORDS;
 use answers_asking::Reading;
 use answers_asking::Request;
+use answers_asking::WRITTEN;
 use answers_spelling::Reply;
 
 fn main() {
     let mut input = [0u8; 65536];
     // room for a document of 65,536 bytes in hex, and the words before it
     let mut line = [0u8; 131200];
-    let mut bytes = [0u8; OUTPUT];
+    let mut bytes = [0u8; WRITTEN];
     let mut errors = [[0usize; 3]; RECORDS];
     let mut tokens = [[0usize; 4]; RECORDS];
     answer_all(&mut input, &mut line, &mut bytes, &mut errors, &mut tokens);

@@ -11,9 +11,12 @@ const DOCUMENT: usize = 65536;
 
 // One more than such a document can need: decoded it has at most one and a half times its bytes, and
 // at most two errors more than bytes. Lexed it has at most one token more than bytes.
-pub const OUTPUT: usize = 98305;
+const OUTPUT: usize = 98305;
 
 pub const RECORDS: usize = 65539;
+
+// One more than such a document can need, written as a string: six bytes for each of its own, and two marks.
+pub const WRITTEN: usize = 393219;
 
 // The limit of a number that may be any.
 const ANY: usize = usize::MAX;
@@ -34,6 +37,8 @@ pub enum Call {
     Text,
     Pos,
     Desc,
+    Write,
+    WriteCap,
     Unknown,
 }
 
@@ -120,6 +125,8 @@ fn call_of(key: usize) -> Call {
         0x74_65_78_74 => Call::Text,
         0x70_6F_73 => Call::Pos,
         0x64_65_73_63 => Call::Desc,
+        0x77_72_69_74_65 => Call::Write,
+        0x77_72_69_74_65_63_61_70 => Call::WriteCap,
         _ => Call::Unknown,
     }
 }
@@ -129,7 +136,7 @@ fn numbers_of(call: Call) -> usize
     ensures { λ r. ⌜ r ≤ 3 ⌝ }
 {
     match call {
-        Call::LexCap | Call::Dec | Call::Pos | Call::Desc => 1,
+        Call::LexCap | Call::Dec | Call::Pos | Call::Desc | Call::WriteCap => 1,
         Call::DecIn | Call::Step | Call::Span | Call::Text => 2,
         Call::DecCap | Call::StepLine => 3,
         _ => 0,
@@ -142,6 +149,7 @@ fn limits_of(call: Call) -> [usize; 3] {
         Call::LexCap => [RECORDS, ANY, ANY],
         Call::DecCap => [ANY, OUTPUT, RECORDS],
         Call::Step | Call::StepLine => [ANY, 1, ANY],
+        Call::WriteCap => [WRITTEN, ANY, ANY],
         _ => [ANY, ANY, ANY],
     }
 }

@@ -6,9 +6,9 @@ mod words;
 
 pub use asked::Call;
 pub use asked::LineFault;
-pub use asked::OUTPUT;
 pub use asked::Question;
 pub use asked::RECORDS;
+pub use asked::WRITTEN;
 pub use lines::Reading;
 ghost use Prim.Native.Nat.{_≤_};
 ghost use lib.ListN.{length};

@@ -20,6 +20,12 @@ decoded κs a x y s t p q = p ∙ sym q
 pub decoded-count : OneAnswer promised.decoded_count.Reads.Learnt
 decoded-count κs a x y s t p q = p ∙ sym q
 
+pub wrote : OneAnswer promised.wrote.Reads.Learnt
+wrote κs a x y s t p q = p ∙ sym q
+
+pub wrote-count : OneAnswer promised.wrote_count.Reads.Learnt
+wrote-count κs a x y s t p q = p ∙ sym q
+
 pub checked : OneAnswer promised.checked.Reads.Learnt
 checked κs a x y s t p q = p ∙ sym q
 

@@ -28,6 +28,8 @@ use Rattle.lexer_place.specs.declared.Position.{Position}
 use Rattle.lexer_place.specs.declared.Position.the-variants.{At as Found, Refused as Unfound}
 use Rattle.decoder_rules.specs.declared.Decoded.{Decoded}
 use Rattle.decoder_rules.specs.declared.Decoded.the-variants.{Written, Refused as Undecoded}
+use Rattle.built_writing.specs.declared.Wrote.{Wrote}
+use Rattle.built_writing.specs.declared.Wrote.the-variants.{Text, Refused as Unwritten}
 use Rattle.answers_asking.specs.declared.asked.LineFault.{LineFault}
 use Rattle.answers_asking.specs.declared.asked.LineFault.the-variants as fault
 use Rattle.answers_spelling.specs.declared.Reply.{Reply}
@@ -76,6 +78,15 @@ decodedAs (Undecoded r) = refusedWhole r
 abbrev pub decodedCountAs : Decoded → Reply
 decodedCountAs (Written b e) = threeBy form.Three 0 b e
 decodedCountAs (Undecoded r) = refusedAs form.Three r
+
+-- write: the bytes of the text; writecap: 0 and their count
+abbrev pub wroteAs : Wrote → Reply
+wroteAs (Text b) = filledBy form.Hex b 0
+wroteAs (Unwritten r) = refusedWhole r
+
+abbrev pub wroteCountAs : Wrote → Reply
+wroteCountAs (Text b) = filledBy form.Two 0 b
+wroteCountAs (Unwritten r) = refusedAs form.Two r
 
 -- utf8: 0 and 0
 abbrev pub checkedAs : Utf8Check → Reply

@@ -5,10 +5,11 @@ ghost use Rattle.lexer.specs.Told.{bitOf};
 ghost use Rattle.answers_forms.specs.Answers.{filledBy, answeredBy, threeBy, refusedAs, refusedWhole, faultAs, faultForm};
 ghost use Rattle.answers_forms.specs.Answers.{tokensAs, tokenLinesAs, tokenCountAs, decodedAs, decodedCountAs, checkedAs, faultedAs};
 ghost use Rattle.answers_forms.specs.Answers.{spanCheckedAs, startedAs, positionedAs, steppedAs, steppedLineAs, nextAs, nextLineAs};
-ghost use Rattle.answers_forms.specs.Answers.{hexAs, describedAs};
+ghost use Rattle.answers_forms.specs.Answers.{hexAs, describedAs, wroteAs, wroteCountAs};
 use answers_asking::LineFault;
 use answers_spelling::Form;
 use answers_spelling::Reply;
+use built_writing::Wrote;
 use decoder_rules::Decoded;
 use lexer::Cursor;
 use lexer::Lexed;
@@ -114,6 +115,25 @@ pub fn decoded_count(result: Decoded) -> Reply
     match result {
         Decoded::Written { bytes, errors } => three(Form::Three, 0, bytes, errors),
         Decoded::Refused(why) => refused(Form::Three, why),
+    }
+}
+
+pub fn wrote(result: Wrote) -> Reply
+    ensures { λ r. ⌜ r ≡ wroteAs result ⌝ }
+{
+    match result {
+        Wrote::Text { bytes } => filled(Form::Hex, bytes, 0),
+        Wrote::Refused(why) => refused_whole(why),
+    }
+}
+
+// 0 and the count of bytes.
+pub fn wrote_count(result: Wrote) -> Reply
+    ensures { λ r. ⌜ r ≡ wroteCountAs result ⌝ }
+{
+    match result {
+        Wrote::Text { bytes } => filled(Form::Two, 0, bytes),
+        Wrote::Refused(why) => refused(Form::Two, why),
     }
 }
 

@@ -44,5 +44,9 @@ galoxumi-description κs a x y s t p q = p ∙ sym q
 pub galoxumi-encoding : OneAnswer promised.galoxumi_encoding.Reads.Learnt
 galoxumi-encoding κs a x y s t p q = p ∙ sym q
 
+-- the answer, and what the output holds
+pub galoxumi-write-value : OneOutcome promised.galoxumi_write_value.Reads.Learnt (λ κs r s. r and now (s .1 .0))
+galoxumi-write-value κs a x y s t p q = both (p .0 ∙ sym (q .0)) (p .1 ∙ sym (q .1))
+
 pub galoxumi-error-words : OneAnswer promised.galoxumi_error_words.Reads.Learnt
 galoxumi-error-words κs a x y s t p q = p ∙ sym q

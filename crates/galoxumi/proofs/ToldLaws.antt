@@ -23,7 +23,10 @@ use Rattle.lexer_place.specs.declared.Position.the-variants.{At as Placed, Refu
 use Rattle.decoder_rules.specs.Told.{decodedNumber, decodedValue, decodedErrors, decodedLength}
 use Rattle.decoder_rules.specs.declared.Decoded.{Decoded}
 use Rattle.decoder_rules.specs.declared.Decoded.the-variants.{Written, Refused as Undecoded}
-use Rattle.galoxumi.specs.Numbers.{checkNumbers, cursorNumbers, startNumbers, stepNumbers, lexNumbers, spanNumbers, positionNumbers, decodeNumbers, toldBy}
+use Rattle.built_writing.specs.Told.{wroteNumber, wroteValue, wroteLength}
+use Rattle.built_writing.specs.declared.Wrote.{Wrote}
+use Rattle.built_writing.specs.declared.Wrote.the-variants.{Text, Refused as Unwritten}
+use Rattle.galoxumi.specs.Numbers.{checkNumbers, cursorNumbers, startNumbers, stepNumbers, lexNumbers, spanNumbers, positionNumbers, decodeNumbers, toldBy, writeNumbers}
 
 pub check-told : (r : Utf8Check) → checkNumbers r ≡ record { refusal = checkNumber r; value = checkValue r; length = checkLength r }
 check-told Valid = refl
@@ -60,6 +63,10 @@ pub decode-told : (r : Decoded)
     }
 decode-told (Written bytes errors) = refl
 decode-told (Undecoded r) = refl
+
+pub write-told : (r : Wrote) → writeNumbers r ≡ record { refusal = wroteNumber r; value = wroteValue r; length = wroteLength r }
+write-told (Text bytes) = refl
+write-told (Unwritten r) = refl
 
 pub kind-told : (a : Answer) → (toldBy a .refusal ≡ answerNumber a) × (toldBy a .value ≡ answerValue a)
 kind-told Told = (refl, refl)

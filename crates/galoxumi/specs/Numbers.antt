@@ -15,6 +15,8 @@ use Rattle.lexer_place.specs.declared.{SpanCheck.SpanCheck, SpanCheck.the-varia
 use Rattle.decoder_rules.specs.{Encodings.choiceBy, Decoding.decodeIn, Decoding.bytesBy, Decoding.errorsBy, Decoding.after}
 use Rattle.decoder_rules.specs.declared.{Decoded.Decoded, Decoded.the-variants.Written, Decoded.the-variants.Refused as Undecoded}
 use Rattle.decoder_words.specs.declared.{Said.Said, Said.the-variants.Message, Said.the-variants.Literal, Said.the-variants.Description as Wanted, Said.the-variants.Nothing, Words.Words}
+use Rattle.built_writing.specs.{Writing.written, Writing.writeAnswer, Writing.writtenAfter}
+use Rattle.built_writing.specs.declared.{Wrote.Wrote, Wrote.the-variants.Text, Wrote.the-variants.Refused as Unwritten}
 use Rattle.galoxumi.specs.declared.{AnswerNumbers.AnswerNumbers, CursorNumbers.CursorNumbers, StartNumbers.StartNumbers, StepNumbers.StepNumbers, PartNumbers.PartNumbers, PositionNumbers.PositionNumbers, DecodeNumbers.DecodeNumbers, DescribedNumbers.DescribedNumbers, EncodedNumbers.EncodedNumbers, WordsNumbers.WordsNumbers}
 
 -- a flag in an answer is 0 or 1 (`bitOf`); as an argument, anything but 0 means true
@@ -107,6 +109,14 @@ outputAfter text edition kind output errors =
 abbrev pub errorsAfter : List ℕ → ℕ → ℕ → List ℕ → List (List ℕ) → List (List ℕ)
 errorsAfter text edition kind output errors =
     after (decodeIn text edition kind (length output) (length errors)) (errorsBy (choiceBy edition kind) text) errors
+
+-- writing a value: the value of the answer is the count of bytes, and after it what an output holds that held `output`
+abbrev pub writeNumbers : Wrote → AnswerNumbers
+writeNumbers (Text bytes) = answerOf bytes
+writeNumbers (Unwritten r) = refusedBy r
+
+abbrev pub writtenBytes : List ℕ → List ℕ → List ℕ
+writtenBytes value output = writtenAfter (writeAnswer value (length output)) (written value) output
 
 -- description and encoding of a kind
 abbrev pub toldBy : Answer → AnswerNumbers

@@ -13,10 +13,12 @@ ghost use Rattle.lexer.specs.Whole.{lexAnswer, lexMemory};
 ghost use Rattle.lexer_place.specs.Spans.{spanAnswer, spanText};
 ghost use Rattle.lexer_place.specs.Positions.{positionAnswer};
 ghost use Rattle.decoder_words.specs.Words.{errorWords};
+ghost use Rattle.built_writing.specs.Writing.{writeAnswer};
 ghost use Rattle.galoxumi.specs.Numbers.{flag, answerOf, refusedBy, toldBy, cursorNumbers, noToken, partFrom};
 ghost use Rattle.galoxumi.specs.Numbers.{checkNumbers, startNumbers, stepNumbers, lexNumbers, spanNumbers, partOf, partText};
 ghost use Rattle.galoxumi.specs.Numbers.{positionNumbers, decodeNumbers, decodeAnswer, outputAfter, errorsAfter, describedNumbers, encodedNumbers};
-ghost use Rattle.galoxumi.specs.Numbers.{saidNumber, wordsNumbers};
+ghost use Rattle.galoxumi.specs.Numbers.{saidNumber, wordsNumbers, writeNumbers, writtenBytes};
+use built_writing::Wrote;
 use decoder_rules::Decoded;
 use decoder_words::Said;
 use lexer::Cursor;
@@ -299,6 +301,17 @@ pub extern "C" fn galoxumi_error_words(error: usize, edition: usize, which: usiz
         said: said_number(said),
         length: w.len,
         bytes,
+    }
+}
+
+#[no_mangle]
+pub extern "C" fn galoxumi_write_value(value: &[u8], output: &mut [u8]) -> AnswerNumbers
+    ensures answer { λ r. ⌜ r ≡ writeNumbers (writeAnswer (now (value .entry)) (length (now (output .entry)))) ⌝ }
+    ensures bytes { λ _. ⌜ now (output .exit) ≡ writtenBytes (now (value .entry)) (now (output .entry)) ⌝ }
+{
+    match built_writing::write_value(value, output) {
+        Wrote::Text { bytes } => answer_of(bytes),
+        Wrote::Refused(r) => refused(r),
     }
 }
 

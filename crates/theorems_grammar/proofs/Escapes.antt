@@ -46,7 +46,7 @@ unfolding hexFrom
 digits-value stop = refl
 digits-value (more first rest) = rw (digit-at first .1) (digits-value rest)
 
-digits-long : {n a v : ℕ} {t : List ℕ} → HexDigits n a t v → length t ≡ n
+pub digits-long : {n a v : ℕ} {t : List ℕ} → HexDigits n a t v → length t ≡ n
 digits-long stop = refl
 digits-long (more first rest) = ap suc (digits-long rest)
 
@@ -63,7 +63,7 @@ digits-of (suc n) a (b ∷ s) enough = by-test (hexdig b) refl enough (digits-of
     by-test false is more-left rest-digits = absurd (omega arith)
 
 -- what two digits name is a scalar value
-digit-small : {c d : ℕ} → HexDig c d → d < 16
+pub digit-small : {c d : ℕ} → HexDig c d → d < 16
 digit-small {c} {d} (HexDig.digit e h) = omega arith
 digit-small {c} {d} (HexDig.upper e h k) = omega arith
 digit-small {c} {d} (HexDig.lower e h k) = omega arith

@@ -1,0 +1,4 @@
+pub mod SpellLaws
+pub mod TextLaws
+pub mod NumberLaws
+pub mod OneAnswer

@@ -1,0 +1,88 @@
+// `write_value`: the shortest literal or basic string that has a value, into lent memory.
+// Rule: specs/Writing.antt.
+ghost use mathlib.Core.Path.{_≡_};
+ghost use Prim.Native.Nat.{_≤_};
+ghost use lib.ListN.{length};
+ghost use Rattle.text.specs.Refusals.{limit};
+ghost use Rattle.text.specs.Told.{checkFault};
+ghost use Rattle.built_writing.specs.Writing.{literalText, basicText, written, writeAnswer, writtenAfter};
+ghost use Rattle.built_writing.specs.Told.{wroteNumber, wroteValue, wroteLength, writeRefusal, writeReturned};
+ghost use Rattle.built_writing.specs.WroteText.{WroteText};
+
+mod spell;
+
+pub use crate::spell::Spelling;
+use crate::spell::copy_in;
+use crate::spell::count;
+use crate::spell::put_body;
+use decoder_pieces::plain_run;
+use decoder_rules::Encoding;
+use text::Refusal;
+use text::Utf8Check;
+use text::check_utf8;
+
+// What `write_value` answers: how many bytes the text has that was written, or why nothing was.
+pub enum Wrote {
+    Text { bytes: usize },
+    Refused(Refusal),
+}
+
+// Writes the shortest text that TOML 1.0.0 derives as a literal or basic string with the value: a literal string where
+// there is one, else the basic string with the fewest and then the smallest bytes. It goes to the front of the output;
+// what follows it stays. A call that is refused writes nothing.
+pub fn write_value(value: &[u8], output: &mut [u8]) -> Wrote
+    ensures answer { λ r. ⌜ r ≡ writeAnswer (now (value .entry)) (length (now (output .entry))) ⌝ }
+    ensures output { λ r. ⌜ now (output .exit) ≡ writtenAfter r (written (now (value .entry))) (now (output .entry)) ⌝ }
+    ensures number { λ r. ⌜ wroteNumber r ≡ writeRefusal (now (value .entry)) (length (now (output .entry))) ⌝ }
+    ensures returned { λ r. ⌜ wroteValue r ≡ writeReturned (now (value .entry)) (length (now (output .entry))) ⌝ }
+    ensures length { λ r. ⌜ wroteLength r ≡ checkFault (now (value .entry)) ⌝ }
+{
+    let check = check_utf8(value);
+    match check {
+        Utf8Check::Refused(r) => Wrote::Refused(r),
+        Utf8Check::Valid => write_checked(value, output),
+    }
+}
+
+// A value that passed the check: a literal string where every byte of it may stand in one.
+fn write_checked(value: &[u8], output: &mut [u8]) -> Wrote
+    requires { ⌜ length (now value) ≤ limit ⌝ }
+    ensures { λ r. ⌜ WroteText (written (now (value .entry))) (now (output .entry)) r (now (output .exit)) ⌝ }
+{
+    if plain_run(Encoding::LiteralString, value) == value.len() {
+        write_literal(value, output)
+    } else {
+        write_basic(value, output)
+    }
+}
+
+fn write_literal(value: &[u8], output: &mut [u8]) -> Wrote
+    requires { ⌜ length (now value) ≤ limit ⌝ }
+    ensures { λ r. ⌜ WroteText (literalText (now (value .entry))) (now (output .entry)) r (now (output .exit)) ⌝ }
+{
+    let n = value.len() + 2;
+    if output.len() < n {
+        return Wrote::Refused(Refusal::ShortOutput { needed: n });
+    }
+    output[0] = b'\'';
+    let end = copy_in(value, value.len(), output, 1);
+    output[end] = b'\'';
+    Wrote::Text { bytes: n }
+}
+
+// The counting pass is left out where the output cannot be too short: no byte is written with more than six.
+fn write_basic(value: &[u8], output: &mut [u8]) -> Wrote
+    requires { ⌜ length (now value) ≤ limit ⌝ }
+    ensures { λ r. ⌜ WroteText (basicText (now (value .entry))) (now (output .entry)) r (now (output .exit)) ⌝ }
+{
+    if output.len() < 6 * value.len() + 2 {
+        let n = count(value) + 2;
+        if output.len() < n {
+            return Wrote::Refused(Refusal::ShortOutput { needed: n });
+        }
+    }
+    output[0] = b'"';
+    let end = put_body(value, output, 1);
+    output[end] = b'"';
+    Wrote::Text { bytes: end + 1 }
+}
