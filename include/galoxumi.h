@@ -8,7 +8,7 @@
  * which is 0 except with refusal 1:
  *
  *   refusal  given exactly when                                      value
- *   0        answered                                                tokens, bytes, or 0: see the call
+ *   0        answered                                                tokens, bytes, ticks, 1 or 0: see the call
  *   1        the bytes are not UTF-8                                 length of the longest valid prefix
  *   2        more than GALOXUMI_LIMIT bytes                          GALOXUMI_LIMIT
  *   3        fewer token records than tokens, Eof counted            tokens needed
@@ -17,9 +17,13 @@
  *   6        a place beyond the document; for a cursor also a line   the document's length
  *            past its place plus 1; for a span also a start after
  *            the end, or an end at a byte 80 to BF
+ *            in the calls on marks: a token number not below the     the number of records
+ *            number of token records
  *   7        a number that is no kind that the call knows, or the    that number
  *            number of no error
  *   9        a number that is no edition of TOML                     that number
+ *   11       a number that is no reviewer's: neither 0 nor 1         that number
+ *   12       the table of marks is shorter than the token records    the number of records
  *
  * With refusal 1 `length` is the length, 1 to 3, of the faulty sequence after the valid prefix: of the bytes that, with
  * what follows them, begin no character; or 0 where the bytes end inside a character, which further bytes could mend.
@@ -208,6 +212,26 @@ typedef struct {
 } galoxumi_words;
 
 galoxumi_words galoxumi_error_words(size_t error, size_t edition, size_t which);
+
+/* Two reviewers, 0 and 1, tick off the tokens of one document. Beside the token records lies a lent table of marks, a byte
+ * for each record and perhaps more: bit 0 is reviewer 0's, bit 1 is reviewer 1's, and the other six are unused. A token is
+ * named by its number among the records, from 0 on; what the records hold does not matter, only how many there are.
+ * What a reviewer is told depends only on the number of records, the table's length, and that reviewer's own calls and bits.
+ *
+ * galoxumi_tick sets the reviewer's bit of a token and galoxumi_untick clears it; every other bit of the table keeps its
+ * value. value is 0. galoxumi_is_ticked asks for that bit: value is 1 where it is set, and 0 where it is not. Refusals of
+ * all three: 11, 6, 12. */
+galoxumi_answer galoxumi_tick(const size_t (*records)[4], size_t records_len, uint8_t *marks, size_t marks_len, size_t reviewer,
+                              size_t token);
+galoxumi_answer galoxumi_untick(const size_t (*records)[4], size_t records_len, uint8_t *marks, size_t marks_len, size_t reviewer,
+                                size_t token);
+galoxumi_answer galoxumi_is_ticked(const size_t (*records)[4], size_t records_len, const uint8_t *marks, size_t marks_len,
+                                   size_t reviewer, size_t token);
+
+/* How many of the reviewer's bits are set over the records, as value; entries after those of the records do not count.
+ * Refusals 11, 12. */
+galoxumi_answer galoxumi_ticks(const size_t (*records)[4], size_t records_len, const uint8_t *marks, size_t marks_len,
+                               size_t reviewer);
 
 #ifdef __cplusplus
 }

@@ -289,6 +289,18 @@ def values():
     return lines + by_reference(*lent, *large)
 
 
+def reviewers():
+    """Marks of two reviewers: every bit of an entry, each place, and the refusals in their order."""
+    every = [call(name, reviewer, 0, 1, bytes([mark])) for mark in range(256) for reviewer in (0, 1) for name in ('tick', 'untick', 'ticked')]
+    tables = [b'', b'\x00', b'\x03\x00\xff', b'\xfc\x01\x02', bytes(range(8))]
+    places = [call(name, reviewer, token, lent, marks) for marks in tables for lent in around(len(marks)) for reviewer in (0, 1, 2, MAX)
+              for token in (0, 1, 2, lent, MAX) for name in ('tick', 'untick', 'ticked')]
+    counts = [call('ticks', reviewer, lent, marks) for marks in tables + [bytes(b % 4 for b in range(300))] for lent in (*around(len(marks)), 256)
+              for reviewer in (0, 1, 2, MAX)]
+    large = [call('ticks', reviewer, 65536, b'\x01' * 65536) for reviewer in (0, 1)]
+    return by_reference(*every, *places, *counts, *large)
+
+
 def every_byte():
     """Each byte as a whole document, and between the marks of each kind."""
     marks = {39: b"'", 34: b'"', 1: b"'''", 2: b'"""', 3: b'a'}
@@ -323,7 +335,7 @@ def wrong_lines():
 
 
 SECTIONS = [scope, valid_cases, left_out_cases, later_cases, invalid_utf8, invalid_strings, vectors, lent_records, lent_output, sizes, cursors, lines, spans,
-            positions, kinds, editions, faults, joined, values, every_byte, short_texts, wrong_lines]
+            positions, kinds, editions, faults, joined, values, reviewers, every_byte, short_texts, wrong_lines]
 
 
 def main():

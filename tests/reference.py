@@ -412,12 +412,48 @@ def writecap(room, value):
     return '%d %d' % refusal
 
 
+# ---- two reviewers on one table of marks
+
+def mark_refusal(reviewer, token, lent, marks):
+    if reviewer > 1:
+        return 11, reviewer
+    if token is not None and token >= lent:
+        return 6, lent
+    return (12, lent) if len(marks) < lent else None
+
+
+def marked(reviewer, token, lent, marks, change):
+    refusal = mark_refusal(reviewer, token, lent, marks)
+    if not refusal:
+        marks = marks[:token] + bytes([change(marks[token], 1 << reviewer)]) + marks[token + 1:]
+    return '%d %d | ' % (refusal or (0, 0)) + hexed(marks)
+
+
+def tick(reviewer, token, lent, marks):
+    return marked(reviewer, token, lent, marks, lambda mark, bit: mark | bit)
+
+
+def untick(reviewer, token, lent, marks):
+    return marked(reviewer, token, lent, marks, lambda mark, bit: mark & ~bit)
+
+
+def ticked(reviewer, token, lent, marks):
+    refusal = mark_refusal(reviewer, token, lent, marks)
+    return '%d %d %d' % (*(refusal or (0, 0)), 0 if refusal else marks[token] >> reviewer & 1)
+
+
+def ticks(reviewer, lent, marks):
+    refusal = mark_refusal(reviewer, None, lent, marks)
+    return '%d %d %d' % (*(refusal or (0, 0)), 0 if refusal else sum(mark >> reviewer & 1 for mark in marks[:lent]))
+
+
 # For each name its function and the words after it: n a number, b a flag, r records lent, o output lent, w output lent for a text that is written, x bytes in hex.
 CALLS = {b'lex': (lex, 'x'), b'lexline': (lexline, 'x'), b'lexcap': (lexcap, 'rx'), b'dec': (dec, 'nx'), b'deccap': (deccap, 'norx'),
          b'decin': (decin, 'nnx'), b'utf8': (utf8, 'x'), b'fault': (fault, 'x'),
          b'start': (start, 'x'), b'step': (step, 'nbx'), b'stepline': (stepline, 'nbnx'), b'span': (span, 'nnx'), b'text': (text, 'nnx'), b'pos': (pos, 'nx'),
          b'desc': (desc, 'n'),
-         b'write': (write, 'x'), b'writecap': (writecap, 'wx')}
+         b'write': (write, 'x'), b'writecap': (writecap, 'wx'),
+         b'tick': (tick, 'nnrx'), b'untick': (untick, 'nnrx'), b'ticked': (ticked, 'nnrx'), b'ticks': (ticks, 'nrx')}
 
 # The most that the program takes: bytes of a line, of a document, of output, of a text that is written; records.
 LINE, DOCUMENT, OUTPUT, WRITTEN, RECORDS = 131200, 65536, 98305, 393219, 65539

@@ -531,6 +531,86 @@ static void longest_text(void)
     free(out);
 }
 
+/* ---- two reviewers on one table of marks */
+
+/* The tokens of `a = 'b'`, an LF, and Eof; for the calls on marks only their number matters. */
+static const size_t SEVEN[7][4] = {T(3, 0, 1, 1), T(32, 1, 2, 1), T(61, 2, 3, 1), T(32, 3, 4, 1),
+                                   T(39, 4, 7, 1), T(10, 7, 8, 1), T(4, 8, 8, 2)};
+
+/* Setting, asking, clearing and asking again, by one reviewer, with each byte as the token's entry: the reviewer's bit and
+ * no other changes, and the entries beside it stay. */
+static int ticks_off(size_t reviewer, size_t token)
+{
+    for (unsigned byte = 0; byte < 256; byte++) {
+        uint8_t marks[8], old[8], bit = (uint8_t)(1u << reviewer);
+        memset(old, 0xA5, sizeof old);
+        old[token] = (uint8_t)byte;
+        memcpy(marks, old, sizeof marks);
+        int ok = answers(galoxumi_tick(SEVEN, 7, marks, 8, reviewer, token), 0, 0) && marks[token] == (byte | bit)
+                 && answers(galoxumi_is_ticked(SEVEN, 7, marks, 8, reviewer, token), 0, 1)
+                 && answers(galoxumi_is_ticked(SEVEN, 7, marks, 8, 1 - reviewer, token), 0, byte >> (1 - reviewer) & 1)
+                 && answers(galoxumi_untick(SEVEN, 7, marks, 8, reviewer, token), 0, 0) && marks[token] == (byte & ~bit)
+                 && answers(galoxumi_is_ticked(SEVEN, 7, marks, 8, reviewer, token), 0, 0);
+        marks[token] = old[token];
+        if (!ok || memcmp(marks, old, sizeof old) != 0) {
+            return 0;
+        }
+    }
+    return 1;
+}
+
+static void reviewers(void)
+{
+    FROM("crates/built_review/specs/Review.antt: bit 0 is reviewer 0's, bit 1 is reviewer 1's, the other six are unused");
+    for (size_t token = 0; token < 7; token++) {
+        EXPECT(ticks_off(0, token));
+        EXPECT(ticks_off(1, token));
+    }
+    FROM("the same: the bits set over the records, and none of a longer table's rest");
+    const uint8_t table[9] = {0x01, 0x02, 0x03, 0xFC, 0xFF, 0x00, 0x01, 0x01, 0x03};
+    EXPECT(answers(galoxumi_ticks(SEVEN, 7, table, 7, 0), 0, 4));
+    EXPECT(answers(galoxumi_ticks(SEVEN, 7, table, 9, 0), 0, 4));
+    EXPECT(answers(galoxumi_ticks(SEVEN, 7, table, 9, 1), 0, 3));
+    EXPECT(answers(galoxumi_ticks(SEVEN, 0, table, 0, 1), 0, 0));
+    static const size_t many[300][4];
+    uint8_t marks[300];
+    for (size_t i = 0; i < 300; i++) {
+        marks[i] = (uint8_t)(i % 4);
+    }
+    EXPECT(answers(galoxumi_ticks(many, 300, marks, 300, 0), 0, 150));
+    EXPECT(answers(galoxumi_ticks(many, 299, marks, 300, 1), 0, 149));
+}
+
+/* Where setting and clearing are refused, the table is as it was, and asking is refused alike. */
+static int unmarked(size_t records, size_t entries, size_t reviewer, size_t token, size_t refusal, size_t value)
+{
+    uint8_t marks[8], old[8];
+    memset(old, 0xA5, sizeof old);
+    memcpy(marks, old, sizeof marks);
+    return answers(galoxumi_tick(SEVEN, records, marks, entries, reviewer, token), refusal, value)
+           && answers(galoxumi_untick(SEVEN, records, marks, entries, reviewer, token), refusal, value)
+           && answers(galoxumi_is_ticked(SEVEN, records, marks, entries, reviewer, token), refusal, value)
+           && memcmp(marks, old, sizeof old) == 0;
+}
+
+static void reviewers_refused(void)
+{
+    uint8_t none[1] = {0};
+    FROM("docs/RULES.md, the refusals: 11 with the number given, then 6, then 12, both with the number of records");
+    EXPECT(unmarked(7, 7, 2, 0, 11, 2));
+    EXPECT(unmarked(7, 6, SIZE_MAX, 7, 11, SIZE_MAX));
+    EXPECT(unmarked(7, 7, 0, 7, 6, 7));
+    EXPECT(unmarked(7, 8, 1, 7, 6, 7));
+    EXPECT(unmarked(7, 6, 1, SIZE_MAX, 6, 7));
+    EXPECT(unmarked(0, 0, 0, 0, 6, 0));
+    EXPECT(unmarked(7, 6, 1, 0, 12, 7));
+    EXPECT(unmarked(7, 0, 0, 6, 12, 7));
+    FROM("docs/RULES.md, the refusals: counting 11, then 12");
+    EXPECT(answers(galoxumi_ticks(SEVEN, 7, none, 0, 2), 11, 2));
+    EXPECT(answers(galoxumi_ticks(SEVEN, 7, none, 1, 0), 12, 7));
+    EXPECT(answers(galoxumi_ticks(SEVEN, 1, none, 0, 1), 12, 1));
+}
+
 static void long_documents(void)
 {
     size_t len = LIMIT;
@@ -565,6 +645,8 @@ int main(void)
     RUN(editions);
     RUN(faults);
     RUN(longest_text);
+    RUN(reviewers);
+    RUN(reviewers_refused);
     RUN(long_documents);
     printf("C: %d expectations held\n", held);
     printf("C: %d passed, %d failed\n", passed, failed);

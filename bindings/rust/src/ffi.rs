@@ -107,6 +107,37 @@ mod archive {
         pub fn galoxumi_description(kind: usize) -> Described;
         pub fn galoxumi_encoding(kind: usize) -> Encoded;
         pub fn galoxumi_error_words(error: usize, edition: usize, which: usize) -> ErrorWords;
+        pub fn galoxumi_tick(
+            records: *const [usize; 4],
+            records_len: usize,
+            marks: *mut u8,
+            marks_len: usize,
+            reviewer: usize,
+            token: usize,
+        ) -> Answer;
+        pub fn galoxumi_untick(
+            records: *const [usize; 4],
+            records_len: usize,
+            marks: *mut u8,
+            marks_len: usize,
+            reviewer: usize,
+            token: usize,
+        ) -> Answer;
+        pub fn galoxumi_is_ticked(
+            records: *const [usize; 4],
+            records_len: usize,
+            marks: *const u8,
+            marks_len: usize,
+            reviewer: usize,
+            token: usize,
+        ) -> Answer;
+        pub fn galoxumi_ticks(
+            records: *const [usize; 4],
+            records_len: usize,
+            marks: *const u8,
+            marks_len: usize,
+            reviewer: usize,
+        ) -> Answer;
     }
 }
 
@@ -167,4 +198,28 @@ pub(crate) fn encoding(kind: usize) -> Encoded {
 
 pub(crate) fn error_words(error: usize, edition: usize, which: usize) -> ErrorWords {
     unsafe { archive::galoxumi_error_words(error, edition, which) }
+}
+
+/// The records that a call on marks is lent. It takes only their number; that a token has a record's size, and its address
+/// suits one, keeps even a read of them within the tokens.
+fn records_of(tokens: &[crate::Token]) -> *const [usize; 4] {
+    const _: () = assert!(core::mem::size_of::<crate::Token>() == core::mem::size_of::<[usize; 4]>());
+    const _: () = assert!(core::mem::align_of::<crate::Token>() == core::mem::align_of::<[usize; 4]>());
+    tokens.as_ptr().cast()
+}
+
+pub(crate) fn tick(tokens: &[crate::Token], marks: &mut [u8], reviewer: usize, token: usize) -> Answer {
+    unsafe { archive::galoxumi_tick(records_of(tokens), tokens.len(), marks.as_mut_ptr(), marks.len(), reviewer, token) }
+}
+
+pub(crate) fn untick(tokens: &[crate::Token], marks: &mut [u8], reviewer: usize, token: usize) -> Answer {
+    unsafe { archive::galoxumi_untick(records_of(tokens), tokens.len(), marks.as_mut_ptr(), marks.len(), reviewer, token) }
+}
+
+pub(crate) fn is_ticked(tokens: &[crate::Token], marks: &[u8], reviewer: usize, token: usize) -> Answer {
+    unsafe { archive::galoxumi_is_ticked(records_of(tokens), tokens.len(), marks.as_ptr(), marks.len(), reviewer, token) }
+}
+
+pub(crate) fn ticks(tokens: &[crate::Token], marks: &[u8], reviewer: usize) -> Answer {
+    unsafe { archive::galoxumi_ticks(records_of(tokens), tokens.len(), marks.as_ptr(), marks.len(), reviewer) }
 }

@@ -21,9 +21,11 @@
 
 mod error;
 mod ffi;
+mod review;
 mod token;
 
 pub use error::{Expected, ParseError};
+pub use review::{is_ticked, tick, ticks, untick, Reviewer};
 pub use token::{Edition, Encoding, Span, Token, TokenKind};
 
 /// The most bytes that a document, a text to decode or a value to write may have.
@@ -56,9 +58,10 @@ pub enum Refusal {
         /// The errors.
         needed: usize,
     },
-    /// 6: a place outside the document or inside a character.
+    /// 6: a place outside the document or inside a character; in a call on marks, a token number that is not below the
+    /// number of tokens.
     OutOfPlace {
-        /// The document's length.
+        /// The document's length; in a call on marks, the number of tokens.
         length: usize,
     },
     /// 7: a number that is no kind.
@@ -70,6 +73,16 @@ pub enum Refusal {
     NoEdition {
         /// That number.
         number: usize,
+    },
+    /// 11: a number that is no reviewer's. No call of this crate gives it, since a [`Reviewer`] always is one.
+    NoReviewer {
+        /// That number.
+        number: usize,
+    },
+    /// 12: the table of marks is shorter than the tokens.
+    FewMarks {
+        /// The tokens.
+        needed: usize,
     },
 }
 
@@ -86,7 +99,9 @@ impl Refusal {
             5 => Err(Self::FewErrors { needed: value }),
             6 => Err(Self::OutOfPlace { length: value }),
             7 => Err(Self::NoKind { number: value }),
-            _ => Err(Self::NoEdition { number: value }),
+            9 => Err(Self::NoEdition { number: value }),
+            11 => Err(Self::NoReviewer { number: value }),
+            _ => Err(Self::FewMarks { needed: value }),
         }
     }
 }
@@ -105,10 +120,12 @@ impl core::fmt::Display for Refusal {
             Self::ShortOutput { needed } => write!(f, "refused 4: {needed} bytes of output are needed"),
             Self::FewErrors { needed } => write!(f, "refused 5: {needed} error records are needed"),
             Self::OutOfPlace { length } => {
-                write!(f, "refused 6: a place outside the document's {length} bytes, or inside a character")
+                write!(f, "refused 6: a place outside the document's {length} bytes or tokens, or inside a character")
             }
             Self::NoKind { number } => write!(f, "refused 7: {number} is no kind"),
             Self::NoEdition { number } => write!(f, "refused 9: {number} is no edition of TOML"),
+            Self::NoReviewer { number } => write!(f, "refused 11: {number} is no reviewer"),
+            Self::FewMarks { needed } => write!(f, "refused 12: {needed} marks are needed"),
         }
     }
 }

@@ -222,3 +222,38 @@ fn values_are_written_as_their_shortest_text() {
     let error_len = core::num::NonZeroUsize::new(1);
     assert_eq!(write_value(b"a\xFF"), Err(Refusal::NotUtf8 { valid: 1, error_len }));
 }
+
+#[test]
+fn reviewers_tick_apart() {
+    use Reviewer::{First, Second};
+    let tokens = lex(b"a = 'b'").expect("lexed");
+    // the unused bits are set, and the table is longer than the tokens
+    let mut marks = [0xFC; 8];
+    assert_eq!(tokens.len(), 6);
+    assert_eq!(tick(&tokens, &mut marks, First, 4), Ok(()));
+    assert_eq!(tick(&tokens, &mut marks, Second, 4), Ok(()));
+    assert_eq!(tick(&tokens, &mut marks, Second, 5), Ok(()));
+    assert_eq!(untick(&tokens, &mut marks, First, 5), Ok(()));
+    assert_eq!(marks, [0xFC, 0xFC, 0xFC, 0xFC, 0xFF, 0xFE, 0xFC, 0xFC]);
+    assert_eq!(untick(&tokens, &mut marks, Second, 4), Ok(()));
+    assert_eq!(is_ticked(&tokens, &marks, First, 4), Ok(true));
+    assert_eq!(is_ticked(&tokens, &marks, Second, 4), Ok(false));
+    marks[6] = 3;
+    assert_eq!((ticks(&tokens, &marks, First), ticks(&tokens, &marks, Second)), (Ok(1), Ok(1)));
+}
+
+#[test]
+fn marks_are_refused() {
+    let tokens = lex(b"a = 'b'").expect("lexed");
+    let mut marks = [0xA5; 5];
+    let beyond = Refusal::OutOfPlace { length: 6 };
+    let few = Refusal::FewMarks { needed: 6 };
+    assert_eq!(tick(&tokens, &mut marks, Reviewer::First, 6), Err(beyond));
+    assert_eq!(tick(&tokens, &mut marks, Reviewer::First, 5), Err(few));
+    assert_eq!(untick(&tokens, &mut marks, Reviewer::Second, 0), Err(few));
+    assert_eq!(is_ticked(&tokens, &marks, Reviewer::Second, usize::MAX), Err(beyond));
+    assert_eq!(ticks(&tokens, &marks, Reviewer::First), Err(few));
+    assert_eq!(tick(&[], &mut [], Reviewer::First, 0), Err(Refusal::OutOfPlace { length: 0 }));
+    assert_eq!(ticks(&[], &[], Reviewer::First), Ok(0));
+    assert_eq!(marks, [0xA5; 5]);
+}

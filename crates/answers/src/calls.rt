@@ -1,6 +1,7 @@
 // One function for each call: it makes the call, and hands its answer to `answers_forms`. The call's
 // own promise says what the answer is, and `answers_forms` promises what is written of it.
 ghost use Prim.Native.Nat.{_≤_};
+ghost use lib.ListN.{length};
 use answers_asking::Call;
 use answers_spelling::Reply;
 use lexer::Cursor;
@@ -27,6 +28,10 @@ pub(crate) fn make(
         Call::Desc => desc(numbers, bytes),
         Call::Write => write(doc, bytes),
         Call::WriteCap => writecap(numbers, doc, bytes),
+        Call::Tick => tick(numbers, doc, bytes, tokens),
+        Call::Untick => untick(numbers, doc, bytes, tokens),
+        Call::Ticked => ticked(numbers, doc, tokens),
+        Call::Ticks => ticks(numbers, doc, tokens),
         _ => make_plain(call, numbers, doc),
     }
 }
@@ -163,8 +168,44 @@ fn writecap(numbers: [usize; 3], doc: &[u8], bytes: &mut [u8]) -> Reply {
     answers_forms::wrote_count(built_writing::write_value(doc, &mut bytes[..lent]))
 }
 
+// The numbers are the reviewer, the token, and how many token records are lent. The document is the table of marks; it is
+// copied, so that the call has a table to write to.
+fn tick(numbers: [usize; 3], doc: &[u8], bytes: &mut [u8], tokens: &[[usize; 4]]) -> Reply {
+    let records = front(tokens, numbers[2]);
+    let entries = copy(doc, bytes);
+    let marking = built_review::tick(records, &mut bytes[..entries], numbers[0], numbers[1]);
+    answers_forms::marked(marking, entries)
+}
+
+fn untick(numbers: [usize; 3], doc: &[u8], bytes: &mut [u8], tokens: &[[usize; 4]]) -> Reply {
+    let records = front(tokens, numbers[2]);
+    let entries = copy(doc, bytes);
+    let marking = built_review::untick(records, &mut bytes[..entries], numbers[0], numbers[1]);
+    answers_forms::marked(marking, entries)
+}
+
+fn ticked(numbers: [usize; 3], marks: &[u8], tokens: &[[usize; 4]]) -> Reply {
+    let records = front(tokens, numbers[2]);
+    let read = built_review::is_ticked(records, marks, numbers[0], numbers[1]);
+    answers_forms::tick_read(read)
+}
+
+// The numbers are the reviewer, and how many token records are lent.
+fn ticks(numbers: [usize; 3], marks: &[u8], tokens: &[[usize; 4]]) -> Reply {
+    let records = front(tokens, numbers[1]);
+    answers_forms::tick_count(built_review::ticks(records, marks, numbers[0]))
+}
+
+// The first token records, as many as are asked for, but no more than there are.
+fn front(tokens: &[[usize; 4]], asked: usize) -> &[[usize; 4]] {
+    let lent = least(asked, tokens.len());
+    &tokens[..lent]
+}
+
 // Copies `part` to the front of `bytes`, as far as both reach, and answers how many bytes that are.
-fn copy(part: &[u8], bytes: &mut [u8]) -> usize {
+fn copy(part: &[u8], bytes: &mut [u8]) -> usize
+    ensures { λ r. ⌜ r ≤ length (now (bytes .exit)) ⌝ }
+{
     let mut i = 0;
     while i < part.len() && i < bytes.len() {
         bytes[i] = part[i];

@@ -39,6 +39,10 @@ pub enum Call {
     Desc,
     Write,
     WriteCap,
+    Tick,
+    Untick,
+    Ticked,
+    Ticks,
     Unknown,
 }
 
@@ -127,6 +131,10 @@ fn call_of(key: usize) -> Call {
         0x64_65_73_63 => Call::Desc,
         0x77_72_69_74_65 => Call::Write,
         0x77_72_69_74_65_63_61_70 => Call::WriteCap,
+        0x74_69_63_6B => Call::Tick,
+        0x75_6E_74_69_63_6B => Call::Untick,
+        0x74_69_63_6B_65_64 => Call::Ticked,
+        0x74_69_63_6B_73 => Call::Ticks,
         _ => Call::Unknown,
     }
 }
@@ -137,8 +145,8 @@ fn numbers_of(call: Call) -> usize
 {
     match call {
         Call::LexCap | Call::Dec | Call::Pos | Call::Desc | Call::WriteCap => 1,
-        Call::DecIn | Call::Step | Call::Span | Call::Text => 2,
-        Call::DecCap | Call::StepLine => 3,
+        Call::DecIn | Call::Step | Call::Span | Call::Text | Call::Ticks => 2,
+        Call::DecCap | Call::StepLine | Call::Tick | Call::Untick | Call::Ticked => 3,
         _ => 0,
     }
 }
@@ -150,6 +158,8 @@ fn limits_of(call: Call) -> [usize; 3] {
         Call::DecCap => [ANY, OUTPUT, RECORDS],
         Call::Step | Call::StepLine => [ANY, 1, ANY],
         Call::WriteCap => [WRITTEN, ANY, ANY],
+        Call::Tick | Call::Untick | Call::Ticked => [ANY, ANY, RECORDS],
+        Call::Ticks => [ANY, RECORDS, ANY],
         _ => [ANY, ANY, ANY],
     }
 }

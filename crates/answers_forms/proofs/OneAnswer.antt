@@ -53,5 +53,14 @@ hex κs a x y s t p q = p ∙ sym q
 pub described : OneAnswer promised.described.Reads.Learnt
 described κs a x y s t p q = p ∙ sym q
 
+pub marked : OneAnswer promised.marked.Reads.Learnt
+marked κs a x y s t p q = p ∙ sym q
+
+pub tick-read : OneAnswer promised.tick_read.Reads.Learnt
+tick-read κs a x y s t p q = p ∙ sym q
+
+pub tick-count : OneAnswer promised.tick_count.Reads.Learnt
+tick-count κs a x y s t p q = p ∙ sym q
+
 pub fault : OneAnswer promised.fault.Reads.Learnt
 fault κs a x y s t p q = p ∙ sym q

@@ -28,6 +28,12 @@ use Rattle.lexer_place.specs.declared.Position.{Position}
 use Rattle.lexer_place.specs.declared.Position.the-variants.{At as Found, Refused as Unfound}
 use Rattle.decoder_rules.specs.declared.Decoded.{Decoded}
 use Rattle.decoder_rules.specs.declared.Decoded.the-variants.{Written, Refused as Undecoded}
+use Rattle.built_review.specs.declared.Marking.{Marking}
+use Rattle.built_review.specs.declared.Marking.the-variants.{Done, Refused as Unmarked}
+use Rattle.built_review.specs.declared.TickRead.{TickRead}
+use Rattle.built_review.specs.declared.TickRead.the-variants.{Ticked, Unticked, Refused as Unread}
+use Rattle.built_review.specs.declared.TickCount.{TickCount}
+use Rattle.built_review.specs.declared.TickCount.the-variants.{Ticks, Refused as Uncounted}
 use Rattle.built_writing.specs.declared.Wrote.{Wrote}
 use Rattle.built_writing.specs.declared.Wrote.the-variants.{Text, Refused as Unwritten}
 use Rattle.answers_asking.specs.declared.asked.LineFault.{LineFault}
@@ -144,6 +150,21 @@ describedAs (Undescribed r) len n e =
       form = form.Described;
       numbers = refusalNumber r ∷ refusalValue r ∷ len ∷ n ∷ e ∷ 0 ∷ 0 ∷ 0 ∷ [];
     }
+
+-- tick, untick: the answer's two numbers, and the table of marks afterwards, with so many entries
+abbrev pub markedAs : Marking → ℕ → Reply
+markedAs Done entries = threeBy form.Marked 0 0 entries
+markedAs (Unmarked r) entries = threeBy form.Marked (refusalNumber r) (refusalValue r) entries
+
+-- ticked: 1 for a token that is ticked, else 0; ticks: the count
+abbrev pub tickReadAs : TickRead → Reply
+tickReadAs Ticked = threeBy form.Three 0 0 1
+tickReadAs Unticked = threeBy form.Three 0 0 0
+tickReadAs (Unread r) = refusedAs form.Three r
+
+abbrev pub tickCountAs : TickCount → Reply
+tickCountAs (Ticks n) = threeBy form.Three 0 0 n
+tickCountAs (Uncounted r) = refusedAs form.Three r
 
 -- each fault has a form of its own; where there is no fault, and at the input's end, nothing is written
 abbrev pub faultForm : LineFault → Form

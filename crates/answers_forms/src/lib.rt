@@ -5,10 +5,13 @@ ghost use Rattle.lexer.specs.Told.{bitOf};
 ghost use Rattle.answers_forms.specs.Answers.{filledBy, answeredBy, threeBy, refusedAs, refusedWhole, faultAs, faultForm};
 ghost use Rattle.answers_forms.specs.Answers.{tokensAs, tokenLinesAs, tokenCountAs, decodedAs, decodedCountAs, checkedAs, faultedAs};
 ghost use Rattle.answers_forms.specs.Answers.{spanCheckedAs, startedAs, positionedAs, steppedAs, steppedLineAs, nextAs, nextLineAs};
-ghost use Rattle.answers_forms.specs.Answers.{hexAs, describedAs, wroteAs, wroteCountAs};
+ghost use Rattle.answers_forms.specs.Answers.{hexAs, describedAs, wroteAs, wroteCountAs, markedAs, tickReadAs, tickCountAs};
 use answers_asking::LineFault;
 use answers_spelling::Form;
 use answers_spelling::Reply;
+use built_review::Marking;
+use built_review::TickCount;
+use built_review::TickRead;
 use built_writing::Wrote;
 use decoder_rules::Decoded;
 use lexer::Cursor;
@@ -259,6 +262,35 @@ pub fn described(answer: Described, len: usize, count: usize, encoding: usize) -
     Reply {
         form: Form::Described,
         numbers,
+    }
+}
+
+// The two numbers of the answer, and the table of marks afterwards, which has so many entries.
+pub fn marked(marking: Marking, entries: usize) -> Reply
+    ensures { λ r. ⌜ r ≡ markedAs marking entries ⌝ }
+{
+    match marking {
+        Marking::Done => three(Form::Marked, 0, 0, entries),
+        Marking::Refused(why) => three(Form::Marked, why.number(), why.value(), entries),
+    }
+}
+
+pub fn tick_read(read: TickRead) -> Reply
+    ensures { λ r. ⌜ r ≡ tickReadAs read ⌝ }
+{
+    match read {
+        TickRead::Ticked => three(Form::Three, 0, 0, 1),
+        TickRead::Unticked => three(Form::Three, 0, 0, 0),
+        TickRead::Refused(why) => refused(Form::Three, why),
+    }
+}
+
+pub fn tick_count(count: TickCount) -> Reply
+    ensures { λ r. ⌜ r ≡ tickCountAs count ⌝ }
+{
+    match count {
+        TickCount::Ticks(n) => three(Form::Three, 0, 0, n),
+        TickCount::Refused(why) => refused(Form::Three, why),
     }
 }
 

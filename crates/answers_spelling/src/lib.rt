@@ -19,6 +19,7 @@ pub enum Form {
     Ended,
     NoStep,
     Described,
+    Marked,
     // why a line is no call
     TooLong,
     UnknownCall,
@@ -70,6 +71,8 @@ const NO_STEP: Text = *b"# # | - | -\n____________";
 
 const DESCRIBED: Text = *b"# # # $ #\n______________";
 
+const MARKED: Text = *b"# # | $\n________________";
+
 const TOO_LONG: Text = *b"? too long\n_____________";
 
 const UNKNOWN_CALL: Text = *b"? unknown call\n_________";
@@ -115,6 +118,7 @@ fn text_of(form: Form) -> Text {
         Form::Ended => ENDED,
         Form::NoStep => NO_STEP,
         Form::Described => DESCRIBED,
+        Form::Marked => MARKED,
         Form::TooLong => TOO_LONG,
         Form::UnknownCall => UNKNOWN_CALL,
         Form::WordCount => WORD_COUNT,

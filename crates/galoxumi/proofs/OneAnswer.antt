@@ -50,3 +50,16 @@ galoxumi-write-value κs a x y s t p q = both (p .0 ∙ sym (q .0)) (p .1 ∙ sy
 
 pub galoxumi-error-words : OneAnswer promised.galoxumi_error_words.Reads.Learnt
 galoxumi-error-words κs a x y s t p q = p ∙ sym q
+
+-- the answer, and what the table of marks holds
+pub galoxumi-tick : OneOutcome promised.galoxumi_tick.Reads.Learnt (λ κs r s. r and now (s .1 .0))
+galoxumi-tick κs a x y s t p q = both (p .0 ∙ sym (q .0)) (p .1 ∙ sym (q .1))
+
+pub galoxumi-untick : OneOutcome promised.galoxumi_untick.Reads.Learnt (λ κs r s. r and now (s .1 .0))
+galoxumi-untick κs a x y s t p q = both (p .0 ∙ sym (q .0)) (p .1 ∙ sym (q .1))
+
+pub galoxumi-is-ticked : OneAnswer promised.galoxumi_is_ticked.Reads.Learnt
+galoxumi-is-ticked κs a x y s t p q = p ∙ sym q
+
+pub galoxumi-ticks : OneAnswer promised.galoxumi_ticks.Reads.Learnt
+galoxumi-ticks κs a x y s t p q = p ∙ sym q

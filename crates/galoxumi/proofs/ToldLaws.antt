@@ -20,13 +20,20 @@ use Rattle.lexer_place.specs.declared.SpanCheck.{SpanCheck}
 use Rattle.lexer_place.specs.declared.SpanCheck.the-variants.{Whole, Refused as Misplaced}
 use Rattle.lexer_place.specs.declared.Position.{Position}
 use Rattle.lexer_place.specs.declared.Position.the-variants.{At as Placed, Refused as Unplaced}
+use Rattle.built_review.specs.Told.{markNumber, markValue, readNumber, readValue, countNumber, countValue}
+use Rattle.built_review.specs.declared.Marking.{Marking}
+use Rattle.built_review.specs.declared.Marking.the-variants.{Done, Refused as Unmarked}
+use Rattle.built_review.specs.declared.TickRead.{TickRead}
+use Rattle.built_review.specs.declared.TickRead.the-variants.{Ticked, Unticked, Refused as Unread}
+use Rattle.built_review.specs.declared.TickCount.{TickCount}
+use Rattle.built_review.specs.declared.TickCount.the-variants.{Ticks, Refused as Uncounted}
 use Rattle.decoder_rules.specs.Told.{decodedNumber, decodedValue, decodedErrors, decodedLength}
 use Rattle.decoder_rules.specs.declared.Decoded.{Decoded}
 use Rattle.decoder_rules.specs.declared.Decoded.the-variants.{Written, Refused as Undecoded}
 use Rattle.built_writing.specs.Told.{wroteNumber, wroteValue, wroteLength}
 use Rattle.built_writing.specs.declared.Wrote.{Wrote}
 use Rattle.built_writing.specs.declared.Wrote.the-variants.{Text, Refused as Unwritten}
-use Rattle.galoxumi.specs.Numbers.{checkNumbers, cursorNumbers, startNumbers, stepNumbers, lexNumbers, spanNumbers, positionNumbers, decodeNumbers, toldBy, writeNumbers}
+use Rattle.galoxumi.specs.Numbers.{checkNumbers, cursorNumbers, startNumbers, stepNumbers, lexNumbers, spanNumbers, positionNumbers, decodeNumbers, toldBy, writeNumbers, markNumbers, readNumbers, countNumbers}
 
 pub check-told : (r : Utf8Check) → checkNumbers r ≡ record { refusal = checkNumber r; value = checkValue r; length = checkLength r }
 check-told Valid = refl
@@ -71,3 +78,16 @@ write-told (Unwritten r) = refl
 pub kind-told : (a : Answer) → (toldBy a .refusal ≡ answerNumber a) × (toldBy a .value ≡ answerValue a)
 kind-told Told = (refl, refl)
 kind-told (Untold r) = (refl, refl)
+
+pub mark-told : (m : Marking) → (markNumbers m .refusal ≡ markNumber m) × (markNumbers m .value ≡ markValue m)
+mark-told Done = (refl, refl)
+mark-told (Unmarked r) = (refl, refl)
+
+pub read-told : (t : TickRead) → (readNumbers t .refusal ≡ readNumber t) × (readNumbers t .value ≡ readValue t)
+read-told Ticked = (refl, refl)
+read-told Unticked = (refl, refl)
+read-told (Unread r) = (refl, refl)
+
+pub count-told : (t : TickCount) → (countNumbers t .refusal ≡ countNumber t) × (countNumbers t .value ≡ countValue t)
+count-told (Ticks n) = (refl, refl)
+count-told (Uncounted r) = (refl, refl)

@@ -17,6 +17,7 @@ use Rattle.decoder_rules.specs.declared.{Decoded.Decoded, Decoded.the-variants.
 use Rattle.decoder_words.specs.declared.{Said.Said, Said.the-variants.Message, Said.the-variants.Literal, Said.the-variants.Description as Wanted, Said.the-variants.Nothing, Words.Words}
 use Rattle.built_writing.specs.{Writing.written, Writing.writeAnswer, Writing.writtenAfter}
 use Rattle.built_writing.specs.declared.{Wrote.Wrote, Wrote.the-variants.Text, Wrote.the-variants.Refused as Unwritten}
+use Rattle.built_review.specs.declared.{Marking.Marking, Marking.the-variants.Done, Marking.the-variants.Refused as Unmarked, TickRead.TickRead, TickRead.the-variants.Ticked, TickRead.the-variants.Unticked, TickRead.the-variants.Refused as Unread, TickCount.TickCount, TickCount.the-variants.Ticks, TickCount.the-variants.Refused as Uncounted}
 use Rattle.galoxumi.specs.declared.{AnswerNumbers.AnswerNumbers, CursorNumbers.CursorNumbers, StartNumbers.StartNumbers, StepNumbers.StepNumbers, PartNumbers.PartNumbers, PositionNumbers.PositionNumbers, DecodeNumbers.DecodeNumbers, DescribedNumbers.DescribedNumbers, EncodedNumbers.EncodedNumbers, WordsNumbers.WordsNumbers}
 
 -- a flag in an answer is 0 or 1 (`bitOf`); as an argument, anything but 0 means true
@@ -145,3 +146,17 @@ wordsNumbers w =
       length = w .len;
       bytes = w .bytes;
     }
+
+-- setting and clearing a tick; asking for one: the value is 1 for a token that is ticked; counting: the value is the count
+abbrev pub markNumbers : Marking → AnswerNumbers
+markNumbers Done = answerOf 0
+markNumbers (Unmarked r) = refusedBy r
+
+abbrev pub readNumbers : TickRead → AnswerNumbers
+readNumbers Ticked = answerOf 1
+readNumbers Unticked = answerOf 0
+readNumbers (Unread r) = refusedBy r
+
+abbrev pub countNumbers : TickCount → AnswerNumbers
+countNumbers (Ticks n) = answerOf n
+countNumbers (Uncounted r) = refusedBy r

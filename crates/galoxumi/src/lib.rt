@@ -13,11 +13,15 @@ ghost use Rattle.lexer.specs.Whole.{lexAnswer, lexMemory};
 ghost use Rattle.lexer_place.specs.Spans.{spanAnswer, spanText};
 ghost use Rattle.lexer_place.specs.Positions.{positionAnswer};
 ghost use Rattle.decoder_words.specs.Words.{errorWords};
+ghost use Rattle.built_review.specs.Review.{markAnswer, tickedMarks, untickedMarks, readAnswer, countAnswer};
 ghost use Rattle.built_writing.specs.Writing.{writeAnswer};
 ghost use Rattle.galoxumi.specs.Numbers.{flag, answerOf, refusedBy, toldBy, cursorNumbers, noToken, partFrom};
 ghost use Rattle.galoxumi.specs.Numbers.{checkNumbers, startNumbers, stepNumbers, lexNumbers, spanNumbers, partOf, partText};
 ghost use Rattle.galoxumi.specs.Numbers.{positionNumbers, decodeNumbers, decodeAnswer, outputAfter, errorsAfter, describedNumbers, encodedNumbers};
-ghost use Rattle.galoxumi.specs.Numbers.{saidNumber, wordsNumbers, writeNumbers, writtenBytes};
+ghost use Rattle.galoxumi.specs.Numbers.{saidNumber, wordsNumbers, writeNumbers, writtenBytes, markNumbers, readNumbers, countNumbers};
+use built_review::Marking;
+use built_review::TickCount;
+use built_review::TickRead;
 use built_writing::Wrote;
 use decoder_rules::Decoded;
 use decoder_words::Said;
@@ -315,6 +319,71 @@ pub extern "C" fn galoxumi_write_value(value: &[u8], output: &mut [u8]) -> Answe
     }
 }
 
+// Sets a reviewer's bit of a token in a table of marks.
+#[no_mangle]
+pub extern "C" fn galoxumi_tick(
+    records: &[[usize; 4]],
+    marks: &mut [u8],
+    reviewer: usize,
+    token: usize,
+) -> AnswerNumbers
+    ensures answer { λ r. ⌜ r
+        ≡ markNumbers (markAnswer (length (now (records .entry))) (length (now (marks .entry))) reviewer token) ⌝ }
+    ensures memory { λ _. ⌜ now (marks .exit)
+        ≡ tickedMarks (length (now (records .entry))) (now (marks .entry)) reviewer token ⌝ }
+{
+    mark_numbers(built_review::tick(records, marks, reviewer, token))
+}
+
+// Clears it.
+#[no_mangle]
+pub extern "C" fn galoxumi_untick(
+    records: &[[usize; 4]],
+    marks: &mut [u8],
+    reviewer: usize,
+    token: usize,
+) -> AnswerNumbers
+    ensures answer { λ r. ⌜ r
+        ≡ markNumbers (markAnswer (length (now (records .entry))) (length (now (marks .entry))) reviewer token) ⌝ }
+    ensures memory { λ _. ⌜ now (marks .exit)
+        ≡ untickedMarks (length (now (records .entry))) (now (marks .entry)) reviewer token ⌝ }
+{
+    mark_numbers(built_review::untick(records, marks, reviewer, token))
+}
+
+// `value` is 1 where it is set.
+#[no_mangle]
+pub extern "C" fn galoxumi_is_ticked(
+    records: &[[usize; 4]],
+    marks: &[u8],
+    reviewer: usize,
+    token: usize,
+) -> AnswerNumbers
+    ensures { λ r. ⌜ r
+        ≡ readNumbers (readAnswer (length (now (records .entry))) (now (marks .entry)) reviewer token) ⌝ }
+{
+    match built_review::is_ticked(records, marks, reviewer, token) {
+        TickRead::Ticked => answer_of(1),
+        TickRead::Unticked => answer_of(0),
+        TickRead::Refused(r) => refused(r),
+    }
+}
+
+// `value` is how many of the reviewer's bits are set over the records.
+#[no_mangle]
+pub extern "C" fn galoxumi_ticks(
+    records: &[[usize; 4]],
+    marks: &[u8],
+    reviewer: usize,
+) -> AnswerNumbers
+    ensures { λ r. ⌜ r ≡ countNumbers (countAnswer (length (now (records .entry))) (now (marks .entry)) reviewer) ⌝ }
+{
+    match built_review::ticks(records, marks, reviewer) {
+        TickCount::Ticks(n) => answer_of(n),
+        TickCount::Refused(r) => refused(r),
+    }
+}
+
 fn answer_of(value: usize) -> AnswerNumbers
     ensures { λ r. ⌜ r ≡ answerOf value ⌝ }
 {
@@ -347,6 +416,15 @@ fn decode_numbers(d: Decoded) -> DecodeNumbers
             answer: refused(r),
             errors: 0,
         },
+    }
+}
+
+fn mark_numbers(marking: Marking) -> AnswerNumbers
+    ensures { λ r. ⌜ r ≡ markNumbers marking ⌝ }
+{
+    match marking {
+        Marking::Done => answer_of(0),
+        Marking::Refused(r) => refused(r),
     }
 }
 

@@ -16,7 +16,7 @@ use Rattle.text.specs.Lead.{faultLen}
 use Rattle.text.specs.CheckMeans.{checkOf}
 use Rattle.text.specs.Told.{checkNumber, checkValue, checkLength, checkRefusal, checkReturned, checkFault}
 use Rattle.text.specs.CheckMeans.{Longest, CheckMeans}
-use Rattle.text.specs.declared.refusal.Refusal.the-variants.{NotUtf8, TooLong, FewTokens, ShortOutput, FewErrors, OutOfPlace, NoKind, NoEdition}
+use Rattle.text.specs.declared.refusal.Refusal.the-variants.{NotUtf8, TooLong, FewTokens, ShortOutput, FewErrors, OutOfPlace, NoKind, NoEdition, NoReviewer, FewMarks}
 use Rattle.text.specs.declared.utf8.Utf8Check.{Utf8Check}
 use Rattle.text.specs.declared.utf8.Utf8Check.the-variants.{Valid, Refused}
 use Rattle.text_classes.proofs.Conds.{by-lt, cond-case, of-choice}
@@ -87,6 +87,8 @@ means-answer s (Refused (FewErrors n)) m = absurd m
 means-answer s (Refused (OutOfPlace n)) m = absurd m
 means-answer s (Refused (NoKind n)) m = absurd m
 means-answer s (Refused (NoEdition n)) m = absurd m
+means-answer s (Refused (NoReviewer n)) m = absurd m
+means-answer s (Refused (FewMarks n)) m = absurd m
 
 answer-means : (s : List ℕ) → CheckMeans s (checkOf s)
 unfolding checkOf

@@ -16,7 +16,7 @@ use Rattle.text.specs.CheckMeans.{Begins, faulty}
 use Rattle.text.specs.CheckMeans.{checkOf}
 use Rattle.text.specs.CheckMeans.{Longest}
 use Rattle.text.specs.LengthTells.{Mendable, LengthTells, LengthElse}
-use Rattle.text.specs.declared.refusal.Refusal.the-variants.{NotUtf8, TooLong, FewTokens, ShortOutput, FewErrors, OutOfPlace, NoKind, NoEdition}
+use Rattle.text.specs.declared.refusal.Refusal.the-variants.{NotUtf8, TooLong, FewTokens, ShortOutput, FewErrors, OutOfPlace, NoKind, NoEdition, NoReviewer, FewMarks}
 use Rattle.text.specs.declared.utf8.Utf8Check.the-variants.{Refused}
 use Rattle.text_classes.proofs.Conds.{by-eq}
 use Rattle.text.proofs.EncodeLaws.{encode-length}
@@ -134,3 +134,5 @@ length-else (FewErrors n) h = refl
 length-else (OutOfPlace n) h = refl
 length-else (NoKind n) h = refl
 length-else (NoEdition n) h = refl
+length-else (NoReviewer n) h = refl
+length-else (FewMarks n) h = refl

@@ -5,7 +5,7 @@ use Prim.Native.Nat.{ℕ, _-_, _≤_, _<_}
 use mathlib.Core.{Path._≡_, Bool.cond, List.List, List.[], List._++_}
 use lib.{ListN.length, ListN.take, ListN.drop, ListN.replicate, Dec.ltb, Dec.eqb}
 use Rattle.text.specs.{Refusals.limit, Utf8.Scalar, Utf8.encodeScalar, Utf8.Utf8, Utf8Read.isScalar, Utf8Read.validPrefix, Lead.faultLen}
-use Rattle.text.specs.declared.refusal.Refusal.the-variants.{NotUtf8, TooLong, FewTokens, ShortOutput, FewErrors, OutOfPlace, NoKind, NoEdition}
+use Rattle.text.specs.declared.refusal.Refusal.the-variants.{NotUtf8, TooLong, FewTokens, ShortOutput, FewErrors, OutOfPlace, NoKind, NoEdition, NoReviewer, FewMarks}
 use Rattle.text.specs.declared.{utf8.Encoded.Encoded, utf8.Utf8Check.Utf8Check, utf8.Utf8Check.the-variants.Valid, utf8.Utf8Check.the-variants.Refused}
 
 -- the UTF-8 check: refusal 2 before 1, and with 1 the lengths of the longest valid prefix and of the faulty sequence
@@ -59,3 +59,5 @@ CheckMeans s (Refused (FewErrors n)) = ⊥
 CheckMeans s (Refused (OutOfPlace n)) = ⊥
 CheckMeans s (Refused (NoKind n)) = ⊥
 CheckMeans s (Refused (NoEdition n)) = ⊥
+CheckMeans s (Refused (NoReviewer n)) = ⊥
+CheckMeans s (Refused (FewMarks n)) = ⊥

@@ -1,7 +1,7 @@
 -- RULE. The refusals and the numbers that go with them, in the order of their table.
 use Prim.Native.Nat.{ℕ}
 use Rattle.text.specs.declared.{refusal.Refusal.Refusal}
-use Rattle.text.specs.declared.refusal.Refusal.the-variants.{NotUtf8, TooLong, FewTokens, ShortOutput, FewErrors, OutOfPlace, NoKind, NoEdition}
+use Rattle.text.specs.declared.refusal.Refusal.the-variants.{NotUtf8, TooLong, FewTokens, ShortOutput, FewErrors, OutOfPlace, NoKind, NoEdition, NoReviewer, FewMarks}
 
 -- the most bytes that a document or a text may have
 abbrev pub limit : ℕ
@@ -17,6 +17,8 @@ refusalNumber (FewErrors needed) = 5
 refusalNumber (OutOfPlace length) = 6
 refusalNumber (NoKind number) = 7
 refusalNumber (NoEdition number) = 9
+refusalNumber (NoReviewer number) = 11
+refusalNumber (FewMarks needed) = 12
 
 -- the number returned with it
 abbrev pub refusalValue : Refusal → ℕ
@@ -28,6 +30,8 @@ refusalValue (FewErrors needed) = needed
 refusalValue (OutOfPlace length) = length
 refusalValue (NoKind number) = number
 refusalValue (NoEdition number) = number
+refusalValue (NoReviewer number) = number
+refusalValue (FewMarks needed) = needed
 
 -- the second number, which only 1 returns: the length of the faulty sequence
 abbrev pub refusalLength : Refusal → ℕ
@@ -39,3 +43,5 @@ refusalLength (FewErrors needed) = 0
 refusalLength (OutOfPlace length) = 0
 refusalLength (NoKind number) = 0
 refusalLength (NoEdition number) = 0
+refusalLength (NoReviewer number) = 0
+refusalLength (FewMarks needed) = 0

@@ -20,12 +20,17 @@ pub enum Refusal {
     ShortOutput { needed: usize },
     // 5: fewer error records than errors; the errors
     FewErrors { needed: usize },
-    // 6: a place outside the document or inside a character; the document's length
+    // 6: a place outside the document or inside a character; the document's length. Also a token
+    // number that is not below the number of token records; the number of records
     OutOfPlace { length: usize },
     // 7: a number that is no kind; that number
     NoKind { number: usize },
     // 9: a number that is no edition of TOML; that number
     NoEdition { number: usize },
+    // 11: a number that is no reviewer; that number
+    NoReviewer { number: usize },
+    // 12: fewer marks than token records; the records
+    FewMarks { needed: usize },
 }
 
 impl Refusal {
@@ -45,6 +50,8 @@ impl Refusal {
             Refusal::OutOfPlace { length: _ } => 6,
             Refusal::NoKind { number: _ } => 7,
             Refusal::NoEdition { number: _ } => 9,
+            Refusal::NoReviewer { number: _ } => 11,
+            Refusal::FewMarks { needed: _ } => 12,
         }
     }
 
@@ -61,6 +68,8 @@ impl Refusal {
             Refusal::OutOfPlace { length } => length,
             Refusal::NoKind { number } => number,
             Refusal::NoEdition { number } => number,
+            Refusal::NoReviewer { number } => number,
+            Refusal::FewMarks { needed } => needed,
         }
     }
 
@@ -77,6 +86,8 @@ impl Refusal {
             Refusal::OutOfPlace { length: _ } => 0,
             Refusal::NoKind { number: _ } => 0,
             Refusal::NoEdition { number: _ } => 0,
+            Refusal::NoReviewer { number: _ } => 0,
+            Refusal::FewMarks { needed: _ } => 0,
         }
     }
 }

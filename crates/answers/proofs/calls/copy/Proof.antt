@@ -1,15 +1,16 @@
--- `calls::copy` is safe and ends: it copies a byte each turn, as far as both reach.
+-- `calls::copy` is right because it copies a byte each turn, as far as both reach.
 -- Assumes nothing.
 use Prim.Native.Nat.{_-_, _≤_}
 use mathlib.Core.Path.{_≡_}
 use native.Mathlib.Omega.{arith}
 use lib.ListN.{length, length-set}
 use borrow.Author.Needs.{needs}
+use borrow.Author.Tests.{ltb-true}
 use Rattle.answers.proofs.calls.copy.Statement.{statement}
 use Rattle.answers.proofs.calls.copy.Tie as tie
 
 abbrev Inv-loop : tie.InvT-loop
-Inv-loop part bytes₀ i₀ bytes i = (i ≤ length part) × (length bytes ≡ length bytes₀)
+Inv-loop part bytes₀ i₀ bytes i = (i ≤ length part) × (i ≤ length bytes₀) × (length bytes ≡ length bytes₀)
 
 abbrev μ-loop : tie.MeasureT-loop
 μ-loop part bytes₀ i₀ bytes i = length part - i
@@ -30,7 +31,7 @@ loop-less : tie.Need-loop-less Inv-loop μ-loop
 loop-less c = search needs
 
 loop-again : tie.Need-loop-again Inv-loop μ-loop
-loop-again c = (omega arith, simp length-set (search needs))
+loop-again c = (omega arith, omega (arith, ltb-true), simp length-set (search needs))
 
 same-length : tie.Need-same-length Inv-loop μ-loop
 same-length c = search needs

@@ -1,0 +1,9 @@
+pub mod BitLaws
+pub mod TableLaws
+pub mod NumberLaws
+pub mod CountLaws
+pub mod StepLaws
+pub mod ApartLaws
+pub mod FollowLaws
+pub mod CallLaws
+pub mod OneAnswer

@@ -1,0 +1,3 @@
+pub mod Review
+pub mod Told
+pub mod Apart
