@@ -330,6 +330,9 @@ def wrong_lines():
         b'lex 6', b'lex 616', b'lex 6A', b'lex 6g', b'lex g6', b'lex --', b'lex 61-', b'lex 61\r', b'lex \xc3\xa9', b'lex 0x61',
         b'step 0 2 -', b'step 0 18446744073709551615 -', b'step 9 2 6', b'step 00 01 -',
         b'lexcap 65539 -', b'lexcap 65540 -', b'lexcap 18446744073709551615 -', b'lexcap 65540 6',
+        b'write', b'write - -', b'write 0 -', b'writes -', b'writecap -', b'writecap x -', b'writecap 393220 zz', b'writecap 393220 -',
+        b'tick 0 0 -', b'tick 0 0 1', b'tick x 0 0 -', b'ticking 0 0 0 -', b'tick 0 0 65539 -', b'tick 0 0 65540 -', b'untick 0 0 65540 -',
+        b'ticked 0 0 65540 -', b'ticked 0 0 0 6', b'ticks 0 -', b'ticks 0 65540 -', b'ticks 18446744073709551616 0 -',
         b'deccap 39 98305 65539 -', b'deccap 39 98306 0 -', b'deccap 39 0 65540 -', b'deccap 5 98306 65540 ff',
         over, over + b'0', b'lex 6', b'lex ' + over, b'desc 4')
 
