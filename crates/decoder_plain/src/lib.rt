@@ -1,4 +1,4 @@
-// The common text: a string on a line, its marks there, and between them characters that stand for
+// The common text: a string on one line with both its marks, and between them characters that stand for
 // themselves. It decodes to its body, so that nothing has to be checked or counted first. Law:
 // `plain-decodes` in PlainLaws.antt of crate `decoder_rules`. Printable ASCII is asked for, and the body
 // copied, eight or four bytes at a time; the last such part reaches back over bytes that were met

@@ -123,7 +123,7 @@ tokens-cons at line (b ∷ s) h =
 abbrev pub endAt : List ℕ → ℕ → ℕ
 endAt doc at = at + tokenLen (drop at doc)
 
--- the tokens from a place on, there on a line
+-- the tokens from the place `at` on, whose first byte is on `line`
 abbrev pub tokensOn : List ℕ → ℕ → ℕ → List Token
 tokensOn doc at line = tokensFrom at line (drop at doc)
 

@@ -36,7 +36,7 @@ unfoldable pub before : ℕ → List Token → List Token
 before stop [] = []
 before stop (t ∷ ts) = cond (ltb (t .span .start) stop) (t ∷ before stop ts) []
 
--- the tokens of the document from `at` on, there on a line, that begin before a place
+-- the tokens of the document from the place `at` on, whose line is `line`, that begin before the place `stop`
 abbrev pub tokensUntil : ℕ → ℕ → ℕ → List ℕ → List Token
 tokensUntil stop at line doc = before stop (tokensFrom at line (drop at doc))
 

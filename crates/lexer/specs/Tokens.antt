@@ -7,11 +7,11 @@ use Rattle.lexer_token.specs.declared.{TokenKind.TokenKind, TokenKind.the-varia
 use Rattle.lexer_token.specs.{Records.tokenOf}
 use Rattle.lexer.specs.{Lines.lineFeeds, Lines.lineBehind, Table.kindOf, Table.extent, Table.tokenLen}
 
--- a token of a kind, on the bytes s that stand from `at` on, the first of them on a line
+-- a token of the kind k, over the bytes s, which stand from the place `at` on; `line` is the line of its first byte
 abbrev pub tokenBy : TokenKind → ℕ → ℕ → List ℕ → Token
 tokenBy k at line s = tokenOf k at (at + extent k s) line
 
--- the token of the bytes s, which stand from `at` on, the first of them on a line; at no bytes it is Eof
+-- the token at the front of the bytes s, with `at` and `line` as above; where there are no bytes it is Eof
 abbrev pub tokenAt : ℕ → ℕ → List ℕ → Token
 tokenAt at line s = tokenOf (kindOf s) at (at + tokenLen s) line
 
@@ -30,7 +30,7 @@ walk at line skip [] = eofAt at line ∷ []
 walk at line zero (b ∷ s) = tokenAt at line (b ∷ s) ∷ walk (at + 1) (lineBehind line b) (pred (tokenLen (b ∷ s))) s
 walk at line (suc k) (b ∷ s) = walk (at + 1) (lineBehind line b) k s
 
--- the tokens of the bytes s that stand from `at` on, the first of them on a line
+-- the tokens of the bytes s, with `at` and `line` as above
 unfoldable pub tokensFrom : ℕ → ℕ → List ℕ → List Token
 tokensFrom at line s = walk at line 0 s
 
