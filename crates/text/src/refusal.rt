@@ -16,14 +16,14 @@ pub enum Refusal {
     TooLong,
     // 3: fewer token records than tokens; the tokens, `Eof` counted
     FewTokens { needed: usize },
-    // 4: an output shorter than the decoded bytes; the bytes
+    // 4: an output shorter than what is to be written there; its bytes
     ShortOutput { needed: usize },
     // 5: fewer error records than errors; the errors
     FewErrors { needed: usize },
     // 6: a place outside the document or inside a character; the document's length. Also a token
     // number that is not below the number of token records; the number of records
     OutOfPlace { length: usize },
-    // 7: a number that is no kind; that number
+    // 7: a number that is no kind that the call knows, or of no error; that number
     NoKind { number: usize },
     // 9: a number that is no edition of TOML; that number
     NoEdition { number: usize },
