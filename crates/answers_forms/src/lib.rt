@@ -22,8 +22,8 @@ use lexer_place::Position;
 use lexer_place::SpanCheck;
 use lexer_token::Answer as Described;
 use lexer_token::Token;
-use text::Refusal;
 use text::Utf8Check;
+use text_refusals::Refusal;
 
 // A reply with two numbers, and zeros after them.
 fn filled(form: Form, a: usize, b: usize) -> Reply

@@ -6,7 +6,7 @@ use mathlib.Core.Bool.{Bool, true, false, cond}
 use mathlib.Core.List.{List}
 use lib.ListN.{length, drop}
 use lib.Dec.{ltb, leb}
-use Rattle.text.specs.declared.refusal.Refusal.the-variants.{OutOfPlace, NoReviewer, FewMarks}
+use Rattle.text_refusals.specs.declared.Refusal.the-variants.{OutOfPlace, NoReviewer, FewMarks}
 use Rattle.text_classes.specs.Runs.{firstIs}
 use Rattle.text_classes.proofs.Conds.{of-choice}
 use Rattle.built_review.specs.Review.{isSet, markAnswer, readBy, readAnswer, countAnswer}

@@ -10,7 +10,7 @@ use lib.ListN.{length, take, drop}
 use lib.Dec.{ltb, eqb}
 use Rattle.text_classes.specs.Runs.{firstIs}
 use Rattle.text_classes.proofs.FirstLaws.{first-take}
-use Rattle.text.specs.declared.refusal.Refusal.the-variants.{NoReviewer, FewMarks}
+use Rattle.text_refusals.specs.declared.Refusal.the-variants.{NoReviewer, FewMarks}
 use Rattle.built_review.specs.Review.{bit, isSet, putBit, changed, ticksIn, markAnswer, marksBy, marksWith, tickedMarks, untickedMarks, readBy, readAnswer, countAnswer}
 use Rattle.built_review.specs.Apart.{ReviewCall, tick, untick, isTicked, ticks, caller, marked, read, counted, tells, leaves, ownBits, Alike}
 use Rattle.built_review.specs.declared.Marking.{Marking}

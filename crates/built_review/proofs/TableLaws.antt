@@ -8,7 +8,7 @@ use native.Mathlib.Omega.{arith}
 use borrow.Author.Tests.{leb-false}
 use lib.ListN.{length, getD, set, take, drop}
 use lib.Dec.{leb, eqb}
-use Rattle.text.specs.declared.refusal.Refusal.{Refusal}
+use Rattle.text_refusals.specs.declared.Refusal.{Refusal}
 use Rattle.text_classes.proofs.FirstLaws.{first-there}
 use Rattle.text_classes.proofs.Conds.{cond-case, by-lt}
 use Rattle.built_review.specs.Review.{bit, isSet, putBit, changed, markAnswer, marksBy, marksWith, readBy, readAnswer}

@@ -4,7 +4,7 @@ use Prim.Native.Nat.{ℕ, zero, suc, _+_, _-_, _*_, _/_, _%_, _^_}
 use mathlib.Core.{Bool.Bool, Bool.cond, List.List, List.[], List._∷_}
 use lib.{ListN.length, ListN.take, ListN.drop, Dec.ltb, Dec.leb, Dec.eqb}
 use Rattle.text_classes.specs.{Runs.firstIs}
-use Rattle.text.specs.declared.{refusal.Refusal.the-variants.OutOfPlace, refusal.Refusal.the-variants.NoReviewer, refusal.Refusal.the-variants.FewMarks}
+use Rattle.text_refusals.specs.declared.{Refusal.the-variants.OutOfPlace, Refusal.the-variants.NoReviewer, Refusal.the-variants.FewMarks}
 use Rattle.built_review.specs.declared.{Marking.Marking, Marking.the-variants.Done, Marking.the-variants.Refused, TickRead.TickRead, TickRead.the-variants.Ticked, TickRead.the-variants.Unticked, TickRead.the-variants.Refused as Unread, TickCount.TickCount, TickCount.the-variants.Ticks, TickCount.the-variants.Refused as Uncounted}
 
 -- bit k of a byte, 0 or 1, and whether it is set

@@ -6,7 +6,7 @@ use Prim.Native.Nat.{ℕ}
 use mathlib.Core.{Bool.cond, List.List}
 use lib.{ListN.length, ListN.take, ListN.drop, Dec.ltb, Dec.leb}
 use Rattle.text_classes.specs.{Runs.firstIs}
-use Rattle.text.specs.{Refusals.refusalNumber, Refusals.refusalValue}
+use Rattle.text_refusals.specs.{Refusals.refusalNumber, Refusals.refusalValue}
 use Rattle.built_review.specs.{Review.isSet, Review.ticksIn}
 use Rattle.built_review.specs.declared.{Marking.Marking, Marking.the-variants.Done, Marking.the-variants.Refused, TickRead.TickRead, TickRead.the-variants.Ticked, TickRead.the-variants.Unticked, TickRead.the-variants.Refused as Unread, TickCount.TickCount, TickCount.the-variants.Ticks, TickCount.the-variants.Refused as Uncounted}
 

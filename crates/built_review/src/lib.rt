@@ -8,7 +8,7 @@ ghost use lib.ListN.{length, take, drop};
 ghost use Rattle.built_review.specs.Review.{markAnswer, marksWith, tickedMarks, untickedMarks, readAnswer, ticksIn, countAnswer};
 ghost use Rattle.built_review.specs.Told.{markNumber, markValue, markRefusal, markReturned, readNumber, readValue, readReturned, countNumber, countValue, countRefusal, countReturned};
 use lexer_token::Record;
-use text::Refusal;
+use text_refusals::Refusal;
 
 // What setting and clearing a tick answer.
 pub enum Marking {

@@ -9,8 +9,8 @@ use lib.ListN.{length, set, length-append}
 use Rattle.text_classes.specs.Classes.{literalChar}
 use Rattle.text_classes.specs.Runs.{run}
 use Rattle.text.specs.CheckMeans.{checkOf}
-use Rattle.text.specs.declared.refusal.Refusal.{Refusal}
-use Rattle.text.specs.declared.refusal.Refusal.the-variants.{ShortOutput}
+use Rattle.text_refusals.specs.declared.Refusal.{Refusal}
+use Rattle.text_refusals.specs.declared.Refusal.the-variants.{ShortOutput}
 use Rattle.text.specs.declared.utf8.Utf8Check.the-variants.{Valid, Refused as NotValid}
 use Rattle.decoder_rules.proofs.StoreLaws.{Stored, sets-append, front-long, overwritten}
 use Rattle.built_writing.specs.declared.Wrote.the-variants.{Text, Refused}

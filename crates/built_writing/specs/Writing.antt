@@ -6,7 +6,8 @@ use mathlib.Core.{Bool.cond, List.List, List.[], List._∷_, List._++_}
 use lib.{Dec.ltb, Dec.eqb, ListN.length, ListN.drop}
 use Rattle.text_classes.specs.{Classes.literalChar, Classes.basicUnescaped, Runs.run}
 use Rattle.text.specs.{CheckMeans.checkOf}
-use Rattle.text.specs.declared.{refusal.Refusal.the-variants.ShortOutput, utf8.Utf8Check.Utf8Check, utf8.Utf8Check.the-variants.Valid, utf8.Utf8Check.the-variants.Refused as NotValid}
+use Rattle.text_refusals.specs.declared.{Refusal.the-variants.ShortOutput}
+use Rattle.text.specs.declared.{utf8.Utf8Check.Utf8Check, utf8.Utf8Check.the-variants.Valid, utf8.Utf8Check.the-variants.Refused as NotValid}
 use Rattle.built_writing.specs.declared.{spell.Spelling.Spelling, spell.Spelling.the-variants.Short, spell.Spelling.the-variants.Coded, Wrote.Wrote, Wrote.the-variants.Text, Wrote.the-variants.Refused}
 
 -- ---- bytes that do not stand for themselves in a basic string

@@ -3,7 +3,7 @@
 ghost use mathlib.Core.Path.{_≡_};
 ghost use Prim.Native.Nat.{_≤_};
 ghost use lib.ListN.{length};
-ghost use Rattle.text.specs.Refusals.{limit};
+ghost use Rattle.text_refusals.specs.Refusals.{limit};
 ghost use Rattle.text.specs.Told.{checkFault};
 ghost use Rattle.built_writing.specs.Writing.{literalText, basicText, written, writeAnswer, writtenAfter};
 ghost use Rattle.built_writing.specs.Told.{wroteNumber, wroteValue, wroteLength, writeRefusal, writeReturned};
@@ -17,9 +17,9 @@ use crate::spell::count;
 use crate::spell::put_body;
 use decoder_pieces::plain_run;
 use decoder_rules::Encoding;
-use text::Refusal;
 use text::Utf8Check;
 use text::check_utf8;
+use text_refusals::Refusal;
 
 // What `write_value` answers: how many bytes the text has that was written, or why nothing was.
 pub enum Wrote {

@@ -5,7 +5,7 @@ ghost use Prim.Native.Nat.{_+_, _*_, _<_, _≤_};
 ghost use lib.ListN.{length, take};
 ghost use Rattle.text_classes.specs.Classes.{basicUnescaped};
 ghost use Rattle.text_classes.specs.Runs.{run};
-ghost use Rattle.text.specs.Refusals.{limit};
+ghost use Rattle.text_refusals.specs.Refusals.{limit};
 ghost use Rattle.decoder_rules.proofs.StoreLaws.{Stored};
 ghost use Rattle.built_writing.specs.Writing.{hexDigit, spellingOf, spelling, escapeOf, spelt};
 ghost use Rattle.built_writing.specs.declared.spell.Spelling.the-variants.{Short, Coded};

@@ -10,11 +10,11 @@ use lib.ListN.{length, take, drop, getD, set, replicate, length-append, length-t
 use lib.Seq.{sets, length-take-le, take-all, take-append-seam}
 use Rattle.text_classes.specs.Runs.{run}
 use Rattle.text_classes.proofs.RunLaws.{run-le}
-use Rattle.text.specs.declared.utf8.Encoded.{Encoded}
-use Rattle.text.specs.Refusals.{limit}
-use Rattle.text.specs.Utf8.{Scalar, encodeScalar}
-use Rattle.text.specs.CheckMeans.{padded, encodedOf}
-use Rattle.text.proofs.EncodeLaws.{scalar-true, encode-length}
+use Rattle.text_scalars.specs.declared.Encoded.{Encoded}
+use Rattle.text_refusals.specs.Refusals.{limit}
+use Rattle.text_scalars.specs.Utf8.{Scalar, encodeScalar}
+use Rattle.text_scalars.specs.Encode.{padded, encodedOf}
+use Rattle.text_scalars.proofs.EncodeLaws.{scalar-true, encode-length}
 use Rattle.decoder_rules.specs.declared.Encoding.{Encoding}
 use Rattle.decoder_rules.specs.declared.Encoding.the-variants.{UnquotedKey}
 use Rattle.decoder_rules.specs.Encodings.{plain}

@@ -4,7 +4,7 @@ ghost use mathlib.Core.Path.{_≡_};
 ghost use mathlib.Core.Bool.{true};
 ghost use Prim.Native.Nat.{_+_, _/_, _≤_};
 ghost use lib.ListN.{length};
-ghost use Rattle.text.specs.Refusals.{limit};
+ghost use Rattle.text_refusals.specs.Refusals.{limit};
 ghost use Rattle.text.specs.Told.{checkFault};
 ghost use Rattle.text.specs.declared.utf8.Utf8Check.the-variants.{Valid};
 ghost use Rattle.decoder_rules.specs.Encodings.{choiceBy};
@@ -35,10 +35,10 @@ pub use decoder_rules::Decoded;
 use decoder_rules::Edition;
 use decoder_rules::Encoding;
 use lexer_token::TokenKind;
-use text::LIMIT;
-use text::Refusal;
 use text::Utf8Check;
 use text::check_utf8;
+use text_refusals::LIMIT;
+use text_refusals::Refusal;
 
 // Decodes a text of the kind that the number says: 39 literal, 34 basic, 1 ml-literal, 2 ml-basic,
 // 3 a key. The bytes go to the front of the output; the errors, as number, start and end, to the

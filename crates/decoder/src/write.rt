@@ -5,8 +5,8 @@ ghost use mathlib.Core.Path.{_≡_};
 ghost use mathlib.Core.List.{List};
 ghost use Prim.Native.Nat.{ℕ, _+_, _<_, _≤_, _^_};
 ghost use lib.ListN.{length, take};
-ghost use Rattle.text.specs.Refusals.{limit};
-ghost use Rattle.text.specs.Utf8.{Scalar, encodeScalar};
+ghost use Rattle.text_refusals.specs.Refusals.{limit};
+ghost use Rattle.text_scalars.specs.Utf8.{Scalar, encodeScalar};
 ghost use Rattle.decoder_rules.specs.Pieces.{gives, errorAt, notesOf, copyPiece};
 ghost use Rattle.decoder_rules.proofs.Fine.{Encodable, FineAt};
 ghost use Rattle.decoder_rules.proofs.StoreLaws.{Stored};
@@ -21,7 +21,7 @@ use decoder_rules::Encoding;
 use decoder_rules::Given;
 use decoder_rules::Piece;
 use decoder_rules::Verdict;
-use text::encode;
+use text_scalars::encode;
 
 // How many bytes, and how many errors.
 pub(crate) struct Counts {

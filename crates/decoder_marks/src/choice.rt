@@ -5,7 +5,7 @@ use decoder_rules::Choice;
 use decoder_rules::Edition;
 use decoder_rules::Encoding;
 use lexer_token::TokenKind;
-use text::Refusal;
+use text_refusals::Refusal;
 
 // Which encoding the two numbers ask for. A kind is asked for before an edition.
 pub fn choice_by(edition: usize, kind: usize) -> Choice

@@ -15,7 +15,7 @@ use Rattle.text_classes.specs.Classes.{wschar, basicUnescaped, mlbUnescaped, he
 use Rattle.text_classes.specs.Runs.{run}
 use Rattle.text_classes.proofs.Conds.{cond-case, by-eq, both-left, both-right}
 use Rattle.text_classes.proofs.RunLaws.{run-le, run-first}
-use Rattle.text.specs.Utf8Read.{isScalar}
+use Rattle.text_scalars.specs.Utf8Read.{isScalar}
 use Rattle.decoder_rules.specs.declared.Edition.{Edition}
 use Rattle.decoder_rules.specs.declared.Letter.{Letter}
 use Rattle.decoder_rules.specs.declared.Letter.the-variants.{Stands, Asks, Neither}

@@ -8,7 +8,7 @@ use lib.Dec.{eqb, leb}
 use lib.ListN.{take, drop, getD}
 use Rattle.text_classes.specs.Classes.{hexdig}
 use Rattle.text_classes.specs.Runs.{run}
-use Rattle.text.specs.Utf8Read.{isScalar}
+use Rattle.text_scalars.specs.Utf8Read.{isScalar}
 use Rattle.decoder_rules.specs.declared.Edition.{Edition}
 use Rattle.decoder_rules.specs.declared.Letter.{Letter}
 use Rattle.decoder_rules.specs.declared.Letter.the-variants.{Stands, Asks, Neither}

@@ -32,9 +32,9 @@ use decoder_rules::Encoding;
 use decoder_rules::Letter;
 use decoder_rules::Piece;
 use std::num::wrapping_sub_u8;
-use text::is_scalar;
 use text_classes::ESCAPE;
 use text_classes::is_wschar;
+use text_scalars::is_scalar;
 
 // literal-string = apostrophe *literal-char apostrophe
 pub(crate) fn decode_literal_string(s: &[u8], at: usize) -> Piece

@@ -17,11 +17,11 @@ use decoder_rules::Encoding;
 use lexer_token::TokenKind;
 use std::num::wrapping_add_u8;
 use std::num::wrapping_sub_u8;
-use text::LIMIT;
 use text::wide_at;
 use text_classes::APOSTROPHE;
 use text_classes::ESCAPE;
 use text_classes::QUOTATION_MARK;
+use text_refusals::LIMIT;
 
 // Copies the body of such a text to the front of the output, and says how many bytes that is. Of any
 // other text, and where there is no room, nothing is copied, and all its bytes are counted.

@@ -9,7 +9,7 @@ use lib.Dec.{ltb}
 use lib.ListN.{length}
 use borrow.Author.Tests.{ltb-false}
 use Rattle.text.specs.CheckMeans.{checkOf}
-use Rattle.text.specs.declared.refusal.Refusal.the-variants.{ShortOutput, FewErrors}
+use Rattle.text_refusals.specs.declared.Refusal.the-variants.{ShortOutput, FewErrors}
 use Rattle.text.specs.declared.utf8.Utf8Check.{Utf8Check}
 use Rattle.text.specs.declared.utf8.Utf8Check.the-variants.{Valid, Refused as NotValid}
 use Rattle.text.proofs.AnswerLaws.{checked}

@@ -14,9 +14,9 @@ use borrow.Author.Tests.{eqb-true, leb-true, le-leb}
 use Rattle.text_classes.specs.Classes.{among, wschar, literalChar, basicUnescaped, mlbUnescaped, hexdig, unquotedChar}
 use Rattle.text_classes.specs.Runs.{run}
 use Rattle.text_classes.proofs.Conds.{not-both, both-right, or-left, or-right, or-inv}
-use Rattle.text.specs.Utf8.{Scalar, encodeScalar, Utf8}
-use Rattle.text.proofs.ReadLaws.{valid-append, utf8-iff}
-use Rattle.text.proofs.CutLaws.{one-utf8, utf8-append, cut-at}
+use Rattle.text_scalars.specs.Utf8.{Scalar, encodeScalar, Utf8}
+use Rattle.text_scalars.proofs.ReadLaws.{valid-append, utf8-iff}
+use Rattle.text_scalars.proofs.CutLaws.{one-utf8, utf8-append, cut-at}
 use Rattle.decoder_rules.specs.Encodings.{mlbPlain, basicInvalid, mlbInvalid}
 use Rattle.decoder_rules.specs.Bodies.{skips}
 

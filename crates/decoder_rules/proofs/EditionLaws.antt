@@ -11,9 +11,9 @@ use lib.Dec.{eqb}
 use lib.ListN.{length, drop, length-append}
 use Rattle.text_classes.specs.Classes.{basicUnescaped}
 use Rattle.text_classes.specs.Runs.{run, firstIs, stands}
-use Rattle.text.specs.Utf8.{encodeScalar}
-use Rattle.text.specs.declared.refusal.Refusal.{Refusal}
-use Rattle.text.specs.declared.refusal.Refusal.the-variants.{NoKind}
+use Rattle.text_scalars.specs.Utf8.{encodeScalar}
+use Rattle.text_refusals.specs.declared.Refusal.{Refusal}
+use Rattle.text_refusals.specs.declared.Refusal.the-variants.{NoKind}
 use Rattle.decoder_rules.specs.declared.Edition.{Edition}
 use Rattle.decoder_rules.specs.declared.Edition.the-variants.{Toml10, Toml11}
 use Rattle.decoder_rules.specs.declared.Encoding.{Encoding}

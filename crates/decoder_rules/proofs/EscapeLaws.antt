@@ -14,9 +14,9 @@ use Rattle.text_classes.specs.Classes.{hexdig}
 use Rattle.text_classes.specs.Runs.{run}
 use Rattle.text_classes.proofs.Conds.{cond-case, by-lt, by-eq}
 use Rattle.text_classes.proofs.RunLaws.{run-le}
-use Rattle.text.specs.Utf8.{encodeScalar}
-use Rattle.text.specs.Utf8Read.{isScalar}
-use Rattle.text.proofs.EncodeLaws.{encode-1, encode-length, true-scalar}
+use Rattle.text_scalars.specs.Utf8.{encodeScalar}
+use Rattle.text_scalars.specs.Utf8Read.{isScalar}
+use Rattle.text_scalars.proofs.EncodeLaws.{encode-1, encode-length, true-scalar}
 use Rattle.decoder_rules.specs.declared.Edition.{Edition}
 use Rattle.decoder_rules.specs.declared.Edition.the-variants.{Toml10, Toml11}
 use Rattle.decoder_rules.specs.declared.Letter.{Letter}

@@ -7,7 +7,7 @@ use mathlib.Core.List.{List, _++_}
 use native.Mathlib.Omega.{arith}
 use lib.ListN.{length, take, drop, length-drop, length-take}
 use lib.Seq.{take-all}
-use Rattle.text.specs.Utf8.{Scalar, encodeScalar}
+use Rattle.text_scalars.specs.Utf8.{Scalar, encodeScalar}
 use Rattle.decoder_rules.specs.declared.Piece.{Piece}
 use Rattle.decoder_rules.specs.declared.Given.{Given}
 use Rattle.decoder_rules.specs.declared.Given.the-variants.{Copy, Char, Nothing}

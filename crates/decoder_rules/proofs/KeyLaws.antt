@@ -12,8 +12,8 @@ use lib.Seq.{take-all}
 use Rattle.text_classes.specs.Runs.{run}
 use Rattle.text_classes.proofs.Conds.{cond-case}
 use Rattle.text_classes.proofs.RunLaws.{run-step, run-first}
-use Rattle.text.specs.Refusals.{limit}
-use Rattle.text.specs.Utf8Read.{ascii}
+use Rattle.text_refusals.specs.Refusals.{limit}
+use Rattle.text_scalars.specs.Utf8Read.{ascii}
 use Rattle.text.specs.CheckMeans.{checkOf}
 use Rattle.text.specs.declared.utf8.Utf8Check.the-variants.{Valid}
 use Rattle.text.proofs.AnswerLaws.{answer-ascii}

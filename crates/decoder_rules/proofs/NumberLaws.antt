@@ -7,12 +7,12 @@ use mathlib.Core.List.{List}
 use lib.Dec.{ltb, eqb}
 use lib.ListN.{length}
 use Rattle.text_classes.proofs.Conds.{cond-case, of-choice}
-use Rattle.text.specs.Refusals.{limit, refusalLength}
-use Rattle.text.specs.Utf8Read.{validPrefix}
+use Rattle.text_refusals.specs.Refusals.{limit, refusalLength}
+use Rattle.text_scalars.specs.Utf8Read.{validPrefix}
 use Rattle.text.specs.CheckMeans.{checkOf}
 use Rattle.text.specs.Told.{checkFault}
-use Rattle.text.specs.declared.refusal.Refusal.{Refusal}
-use Rattle.text.specs.declared.refusal.Refusal.the-variants.{TooLong, ShortOutput, FewErrors}
+use Rattle.text_refusals.specs.declared.Refusal.{Refusal}
+use Rattle.text_refusals.specs.declared.Refusal.the-variants.{TooLong, ShortOutput, FewErrors}
 use Rattle.text.specs.declared.utf8.Utf8Check.{Utf8Check}
 use Rattle.text.specs.declared.utf8.Utf8Check.the-variants.{Valid, Refused as NotValid}
 use Rattle.decoder_rules.specs.declared.Edition.{Edition}

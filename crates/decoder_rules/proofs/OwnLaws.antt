@@ -11,10 +11,10 @@ use native.Mathlib.Omega.{arith}
 use lib.ListN.{length, getD}
 use Rattle.text_classes.specs.Classes.{literalChar, basicUnescaped}
 use Rattle.text_classes.proofs.Conds.{not-both}
-use Rattle.text.specs.Refusals.{limit}
-use Rattle.text.specs.Utf8Read.{Along}
+use Rattle.text_refusals.specs.Refusals.{limit}
+use Rattle.text_scalars.specs.Utf8Read.{Along}
 use Rattle.text.specs.Lead.{CharacterAt, WideAt}
-use Rattle.text.proofs.ReadLaws.{valid-end}
+use Rattle.text_scalars.proofs.ReadLaws.{valid-end}
 use Rattle.text.proofs.CharLaws.{along-ascii, along-whole, wide-high}
 use Rattle.text.proofs.AnswerLaws.{answer-valid}
 use Rattle.decoder_rules.specs.Encodings.{plain}

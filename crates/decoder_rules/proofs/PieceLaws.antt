@@ -7,7 +7,7 @@ use mathlib.Core.List.{List, [], _∷_, _++_, cons≢nil}
 use native.Mathlib.Nat.{add-zero, add-suc, suc-add}
 use native.Mathlib.Omega.{arith}
 use lib.ListN.{length, take, drop}
-use Rattle.text.specs.Utf8.{encodeScalar}
+use Rattle.text_scalars.specs.Utf8.{encodeScalar}
 use Rattle.decoder_rules.specs.declared.Piece.{Piece}
 use Rattle.decoder_rules.specs.declared.Given.the-variants.{Copy, Char, Nothing}
 use Rattle.decoder_rules.specs.declared.DecodeError.{DecodeError}

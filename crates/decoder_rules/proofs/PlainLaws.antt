@@ -17,11 +17,11 @@ use Rattle.text_classes.specs.Classes.{literalChar, basicUnescaped}
 use Rattle.text_classes.specs.Runs.{run}
 use Rattle.text_classes.proofs.ByteTable.{rest-is}
 use Rattle.text_classes.proofs.RunLaws.{run-first}
-use Rattle.text.specs.Refusals.{limit}
-use Rattle.text.specs.Utf8Read.{ascii}
+use Rattle.text_refusals.specs.Refusals.{limit}
+use Rattle.text_scalars.specs.Utf8Read.{ascii}
 use Rattle.text.specs.CheckMeans.{checkOf}
 use Rattle.text.specs.declared.utf8.Utf8Check.the-variants.{Valid}
-use Rattle.text.proofs.FieldLaws.{bits-left, bits-right}
+use Rattle.text_scalars.proofs.FieldLaws.{bits-left, bits-right}
 use Rattle.text.proofs.AnswerLaws.{answer-ascii}
 use Rattle.decoder_rules.specs.declared.Edition.{Edition}
 use Rattle.decoder_rules.specs.declared.Edition.the-variants.{Toml10, Toml11}

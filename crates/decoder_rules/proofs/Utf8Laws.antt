@@ -15,10 +15,10 @@ use borrow.Author.Tests.{eqb-true, ltb-true}
 use Rattle.text_classes.specs.Classes.{wschar, hexdig, literalChar, basicUnescaped, unquotedChar}
 use Rattle.text_classes.specs.Runs.{run, firstIs, stands, triple}
 use Rattle.text_classes.proofs.Conds.{cond-case, by-lt, by-eq, both-left, both-right}
-use Rattle.text.specs.Utf8.{Scalar, Utf8}
-use Rattle.text.specs.Utf8Read.{isScalar}
-use Rattle.text.proofs.EncodeLaws.{true-scalar}
-use Rattle.text.proofs.CutLaws.{scalar-utf8, utf8-append, cut-at}
+use Rattle.text_scalars.specs.Utf8.{Scalar, Utf8}
+use Rattle.text_scalars.specs.Utf8Read.{isScalar}
+use Rattle.text_scalars.proofs.EncodeLaws.{true-scalar}
+use Rattle.text_scalars.proofs.CutLaws.{scalar-utf8, utf8-append, cut-at}
 use Rattle.decoder_rules.specs.declared.Letter.{Letter}
 use Rattle.decoder_rules.specs.declared.Letter.the-variants.{Stands, Asks, Neither}
 use Rattle.decoder_rules.specs.declared.Piece.{Piece}

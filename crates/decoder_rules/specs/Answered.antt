@@ -4,7 +4,8 @@
 use Prim.Native.Nat.{ℕ, _+_, _*_, _≤_}
 use mathlib.Core.{Path._≡_, List.List}
 use lib.{ListN.length}
-use Rattle.text.specs.{Refusals.limit, Utf8.Utf8}
+use Rattle.text_refusals.specs.{Refusals.limit}
+use Rattle.text_scalars.specs.{Utf8.Utf8}
 use Rattle.decoder_rules.specs.{Encodings.choiceBy, Decoding.bytesOf, Decoding.errorsOf}
 use Rattle.decoder_rules.specs.declared.{Encoding.Encoding, Choice.the-variants.Known}
 

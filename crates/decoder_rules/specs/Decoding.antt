@@ -4,7 +4,8 @@ use Prim.Native.Nat.{ℕ}
 use mathlib.Core.{Bool.Bool, Bool.true, Bool.false, Bool.cond, List.List, List.[], List._++_}
 use lib.{Dec.ltb, ListN.length, ListN.drop}
 use Rattle.text.specs.{CheckMeans.checkOf}
-use Rattle.text.specs.declared.{refusal.Refusal.the-variants.ShortOutput, refusal.Refusal.the-variants.FewErrors, utf8.Utf8Check.Utf8Check, utf8.Utf8Check.the-variants.Valid, utf8.Utf8Check.the-variants.Refused as NotValid}
+use Rattle.text_refusals.specs.declared.{Refusal.the-variants.ShortOutput, Refusal.the-variants.FewErrors}
+use Rattle.text.specs.declared.{utf8.Utf8Check.Utf8Check, utf8.Utf8Check.the-variants.Valid, utf8.Utf8Check.the-variants.Refused as NotValid}
 use Rattle.decoder_rules.specs.{Encodings.choiceBy, Encodings.markError, Pieces.gives, Pieces.notesOf, Pieces.notesAt, Pieces.collect, Bodies.pieceOf, Marks.endsOf, Marks.bodyOf}
 use Rattle.decoder_rules.specs.declared.{Encoding.Encoding, DecodeError.DecodeError, Verdict.Verdict, Verdict.the-variants.Clean, Verdict.the-variants.Wrong, Choice.Choice, Choice.the-variants.Known, Choice.the-variants.Unknown, Decoded.Decoded, Decoded.the-variants.Written, Decoded.the-variants.Refused}
 

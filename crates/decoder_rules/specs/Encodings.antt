@@ -4,7 +4,7 @@ use Prim.Native.Nat.{ℕ}
 use mathlib.Core.{Bool.Bool, Bool.cond, Bool.not, Bool._||_}
 use lib.{Dec.eqb}
 use Rattle.text_classes.specs.{Classes.literalChar, Classes.mllChar, Classes.basicUnescaped, Classes.mlbUnescaped, Classes.unquotedChar}
-use Rattle.text.specs.declared.{refusal.Refusal.the-variants.NoKind, refusal.Refusal.the-variants.NoEdition}
+use Rattle.text_refusals.specs.declared.{Refusal.the-variants.NoKind, Refusal.the-variants.NoEdition}
 use Rattle.lexer_token.specs.{KindNumbers.kindNumber, declared.TokenKind.the-variants.LiteralString as LiteralToken, declared.TokenKind.the-variants.BasicString as BasicToken, declared.TokenKind.the-variants.MlLiteralString as MlLiteralToken, declared.TokenKind.the-variants.MlBasicString as MlBasicToken, declared.TokenKind.the-variants.Atom}
 use Rattle.decoder_rules.specs.declared.{Edition.Edition, Edition.the-variants.Toml10, Edition.the-variants.Toml11, Encoding.Encoding, Encoding.the-variants.LiteralString, Encoding.the-variants.BasicString, Encoding.the-variants.MlLiteralString, Encoding.the-variants.MlBasicString, Encoding.the-variants.UnquotedKey, DecodeError.DecodeError, DecodeError.the-variants.LiteralMissingQuote, DecodeError.the-variants.MlLiteralMissingQuote, DecodeError.the-variants.BasicMissingQuote, DecodeError.the-variants.MlBasicMissingQuote, DecodeError.the-variants.EmptyKey, Choice.Choice, Choice.the-variants.Known, Choice.the-variants.Unknown}
 

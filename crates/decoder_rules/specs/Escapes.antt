@@ -4,7 +4,7 @@ use Prim.Native.Nat.{ℕ, _+_, _-_, _*_}
 use mathlib.Core.{Bool.cond, List.List, List.[], List._∷_}
 use lib.{Dec.eqb, Dec.ltb, ListN.take, ListN.drop}
 use Rattle.text_classes.specs.{Classes.hexdig, Runs.run}
-use Rattle.text.specs.{Utf8Read.isScalar}
+use Rattle.text_scalars.specs.{Utf8Read.isScalar}
 use Rattle.decoder_rules.specs.{Pieces.charPiece, Pieces.badChar}
 use Rattle.decoder_rules.specs.declared.{Edition.Edition, Edition.the-variants.Toml10, Edition.the-variants.Toml11, Letter.Letter, Letter.the-variants.Stands, Letter.the-variants.Asks, Letter.the-variants.Neither, Piece.Piece, DecodeError.the-variants.MissingEscape, DecodeError.the-variants.FewDigits, DecodeError.the-variants.NotScalar}
 

@@ -3,7 +3,7 @@
 use Prim.Native.Nat.{ℕ, zero, suc, pred}
 use mathlib.Core.{Bool.Bool, Bool.true, Bool.false, List.List, List.[], List._∷_, List._++_}
 use lib.{ListN.take}
-use Rattle.text.specs.{Utf8.encodeScalar}
+use Rattle.text_scalars.specs.{Utf8.encodeScalar}
 use Rattle.decoder_rules.specs.declared.{Piece.Piece, Given.Given, Given.the-variants.Copy, Given.the-variants.Char, Given.the-variants.Nothing, DecodeError.DecodeError, Verdict.Verdict, Verdict.the-variants.Clean, Verdict.the-variants.Wrong}
 use Rattle.decoder_rules.specs.declared.DecodeError.the-variants.{LiteralMissingQuote, LiteralInvalid, MlLiteralMissingQuote, LoneCr, MlLiteralInvalid, BasicMissingQuote, BasicInvalid, MissingEscape, FewDigits, NotScalar, MlBasicMissingQuote, MlBasicInvalid, MissingNewline, EmptyKey, KeyInvalid}
 

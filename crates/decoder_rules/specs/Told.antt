@@ -4,7 +4,8 @@
 use Prim.Native.Nat.{ℕ}
 use mathlib.Core.{Bool.cond, List.List}
 use lib.{Dec.ltb, Dec.eqb, ListN.length}
-use Rattle.text.specs.{Refusals.limit, Refusals.refusalNumber, Refusals.refusalValue, Refusals.refusalLength, Utf8Read.validPrefix}
+use Rattle.text_refusals.specs.{Refusals.limit, Refusals.refusalNumber, Refusals.refusalValue, Refusals.refusalLength}
+use Rattle.text_scalars.specs.{Utf8Read.validPrefix}
 use Rattle.decoder_rules.specs.{Encodings.choiceBy, Decoding.bytesOf, Decoding.errorsOf, Decoding.errorsBy}
 use Rattle.decoder_rules.specs.declared.{Choice.Choice, Choice.the-variants.Known, Choice.the-variants.Unknown, Decoded.Decoded, Decoded.the-variants.Written, Decoded.the-variants.Refused}
 

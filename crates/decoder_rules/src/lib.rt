@@ -5,7 +5,7 @@
 // Decoding.antt.
 ghost use mathlib.Core.Path.{_≡_};
 ghost use Rattle.decoder_rules.specs.Pieces.{errorNumber};
-use text::Refusal;
+use text_refusals::Refusal;
 
 // The edition of TOML that a basic string is written in: 1.0 or 1.1.
 pub enum Edition {

@@ -2,7 +2,7 @@
 use Prim.Native.Nat.{ℕ}
 use mathlib.Core.{Bool.cond, List.List, List.[], List._∷_}
 use lib.{Dec.eqb}
-use Rattle.text.specs.declared.{refusal.Refusal.the-variants.NoKind}
+use Rattle.text_refusals.specs.declared.{Refusal.the-variants.NoKind}
 use Rattle.decoder_rules.specs.{Pieces.errorNumber}
 use Rattle.decoder_rules.specs.declared.{DecodeError.DecodeError}
 use Rattle.decoder_rules.specs.declared.DecodeError.the-variants.{LiteralMissingQuote, LiteralInvalid, MlLiteralMissingQuote, LoneCr, MlLiteralInvalid, BasicMissingQuote, BasicInvalid, MissingEscape, FewDigits, NotScalar, MlBasicMissingQuote, MlBasicInvalid, MissingNewline, EmptyKey, KeyInvalid}

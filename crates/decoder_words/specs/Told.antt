@@ -5,7 +5,7 @@
 use Prim.Native.Nat.{ℕ}
 use mathlib.Core.{Bool.Bool, Bool.true, Bool.false, Bool.cond}
 use lib.{Dec.eqb}
-use Rattle.text.specs.{Refusals.refusalNumber, Refusals.refusalValue}
+use Rattle.text_refusals.specs.{Refusals.refusalNumber, Refusals.refusalValue}
 use Rattle.decoder_words.specs.{ErrorNumbers.errorOfNumber}
 use Rattle.decoder_words.specs.declared.{ErrorRead.ErrorRead, ErrorRead.the-variants.Error, ErrorRead.the-variants.Refused}
 

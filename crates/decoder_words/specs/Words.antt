@@ -3,7 +3,7 @@
 use Prim.Native.Nat.{ℕ, _-_}
 use mathlib.Core.{Bool.cond, List.List, List.[], List._∷_, List._++_}
 use lib.{Dec.eqb, ListN.length, ListN.replicate, ListN.getD}
-use Rattle.text.specs.declared.{refusal.Refusal.Refusal, refusal.Refusal.the-variants.NoEdition}
+use Rattle.text_refusals.specs.declared.{Refusal.Refusal, Refusal.the-variants.NoEdition}
 use Rattle.lexer_token.specs.{Descriptions.codes, declared.Answer.the-variants.Found, declared.Answer.the-variants.Refused}
 use Rattle.decoder_rules.specs.{Encodings.editionNumber}
 use Rattle.decoder_rules.specs.declared.{Edition.Edition, Edition.the-variants.Toml10, Edition.the-variants.Toml11, DecodeError.DecodeError}

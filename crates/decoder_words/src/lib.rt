@@ -14,7 +14,7 @@ ghost use Rattle.decoder_words.specs.Told.{wordsRefusal, wordsReturned};
 use decoder_rules::DecodeError;
 use decoder_rules::Edition;
 use lexer_token::Answer;
-use text::Refusal;
+use text_refusals::Refusal;
 
 // What a number is read as.
 pub enum ErrorRead {

@@ -5,8 +5,9 @@
 use Prim.Native.Nat.{ℕ, _-_}
 use mathlib.Core.{Bool.Bool, Bool.false, Bool.not, List.List}
 use lib.{Dec.eqb, ListN.length, ListN.take, ListN.drop}
-use Rattle.text.specs.{Refusals.refusalNumber, Refusals.refusalValue, Refusals.refusalLength}
-use Rattle.text.specs.declared.{refusal.Refusal.Refusal, utf8.Utf8Check.Utf8Check, utf8.Utf8Check.the-variants.Valid, utf8.Utf8Check.the-variants.Refused as Broken}
+use Rattle.text_refusals.specs.{Refusals.refusalNumber, Refusals.refusalValue, Refusals.refusalLength}
+use Rattle.text_refusals.specs.declared.{Refusal.Refusal}
+use Rattle.text.specs.declared.{utf8.Utf8Check.Utf8Check, utf8.Utf8Check.the-variants.Valid, utf8.Utf8Check.the-variants.Refused as Broken}
 use Rattle.lexer_token.specs.{KindNumbers.kindNumber}
 use Rattle.lexer_token.specs.declared.{Answer.Answer, Answer.the-variants.Found as Told, Answer.the-variants.Refused as Untold, Description.Description, KindEncoding.KindEncoding}
 use Rattle.lexer.specs.{Steps.cursorOf, Told.bitOf}

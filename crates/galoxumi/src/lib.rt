@@ -34,8 +34,8 @@ use lexer_place::SpanCheck;
 use lexer_token::Answer;
 use lexer_token::Span;
 use lexer_token::TokenKind;
-use text::Refusal;
 use text::Utf8Check;
+use text_refusals::Refusal;
 
 // `refusal` is 0 where the call answered, else the refusal's number; `value` is the value returned with
 // it; `length` is the length of the faulty sequence with refusal 1, else 0.

@@ -6,8 +6,8 @@ use mathlib.Core.List.{List}
 use lib.ListN.{length}
 use lib.Dec.{ltb, eqb}
 use Rattle.text_classes.proofs.Conds.{cond-case, of-choice}
-use Rattle.text.specs.Refusals.{limit}
-use Rattle.text.specs.Utf8Read.{validPrefix}
+use Rattle.text_refusals.specs.Refusals.{limit}
+use Rattle.text_scalars.specs.Utf8Read.{validPrefix}
 use Rattle.text.specs.CheckMeans.{checkOf}
 use Rattle.text.specs.Told.{checkFault}
 use Rattle.text.specs.declared.utf8.Utf8Check.{Utf8Check}

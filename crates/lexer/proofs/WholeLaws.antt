@@ -9,8 +9,8 @@ use borrow.Author.Tests.{lt-ltb, le-ltb}
 use lib.ListN.{length, drop, set, length-map}
 use lib.Seq.{sets, length-sets}
 use Rattle.text.specs.CheckMeans.{checkOf}
-use Rattle.text.specs.declared.refusal.Refusal.{Refusal}
-use Rattle.text.specs.declared.refusal.Refusal.the-variants.{FewTokens}
+use Rattle.text_refusals.specs.declared.Refusal.{Refusal}
+use Rattle.text_refusals.specs.declared.Refusal.the-variants.{FewTokens}
 use Rattle.text.specs.declared.utf8.Utf8Check.the-variants.{Valid, Refused as Broken}
 use Rattle.lexer_token.specs.declared.Token.{Token}
 use Rattle.lexer_token.specs.Records.{recordOf}

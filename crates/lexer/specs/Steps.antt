@@ -2,8 +2,8 @@
 use Prim.Native.Nat.{ℕ, _+_}
 use mathlib.Core.{Bool.Bool, Bool.true, Bool.false, Bool.cond, Bool._||_, List.List}
 use lib.{ListN.length, ListN.drop, Dec.ltb, Dec.eqb}
-use Rattle.text.specs.{Refusals.limit}
-use Rattle.text.specs.declared.{refusal.Refusal.the-variants.TooLong, refusal.Refusal.the-variants.OutOfPlace}
+use Rattle.text_refusals.specs.{Refusals.limit}
+use Rattle.text_refusals.specs.declared.{Refusal.the-variants.TooLong, Refusal.the-variants.OutOfPlace}
 use Rattle.lexer.specs.{Table.tokenLen, Tokens.tokenAt, Tokens.eofAt, Tokens.lineAfter, Tokens.startOf}
 use Rattle.lexer.specs.declared.{Cursor.Cursor, Start.Start, Start.the-variants.At, Start.the-variants.Refused as Unstarted, Step.Step, Step.the-variants.Token as Next, Step.the-variants.End, Step.the-variants.Refused}
 

@@ -4,7 +4,8 @@
 use Prim.Native.Nat.{ℕ}
 use mathlib.Core.{Bool.Bool, Bool.true, Bool.false, Bool.cond, List.List}
 use lib.{ListN.length, Dec.ltb, Dec.eqb}
-use Rattle.text.specs.{Refusals.limit, Refusals.refusalNumber, Refusals.refusalValue, Refusals.refusalLength, Utf8Read.validPrefix}
+use Rattle.text_refusals.specs.{Refusals.limit, Refusals.refusalNumber, Refusals.refusalValue, Refusals.refusalLength}
+use Rattle.text_scalars.specs.{Utf8Read.validPrefix}
 use Rattle.lexer.specs.{Steps.astray, Whole.tokenCount}
 use Rattle.lexer.specs.declared.{Cursor.Cursor, Start.Start, Start.the-variants.At, Start.the-variants.Refused as Unstarted, Step.Step, Step.the-variants.Token as Next, Step.the-variants.End, Step.the-variants.Refused, Lexed.Lexed, Lexed.the-variants.Tokens, Lexed.the-variants.Refused as Unlexed}
 

@@ -3,7 +3,8 @@ use Prim.Native.Nat.{ℕ}
 use mathlib.Core.{Bool.cond, List.List, List._++_, List.map}
 use lib.{ListN.length, ListN.drop, Dec.ltb}
 use Rattle.text.specs.{CheckMeans.checkOf}
-use Rattle.text.specs.declared.{refusal.Refusal.the-variants.FewTokens, utf8.Utf8Check.Utf8Check, utf8.Utf8Check.the-variants.Valid, utf8.Utf8Check.the-variants.Refused as Broken}
+use Rattle.text_refusals.specs.declared.{Refusal.the-variants.FewTokens}
+use Rattle.text.specs.declared.{utf8.Utf8Check.Utf8Check, utf8.Utf8Check.the-variants.Valid, utf8.Utf8Check.the-variants.Refused as Broken}
 use Rattle.lexer_token.specs.{Records.recordOf}
 use Rattle.lexer.specs.{Tokens.tokensOf}
 use Rattle.lexer.specs.declared.{Lexed.Lexed, Lexed.the-variants.Tokens, Lexed.the-variants.Refused}

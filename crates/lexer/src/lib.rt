@@ -19,14 +19,14 @@ use lexer_token::Record;
 use lexer_token::Span;
 use lexer_token::Token;
 use lexer_token::TokenKind;
-use text::LIMIT;
-use text::Refusal;
 use text::Utf8Check;
 use text_classes::APOSTROPHE;
 use text_classes::COMMENT_START_SYMBOL;
 use text_classes::QUOTATION_MARK;
 use text_classes::is_at;
 use text_classes::is_triple;
+use text_refusals::LIMIT;
+use text_refusals::Refusal;
 
 // Where the next token begins, on which line, and whether Eof was given.
 pub struct Cursor {

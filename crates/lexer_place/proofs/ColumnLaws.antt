@@ -14,10 +14,10 @@ use lib.ListN.{length, take, drop}
 use lib.Seq.{take-nil}
 use Rattle.text_classes.specs.Classes.{continuation}
 use Rattle.text_classes.proofs.Conds.{cond-case}
-use Rattle.text.specs.Utf8.{Scalar, encodeScalar, encodes, All, Utf8}
-use Rattle.text.specs.Utf8Read.{guess, scalars}
-use Rattle.text.proofs.EncodeLaws.{Tail, Parts, parts, guess-encode}
-use Rattle.text.proofs.ReadLaws.{scalars-of}
+use Rattle.text_scalars.specs.Utf8.{Scalar, encodeScalar, encodes, All, Utf8}
+use Rattle.text_scalars.specs.Utf8Read.{guess, scalars}
+use Rattle.text_scalars.proofs.EncodeLaws.{Tail, Parts, parts, guess-encode}
+use Rattle.text_scalars.proofs.ReadLaws.{scalars-of}
 use Rattle.lexer.specs.Tokens.{hasBom, startOf}
 use Rattle.lexer.proofs.LineLaws.{mark-bytes}
 use Rattle.lexer_place.specs.Positions.{columnBehind, columnOf}

@@ -5,7 +5,7 @@ use mathlib.Core.Path.{_≡_, refl, ap, _∙_}
 use mathlib.Core.List.{List}
 use lib.ListN.{length}
 use lib.Dec.{ltb}
-use Rattle.text.specs.Refusals.{limit}
+use Rattle.text_refusals.specs.Refusals.{limit}
 use Rattle.lexer_token.specs.declared.Span.{Span}
 use Rattle.text_classes.proofs.Conds.{of-choice}
 use Rattle.lexer_place.specs.Spans.{misplaced, spanAnswer}

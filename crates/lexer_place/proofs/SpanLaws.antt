@@ -9,8 +9,8 @@ use borrow.Author.Tests.{ltb-false}
 use lib.ListN.{length}
 use lib.Dec.{ltb}
 use Rattle.text_classes.proofs.Conds.{cond-case, not-both}
-use Rattle.text.specs.Refusals.{limit}
-use Rattle.text.specs.declared.refusal.Refusal.{Refusal}
+use Rattle.text_refusals.specs.Refusals.{limit}
+use Rattle.text_refusals.specs.declared.Refusal.{Refusal}
 use Rattle.lexer_token.specs.declared.Span.{Span}
 use Rattle.lexer_place.specs.Spans.{inside, misplaced, spanAnswer, textChecked, spanText}
 use Rattle.lexer_place.specs.declared.SpanCheck.{SpanCheck}

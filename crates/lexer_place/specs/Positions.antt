@@ -3,8 +3,9 @@ use Prim.Native.Nat.{ℕ, _+_, _-_}
 use mathlib.Core.{Bool.cond, List.List, List.[], List._∷_}
 use lib.{ListN.length, ListN.take, ListN.drop, Dec.ltb, Dec.eqb}
 use Rattle.text_classes.specs.{Classes.continuation}
-use Rattle.text.specs.{Refusals.limit, Utf8.encodeScalar}
-use Rattle.text.specs.declared.{refusal.Refusal.the-variants.TooLong, refusal.Refusal.the-variants.OutOfPlace}
+use Rattle.text_refusals.specs.{Refusals.limit}
+use Rattle.text_scalars.specs.{Utf8.encodeScalar}
+use Rattle.text_refusals.specs.declared.{Refusal.the-variants.TooLong, Refusal.the-variants.OutOfPlace}
 use Rattle.lexer.specs.{Lines.lineOf, Tokens.startOf}
 use Rattle.lexer_place.specs.declared.{Position.Position, Position.the-variants.At, Position.the-variants.Refused}
 

@@ -3,8 +3,8 @@ use Prim.Native.Nat.{ℕ, _-_}
 use mathlib.Core.{Bool.Bool, Bool.cond, Bool._||_, List.List, List.[]}
 use lib.{ListN.length, ListN.take, ListN.drop, Dec.ltb}
 use Rattle.text_classes.specs.{Classes.continuation, Runs.firstIs}
-use Rattle.text.specs.{Refusals.limit}
-use Rattle.text.specs.declared.{refusal.Refusal.the-variants.TooLong, refusal.Refusal.the-variants.OutOfPlace}
+use Rattle.text_refusals.specs.{Refusals.limit}
+use Rattle.text_refusals.specs.declared.{Refusal.the-variants.TooLong, Refusal.the-variants.OutOfPlace}
 use Rattle.lexer_token.specs.declared.{Span.Span}
 use Rattle.lexer_place.specs.declared.{SpanCheck.SpanCheck, SpanCheck.the-variants.Whole, SpanCheck.the-variants.Refused}
 

@@ -4,7 +4,7 @@
 use Prim.Native.Nat.{ℕ}
 use mathlib.Core.{Bool.cond, List.List}
 use lib.{ListN.length, Dec.ltb}
-use Rattle.text.specs.{Refusals.limit, Refusals.refusalNumber, Refusals.refusalValue}
+use Rattle.text_refusals.specs.{Refusals.limit, Refusals.refusalNumber, Refusals.refusalValue}
 use Rattle.lexer_token.specs.declared.{Span.Span}
 use Rattle.lexer_place.specs.{Spans.misplaced}
 use Rattle.lexer_place.specs.declared.{SpanCheck.SpanCheck, SpanCheck.the-variants.Whole, SpanCheck.the-variants.Refused, Position.Position, Position.the-variants.At, Position.the-variants.Refused as Unplaced}

@@ -7,8 +7,8 @@ ghost use Rattle.lexer_place.specs.Spans.{inside, spanAnswer, spanText};
 ghost use Rattle.lexer_place.specs.Told.{spanNumber, spanValue, spanRefusal, spanReturned, positionNumber, positionValue, positionRefusal, positionReturned};
 ghost use Rattle.lexer_place.specs.Positions.{columnOf, positionAnswer};
 use lexer_token::Span;
-use text::LIMIT;
-use text::Refusal;
+use text_refusals::LIMIT;
+use text_refusals::Refusal;
 
 // What the span check answers.
 pub enum SpanCheck {

@@ -10,7 +10,7 @@ use lib.Dec.{ltb}
 use lib.ListN.{length, take, drop, length-map}
 use lib.Seq.{take-append-le}
 use Rattle.text.specs.CheckMeans.{checkOf}
-use Rattle.text.specs.declared.refusal.Refusal.the-variants.{FewTokens}
+use Rattle.text_refusals.specs.declared.Refusal.the-variants.{FewTokens}
 use Rattle.text.specs.declared.utf8.Utf8Check.{Utf8Check}
 use Rattle.text.specs.declared.utf8.Utf8Check.the-variants.{Valid, Refused as Broken}
 use Rattle.lexer_token.specs.declared.Token.{Token}

@@ -10,9 +10,9 @@ use native.Mathlib.Decide.{decLt}
 use borrow.Author.Tests.{lt-ltb, le-ltb}
 use lib.ListN.{length, getD, set, take, drop, length-append, length-drop}
 use lib.Seq.{take-suc, take-length, length-take-le, drop-cons, set-at}
-use Rattle.text.specs.Refusals.{limit}
+use Rattle.text_refusals.specs.Refusals.{limit}
 use Rattle.text.specs.CheckMeans.{checkOf}
-use Rattle.text.specs.declared.refusal.Refusal.{Refusal}
+use Rattle.text_refusals.specs.declared.Refusal.{Refusal}
 use Rattle.text.specs.declared.utf8.Utf8Check.{Utf8Check}
 use Rattle.text.specs.declared.utf8.Utf8Check.the-variants.{Valid, Refused as Broken}
 use Rattle.text.proofs.AnswerLaws.{checked}

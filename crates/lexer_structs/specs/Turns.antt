@@ -5,7 +5,7 @@ use mathlib.Core.Bool.{cond}
 use mathlib.Core.List.{List, _++_}
 use lib.ListN.{take, drop}
 use lib.Dec.{ltb}
-use Rattle.text.specs.declared.refusal.Refusal.the-variants.{FewTokens}
+use Rattle.text_refusals.specs.declared.Refusal.the-variants.{FewTokens}
 use Rattle.lexer_token.specs.declared.Token.{Token}
 use Rattle.lexer.specs.Tokens.{tokensOf, eofAt}
 use Rattle.lexer.specs.Steps.{startAnswer, startCursor, stepOf}

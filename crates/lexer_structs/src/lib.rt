@@ -16,7 +16,7 @@ use lexer::Step;
 use lexer_token::Span;
 use lexer_token::Token;
 use lexer_token::TokenKind;
-use text::Refusal;
+use text_refusals::Refusal;
 
 // A token, and where the next one begins.
 struct Turn {

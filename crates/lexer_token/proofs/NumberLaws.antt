@@ -6,7 +6,7 @@ use mathlib.Core.Bool.{cond}
 use mathlib.Core.List.{List, [], _∷_}
 use lib.Dec.{eqb}
 use Rattle.text_classes.proofs.Conds.{cond-case}
-use Rattle.text.specs.declared.refusal.Refusal.the-variants.{NoKind}
+use Rattle.text_refusals.specs.declared.Refusal.the-variants.{NoKind}
 use Rattle.lexer_token.specs.KindNumbers.{kindNumber, kinds, kindAmong, kindOfNumber}
 use Rattle.lexer_token.specs.Told.{kindReadNumber, kindReadValue, isRead, kindRefusal, kindReturned, answerNumber, answerValue}
 use Rattle.lexer_token.specs.Descriptions.{descriptionBy, descriptionOf}

@@ -2,7 +2,7 @@
 use Prim.Native.Nat.{ℕ}
 use mathlib.Core.{Bool.cond, List.List, List.[], List._∷_}
 use lib.{Dec.eqb}
-use Rattle.text.specs.declared.{refusal.Refusal.the-variants.NoKind}
+use Rattle.text_refusals.specs.declared.{Refusal.the-variants.NoKind}
 use Rattle.lexer_token.specs.declared.{TokenKind.TokenKind, KindRead.KindRead, KindRead.the-variants.Kind, KindRead.the-variants.Refused}
 use Rattle.lexer_token.specs.declared.TokenKind.the-variants.{Dot, Equals, Comma, LeftSquareBracket, RightSquareBracket, LeftCurlyBracket, RightCurlyBracket, Whitespace, Comment, Newline, LiteralString, BasicString, MlLiteralString, MlBasicString, Atom, Eof}
 

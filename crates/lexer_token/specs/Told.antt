@@ -3,7 +3,7 @@
 -- Assumes nothing.
 use Prim.Native.Nat.{ℕ}
 use mathlib.Core.{Bool.Bool, Bool.true, Bool.false, Bool.cond}
-use Rattle.text.specs.{Refusals.refusalNumber, Refusals.refusalValue}
+use Rattle.text_refusals.specs.{Refusals.refusalNumber, Refusals.refusalValue}
 use Rattle.lexer_token.specs.{KindNumbers.kindOfNumber}
 use Rattle.lexer_token.specs.declared.{KindRead.KindRead, KindRead.the-variants.Kind, KindRead.the-variants.Refused as Unread, Answer.Answer, Answer.the-variants.Found, Answer.the-variants.Refused}
 

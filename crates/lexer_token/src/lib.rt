@@ -9,7 +9,7 @@ ghost use Rattle.lexer_token.specs.Descriptions.{describedBy, kindText, 
 ghost use Rattle.lexer_token.specs.Told.{kindReadNumber, kindReadValue, kindRefusal, kindReturned, answerNumber, answerValue};
 ghost use Rattle.lexer_token.specs.Encodings.{kindEncoding, encodingOf};
 ghost use Rattle.lexer_token.specs.Records.{spanOf, tokenOf, recordOf};
-use text::Refusal;
+use text_refusals::Refusal;
 
 // A token as four numbers: kind, start, end, line.
 pub type Record = [usize; 4];

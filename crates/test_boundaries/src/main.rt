@@ -2,8 +2,8 @@
 // the Unicode standard, section 3.9: table 3-6 for encodings, table 3-7 for well-formed sequences; the
 // last number of a refusal is Rust's error_len, as core::str::Utf8Error documents it, 0 for none.
 use libc::STDOUT_FILENO;
-use text::Refusal;
 use text::Utf8Check;
+use text_refusals::Refusal;
 
 fn main() {
     lengths();
@@ -126,7 +126,7 @@ fn encoding(c: u32) {
     io::write_all(STDOUT_FILENO, b"U+");
     io::print_hex(STDOUT_FILENO, c as u64, 4);
     io::write_all(STDOUT_FILENO, b" ");
-    let e = text::encode(c);
+    let e = text_scalars::encode(c);
     let bytes = e.bytes;
     io::print_decimal(STDOUT_FILENO, e.len as u64);
     four(&bytes);

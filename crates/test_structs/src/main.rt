@@ -4,7 +4,7 @@ ghost use Prim.Native.Nat.{_≤_};
 use lexer::Lexed;
 use lexer_token::Token;
 use libc::STDOUT_FILENO;
-use text::Refusal;
+use text_refusals::Refusal;
 
 fn main() {
     tokens(b"");

@@ -11,7 +11,7 @@ use lexer_token::Span;
 use lexer_token::Token;
 use lexer_token::TokenKind;
 use libc::STDOUT_FILENO;
-use text::Refusal;
+use text_refusals::Refusal;
 
 fn say(words: &[u8]) {
     io::write_all(STDOUT_FILENO, words);

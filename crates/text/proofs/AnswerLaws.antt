@@ -8,19 +8,19 @@ use native.Mathlib.Omega.{arith}
 use lib.ListN.{length, drop, length-drop}
 use lib.Dec.{ltb, eqb}
 use borrow.Author.Tests.{eqb-true, eqb-false, lt-ltb, le-ltb, eq-eqb, ne-eqb}
-use Rattle.text.specs.Refusals.{limit}
-use Rattle.text.specs.Utf8.{Utf8}
+use Rattle.text_refusals.specs.Refusals.{limit}
+use Rattle.text_scalars.specs.Utf8.{Utf8}
 use Rattle.text_classes.specs.Runs.{run}
-use Rattle.text.specs.Utf8Read.{ascii, validPrefix}
+use Rattle.text_scalars.specs.Utf8Read.{ascii, validPrefix}
 use Rattle.text.specs.Lead.{faultLen}
 use Rattle.text.specs.CheckMeans.{checkOf}
 use Rattle.text.specs.Told.{checkNumber, checkValue, checkLength, checkRefusal, checkReturned, checkFault}
 use Rattle.text.specs.CheckMeans.{Longest, CheckMeans}
-use Rattle.text.specs.declared.refusal.Refusal.the-variants.{NotUtf8, TooLong, FewTokens, ShortOutput, FewErrors, OutOfPlace, NoKind, NoEdition, NoReviewer, FewMarks}
+use Rattle.text_refusals.specs.declared.Refusal.the-variants.{NotUtf8, TooLong, FewTokens, ShortOutput, FewErrors, OutOfPlace, NoKind, AfterEnd, NoEdition, TooDeep, NoReviewer, FewMarks, TotalFull}
 use Rattle.text.specs.declared.utf8.Utf8Check.{Utf8Check}
 use Rattle.text.specs.declared.utf8.Utf8Check.the-variants.{Valid, Refused}
 use Rattle.text_classes.proofs.Conds.{by-lt, cond-case, of-choice}
-use Rattle.text.proofs.ReadLaws.{utf8-iff, valid-is, valid-le, valid-longest, valid-ascii, valid-end}
+use Rattle.text_scalars.proofs.ReadLaws.{utf8-iff, valid-is, valid-le, valid-longest, valid-ascii, valid-end}
 use Rattle.text.proofs.FaultLaws.{fault-is, fault-one}
 
 -- ---- from the bytes to the answer
@@ -86,9 +86,12 @@ means-answer s (Refused (ShortOutput n)) m = absurd m
 means-answer s (Refused (FewErrors n)) m = absurd m
 means-answer s (Refused (OutOfPlace n)) m = absurd m
 means-answer s (Refused (NoKind n)) m = absurd m
+means-answer s (Refused AfterEnd) m = absurd m
 means-answer s (Refused (NoEdition n)) m = absurd m
+means-answer s (Refused TooDeep) m = absurd m
 means-answer s (Refused (NoReviewer n)) m = absurd m
 means-answer s (Refused (FewMarks n)) m = absurd m
+means-answer s (Refused TotalFull) m = absurd m
 
 answer-means : (s : List ℕ) → CheckMeans s (checkOf s)
 unfolding checkOf

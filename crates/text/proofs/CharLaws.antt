@@ -9,10 +9,10 @@ use native.Mathlib.Omega.{arith}
 use lib.ListN.{length, getD, drop}
 use Rattle.text.specs.declared.utf8.Lead.{Lead}
 use Rattle.text.specs.Lead.{row, leadOf, Among, Asked, CharacterAt, WideAt, BegunAt}
-use Rattle.text.specs.Utf8Read.{charLen, validPrefix, Along}
+use Rattle.text_scalars.specs.Utf8Read.{charLen, validPrefix, Along}
 use Rattle.text.proofs.LeadLaws.{all-begun, row-is, lead-high}
 use Rattle.text.proofs.BegunLaws.{begun-1}
-use Rattle.text.proofs.ReadLaws.{valid-step}
+use Rattle.text_scalars.proofs.ReadLaws.{valid-step}
 
 -- the second byte is as the row asks
 pub asked : (a n low high b : ℕ) → row n low high ≡ leadOf a → Among low high b → Asked a n b

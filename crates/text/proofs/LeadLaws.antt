@@ -12,13 +12,13 @@ use lib.ListN.{length, getD, drop, length-drop}
 use lib.Seq.{getD-drop}
 use lib.Dec.{T, eqb, eqb→eq}
 use Rattle.text.specs.declared.utf8.Lead.{Lead}
-use Rattle.text.specs.Utf8.{Scalar, encodeScalar}
-use Rattle.text.specs.Utf8Read.{guess, charLen}
+use Rattle.text_scalars.specs.Utf8.{Scalar, encodeScalar}
+use Rattle.text_scalars.specs.Utf8Read.{guess, charLen}
 use Rattle.text.specs.Lead.{row, leadOf, Among, BegunAt}
 use Rattle.text_classes.proofs.Conds.{by-lt}
 use Rattle.text_classes.proofs.ByteTable.{allFrom, at-each, and-left, and-right}
-use Rattle.text.proofs.EncodeLaws.{Size, one, two, low, high, four, size, encode-1, encode-2, encode-3, encode-4}
-use Rattle.text.proofs.ReadLaws.{char-length, char-sound}
+use Rattle.text_scalars.proofs.EncodeLaws.{Size, one, two, low, high, four, size, encode-1, encode-2, encode-3, encode-4}
+use Rattle.text_scalars.proofs.ReadLaws.{char-length, char-sound}
 
 -- ---- the table, row by row
 

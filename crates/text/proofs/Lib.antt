@@ -1,6 +1,3 @@
-pub mod FieldLaws
-pub mod EncodeLaws
-pub mod ReadLaws
 pub mod LeadLaws
 pub mod OnesLaws
 pub mod BegunLaws
@@ -8,7 +5,6 @@ pub mod CharLaws
 pub mod WordLaws
 pub mod FourLaws
 pub mod FaultLaws
-pub mod CutLaws
 pub mod AnswerLaws
 pub mod MendLaws
 pub mod OneAnswer

@@ -10,18 +10,18 @@ use native.Mathlib.Decide.{decLt}
 use lib.ListN.{length, take, drop, length-append, length-drop, take-append-drop}
 use lib.Seq.{take-length, take-append-seam, take-append-le, length-take-le}
 use borrow.Author.Tests.{eq-eqb}
-use Rattle.text.specs.Utf8.{Scalar, encodeScalar, encodes, All, Utf8}
-use Rattle.text.specs.Utf8Read.{validPrefix}
+use Rattle.text_scalars.specs.Utf8.{Scalar, encodeScalar, encodes, All, Utf8}
+use Rattle.text_scalars.specs.Utf8Read.{validPrefix}
 use Rattle.text.specs.CheckMeans.{Begins, faulty}
 use Rattle.text.specs.CheckMeans.{checkOf}
 use Rattle.text.specs.CheckMeans.{Longest}
 use Rattle.text.specs.LengthTells.{Mendable, LengthTells, LengthElse}
-use Rattle.text.specs.declared.refusal.Refusal.the-variants.{NotUtf8, TooLong, FewTokens, ShortOutput, FewErrors, OutOfPlace, NoKind, NoEdition, NoReviewer, FewMarks}
+use Rattle.text_refusals.specs.declared.Refusal.the-variants.{NotUtf8, TooLong, FewTokens, ShortOutput, FewErrors, OutOfPlace, NoKind, AfterEnd, NoEdition, TooDeep, NoReviewer, FewMarks, TotalFull}
 use Rattle.text.specs.declared.utf8.Utf8Check.the-variants.{Refused}
 use Rattle.text_classes.proofs.Conds.{by-eq}
-use Rattle.text.proofs.EncodeLaws.{encode-length}
-use Rattle.text.proofs.ReadLaws.{utf8-iff, valid-append, valid-longest}
-use Rattle.text.proofs.CutLaws.{scalar-utf8, utf8-append}
+use Rattle.text_scalars.proofs.EncodeLaws.{encode-length}
+use Rattle.text_scalars.proofs.ReadLaws.{utf8-iff, valid-append, valid-longest}
+use Rattle.text_scalars.proofs.CutLaws.{scalar-utf8, utf8-append}
 use Rattle.text.proofs.AnswerLaws.{longest-one, check-means}
 
 faulty-none : (n left : ℕ) → faulty n left ≡ 0 → n ≡ left
@@ -133,6 +133,9 @@ length-else (ShortOutput n) h = refl
 length-else (FewErrors n) h = refl
 length-else (OutOfPlace n) h = refl
 length-else (NoKind n) h = refl
+length-else AfterEnd h = refl
 length-else (NoEdition n) h = refl
+length-else TooDeep h = refl
 length-else (NoReviewer n) h = refl
 length-else (FewMarks n) h = refl
+length-else TotalFull h = refl

@@ -17,7 +17,7 @@ use Rattle.text_classes.specs.Runs.{run}
 use Rattle.text_classes.proofs.ByteTable.{classes-agree}
 use Rattle.text_classes.proofs.RunLaws.{Block, block-start, block-step, block-end, run-end}
 use Rattle.text.specs.Lead.{fourAt}
-use Rattle.text.specs.Utf8Read.{ascii}
+use Rattle.text_scalars.specs.Utf8Read.{ascii}
 
 -- ---- two parts, the lower of k bits
 

@@ -1,26 +1,20 @@
 -- RULE. What the calls of this crate answer, and what each answer of the UTF-8 check says of the bytes. The check's promise is
 -- an equation with the computed `checkOf`; `check-means`, in proofs/AnswerLaws.antt, proves that the equation says just what
 -- `CheckMeans` says. The length returned with refusal 1 is the `error_len` of Rust's own UTF-8 error, 0 for none.
-use Prim.Native.Nat.{ℕ, _-_, _≤_, _<_}
-use mathlib.Core.{Path._≡_, Bool.cond, List.List, List.[], List._++_}
-use lib.{ListN.length, ListN.take, ListN.drop, ListN.replicate, Dec.ltb, Dec.eqb}
-use Rattle.text.specs.{Refusals.limit, Utf8.Scalar, Utf8.encodeScalar, Utf8.Utf8, Utf8Read.isScalar, Utf8Read.validPrefix, Lead.faultLen}
-use Rattle.text.specs.declared.refusal.Refusal.the-variants.{NotUtf8, TooLong, FewTokens, ShortOutput, FewErrors, OutOfPlace, NoKind, NoEdition, NoReviewer, FewMarks}
-use Rattle.text.specs.declared.{utf8.Encoded.Encoded, utf8.Utf8Check.Utf8Check, utf8.Utf8Check.the-variants.Valid, utf8.Utf8Check.the-variants.Refused}
+use Prim.Native.Nat.{ℕ, _≤_, _<_}
+use mathlib.Core.{Path._≡_, Bool.cond, List.List, List._++_}
+use lib.{ListN.length, ListN.take, ListN.drop, Dec.ltb, Dec.eqb}
+use Rattle.text_refusals.specs.{Refusals.limit}
+use Rattle.text_scalars.specs.{Utf8.Scalar, Utf8.encodeScalar, Utf8.Utf8, Utf8Read.validPrefix}
+use Rattle.text.specs.{Lead.faultLen}
+use Rattle.text_refusals.specs.declared.Refusal.the-variants.{NotUtf8, TooLong, FewTokens, ShortOutput, FewErrors, OutOfPlace, NoKind, AfterEnd, NoEdition, TooDeep, NoReviewer, FewMarks, TotalFull}
+use Rattle.text.specs.declared.{utf8.Utf8Check.Utf8Check, utf8.Utf8Check.the-variants.Valid, utf8.Utf8Check.the-variants.Refused}
 
 -- the UTF-8 check: refusal 2 before 1, and with 1 the lengths of the longest valid prefix and of the faulty sequence
 unfoldable pub checkOf : List ℕ → Utf8Check
 checkOf s =
     cond (ltb limit (length s)) (Refused TooLong)
     (cond (eqb (validPrefix s) (length s)) Valid (Refused (NotUtf8 (validPrefix s) (faultLen (drop (validPrefix s) s)))))
-
--- bytes at the front of an array of four, zeros after them
-abbrev pub padded : List ℕ → Encoded
-padded bytes = record { len = length bytes; bytes = bytes ++ replicate (4 - length bytes) 0 }
-
--- the encoding of a scalar value, and no bytes for a number that is none
-unfoldable pub encodedOf : ℕ → Encoded
-encodedOf c = cond (isScalar c) (padded (encodeScalar c)) (padded [])
 
 -- p begins the encoding of some scalar value: `more`, appended to p, makes it whole
 abbrev pub Begins : List ℕ → Type 0
@@ -58,6 +52,9 @@ CheckMeans s (Refused (ShortOutput n)) = ⊥
 CheckMeans s (Refused (FewErrors n)) = ⊥
 CheckMeans s (Refused (OutOfPlace n)) = ⊥
 CheckMeans s (Refused (NoKind n)) = ⊥
+CheckMeans s (Refused AfterEnd) = ⊥
 CheckMeans s (Refused (NoEdition n)) = ⊥
+CheckMeans s (Refused TooDeep) = ⊥
 CheckMeans s (Refused (NoReviewer n)) = ⊥
 CheckMeans s (Refused (FewMarks n)) = ⊥
+CheckMeans s (Refused TotalFull) = ⊥

@@ -2,8 +2,11 @@
 -- Assumes nothing.
 use Prim.Native.Nat.{ℕ, _≤_}
 use mathlib.Core.{Path._≡_, Logic._↔_, List.List, List._++_}
-use Rattle.text.specs.{Refusals.refusalNumber, Refusals.refusalLength, Utf8.Utf8, CheckMeans.CheckMeans}
-use Rattle.text.specs.declared.{refusal.Refusal.Refusal, refusal.Refusal.the-variants.NotUtf8, utf8.Utf8Check.the-variants.Refused}
+use Rattle.text_refusals.specs.{Refusals.refusalNumber, Refusals.refusalLength}
+use Rattle.text_scalars.specs.{Utf8.Utf8}
+use Rattle.text.specs.{CheckMeans.CheckMeans}
+use Rattle.text_refusals.specs.declared.{Refusal.Refusal, Refusal.the-variants.NotUtf8}
+use Rattle.text.specs.declared.{utf8.Utf8Check.the-variants.Refused}
 
 -- some further bytes would mend the text
 abbrev pub Mendable : List ℕ → Type 0

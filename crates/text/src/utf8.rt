@@ -1,18 +1,16 @@
-// UTF-8: the check, and the encoding of a scalar value.
-// Rules: specs/Utf8.antt, CheckMeans.antt.
+// The UTF-8 check. Rules: Utf8.antt of crate `text_scalars`, and specs/CheckMeans.antt.
 ghost use mathlib.Core.Path.{_≡_};
 ghost use mathlib.Core.Bool.{true, false};
 ghost use Prim.Native.Nat.{ℕ, _+_, _*_, _^_, _%_, _<_, _≤_};
 ghost use lib.ListN.{length, drop};
 ghost use Rattle.text_classes.specs.Runs.{run};
 ghost use Rattle.text_classes.proofs.RunLaws.{Block, SameEnd};
-ghost use Rattle.text.specs.Utf8.{encodeScalar};
-ghost use Rattle.text.specs.Utf8Read.{isScalar, ascii, charLen, CharsPassed, Along};
+ghost use Rattle.text_scalars.specs.Utf8Read.{ascii, charLen, CharsPassed, Along};
 ghost use Rattle.text.specs.Lead.{leadOf, onesOf, Among, Asked, Character, CharacterAt, WideAt, fourAt, BegunAt, faultLen};
-ghost use Rattle.text.specs.CheckMeans.{padded, encodedOf, checkOf};
+ghost use Rattle.text.specs.CheckMeans.{checkOf};
 ghost use Rattle.text.specs.Told.{checkNumber, checkValue, checkLength, checkRefusal, checkReturned, checkFault};
-use crate::refusal::LIMIT;
-use crate::refusal::Refusal;
+use text_refusals::LIMIT;
+use text_refusals::Refusal;
 
 // What the check answers.
 pub enum Utf8Check {
@@ -482,75 +480,5 @@ fn lead_of(a: u8) -> Lead
         0xF0 => Lead(ones, 0x90, 0xBF),
         0xF4 => Lead(ones, 0x80, 0x8F),
         _ => Lead(ones, 0x80, 0xBF),
-    }
-}
-
-// The bytes of one character: the first `len` of `bytes`, the rest zero.
-pub struct Encoded {
-    pub len: usize,
-    pub bytes: [u8; 4],
-}
-
-// The bytes of a scalar value. A number that is no scalar value has no encoding: no bytes.
-pub fn encode(c: u32) -> Encoded
-    ensures { λ r. ⌜ r ≡ encodedOf c ⌝ }
-{
-    if is_scalar(c) {
-        return encode_scalar(c);
-    }
-    Encoded {
-        len: 0,
-        bytes: [0, 0, 0, 0],
-    }
-}
-
-// By the four UTF-8 lengths and their bit fields.
-fn encode_scalar(c: u32) -> Encoded
-    requires { ⌜ c < 0x110000 ⌝ }
-    ensures { λ r. ⌜ r ≡ padded (encodeScalar c) ⌝ }
-{
-    if c < 0x80 {
-        return Encoded {
-            len: 1,
-            bytes: [c as u8, 0, 0, 0],
-        };
-    }
-    if c < 0x800 {
-        return Encoded {
-            len: 2,
-            bytes: [((c >> 6) | 0xC0) as u8, tail(c), 0, 0],
-        };
-    }
-    if c < 0x10000 {
-        return Encoded {
-            len: 3,
-            bytes: [((c >> 12) | 0xE0) as u8, tail(c >> 6), tail(c), 0],
-        };
-    }
-    Encoded {
-        len: 4,
-        bytes: [
-            ((c >> 18) | 0xF0) as u8,
-            tail(c >> 12),
-            tail(c >> 6),
-            tail(c),
-        ],
-    }
-}
-
-// A continuation byte: the mark 10 and the six low bits.
-fn tail(c: u32) -> u8
-    ensures { λ r. ⌜ r ≡ 0x80 + c % 64 ⌝ }
-{
-    ((c & 0x3F) | 0x80) as u8
-}
-
-// Is `c` a scalar value: any code point but a surrogate?
-pub fn is_scalar(c: u32) -> bool
-    ensures { λ r. ⌜ r ≡ isScalar c ⌝ }
-{
-    match c {
-        0..=0xD7FF | 0xE000..=0x10FFFF => true,
-        _ => false,
     }
 }

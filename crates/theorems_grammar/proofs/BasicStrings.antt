@@ -10,9 +10,9 @@ use lib.ListN.{length, length-append}
 use Rattle.text_classes.specs.Classes.{basicUnescaped}
 use Rattle.text_classes.specs.Runs.{run}
 use Rattle.text_classes.proofs.Conds.{cond-case, by-eq}
-use Rattle.text.specs.Utf8.{Scalar, encodes, All}
-use Rattle.text.proofs.EncodeLaws.{encode-1}
-use Rattle.text.proofs.CutLaws.{all-parts}
+use Rattle.text_scalars.specs.Utf8.{Scalar, encodes, All}
+use Rattle.text_scalars.proofs.EncodeLaws.{encode-1}
+use Rattle.text_scalars.proofs.CutLaws.{all-parts}
 use Rattle.decoder_rules.specs.declared.Edition.{Edition}
 use Rattle.decoder_rules.specs.declared.Encoding.the-variants.{BasicString as BasicText}
 use Rattle.decoder_rules.specs.declared.Verdict.the-variants.{Clean}

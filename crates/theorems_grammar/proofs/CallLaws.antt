@@ -7,9 +7,9 @@ use mathlib.Core.List.{List, [], _++_}
 use native.Mathlib.Decide.{decLt}
 use native.Mathlib.Omega.{arith}
 use lib.ListN.{length, drop}
-use Rattle.text.specs.Utf8.{encodes, Utf8}
-use Rattle.text.specs.Refusals.{limit}
-use Rattle.text.proofs.ReadLaws.{utf8-iff}
+use Rattle.text_scalars.specs.Utf8.{encodes, Utf8}
+use Rattle.text_refusals.specs.Refusals.{limit}
+use Rattle.text_scalars.proofs.ReadLaws.{utf8-iff}
 use Rattle.text.proofs.AnswerLaws.{answer-valid}
 use Rattle.text.specs.declared.utf8.Utf8Check.the-variants.{Valid}
 use Rattle.decoder_rules.specs.declared.Choice.{Choice}

@@ -8,7 +8,7 @@ use native.Mathlib.Omega.{arith}
 use lib.Dec.{leb, eqb}
 use borrow.Author.Tests.{eqb-true, leb-true, le-leb, lt-ltb, le-ltb}
 use Rattle.text_classes.specs.Classes.{among, wschar, literalChar, mllChar, basicUnescaped, mlbUnescaped, hexdig}
-use Rattle.text.specs.Utf8.{Scalar}
+use Rattle.text_scalars.specs.Utf8.{Scalar}
 use Rattle.decoder_rules.specs.Escapes.{hexValue}
 use Rattle.text_classes.proofs.Conds.{both-left, both-right, or-left, or-right, or-inv}
 use Rattle.decoder_rules.proofs.AsciiLaws.{basic-high, literal-high}

@@ -8,9 +8,9 @@ use native.Mathlib.Decide.{decLt}
 use native.Mathlib.Omega.{arith}
 use lib.ListN.{length, take, drop, length-drop, take-append-drop, drop-of-length-le}
 use lib.Seq.{length-take-le, take-append-seam}
-use Rattle.text.specs.Utf8.{Scalar, encodes, All, Utf8}
-use Rattle.text.specs.Refusals.{limit}
-use Rattle.text.proofs.ReadLaws.{same-scalars}
+use Rattle.text_scalars.specs.Utf8.{Scalar, encodes, All, Utf8}
+use Rattle.text_refusals.specs.Refusals.{limit}
+use Rattle.text_scalars.proofs.ReadLaws.{same-scalars}
 use Rattle.decoder_rules.specs.declared.Encoding.{Encoding}
 use Rattle.decoder_rules.specs.Decoding.{bytesOf, errorsOf}
 use Rattle.lexer_token.specs.declared.TokenKind.{TokenKind}

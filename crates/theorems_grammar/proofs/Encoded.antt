@@ -9,10 +9,10 @@ use native.Mathlib.Decide.{decLt}
 use lib.ListN.{length}
 use lib.Dec.{eqb}
 use borrow.Author.Tests.{ne-eqb}
-use Rattle.text.specs.Utf8.{Scalar, encodeScalar, encodes, All, Utf8}
-use Rattle.text.proofs.EncodeLaws.{parts, encode-1}
-use Rattle.text.proofs.ReadLaws.{encodes-append, same-scalars}
-use Rattle.text.proofs.CutLaws.{all-append, all-parts, Cuttable, cut}
+use Rattle.text_scalars.specs.Utf8.{Scalar, encodeScalar, encodes, All, Utf8}
+use Rattle.text_scalars.proofs.EncodeLaws.{parts, encode-1}
+use Rattle.text_scalars.proofs.ReadLaws.{encodes-append, same-scalars}
+use Rattle.text_scalars.proofs.CutLaws.{all-append, all-parts, Cuttable, cut}
 use Rattle.theorems_grammar.proofs.ListLaws.{all-weaken}
 
 pub data Side (c : ℕ) : Type 0 where

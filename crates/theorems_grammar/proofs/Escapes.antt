@@ -10,9 +10,9 @@ use lib.ListN.{length, take, drop, take-append-drop}
 use Rattle.text_classes.specs.Classes.{hexdig}
 use Rattle.text_classes.specs.Runs.{run}
 use Rattle.text_classes.proofs.Conds.{by-lt, cond-case, by-eq}
-use Rattle.text.specs.Utf8.{Scalar, encodeScalar, All}
-use Rattle.text.specs.Utf8Read.{isScalar}
-use Rattle.text.proofs.EncodeLaws.{scalar-true, true-scalar}
+use Rattle.text_scalars.specs.Utf8.{Scalar, encodeScalar, All}
+use Rattle.text_scalars.specs.Utf8Read.{isScalar}
+use Rattle.text_scalars.proofs.EncodeLaws.{scalar-true, true-scalar}
 use Rattle.decoder_rules.specs.declared.Edition.{Edition}
 use Rattle.decoder_rules.specs.declared.Edition.the-variants.{Toml10, Toml11}
 use Rattle.decoder_rules.specs.declared.Letter.{Letter}

@@ -7,8 +7,8 @@ use mathlib.Core.List.{List, [], _∷_, _++_, append-assoc}
 use native.Mathlib.Omega.{arith}
 use lib.ListN.{length, drop, length-append}
 use Rattle.text_classes.specs.Classes.{wschar}
-use Rattle.text.specs.Utf8.{encodeScalar, encodes, All}
-use Rattle.text.proofs.EncodeLaws.{encode-length}
+use Rattle.text_scalars.specs.Utf8.{encodeScalar, encodes, All}
+use Rattle.text_scalars.proofs.EncodeLaws.{encode-length}
 use Rattle.lexer_token.specs.declared.TokenKind.{TokenKind}
 use Rattle.text_classes.specs.Runs.{triple}
 use Rattle.lexer_scans.specs.Extents.{lineTail}

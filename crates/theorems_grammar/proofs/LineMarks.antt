@@ -10,9 +10,9 @@ use lib.ListN.{length, take, getD, length-append}
 use lib.Seq.{take-at, getD-append-add}
 use lib.Dec.{ltb}
 use borrow.Author.Tests.{eqb-true, ltb-true}
-use Rattle.text.specs.Utf8.{Scalar, encodes, All}
-use Rattle.text.proofs.EncodeLaws.{encode-1}
-use Rattle.text.proofs.ReadLaws.{encodes-append}
+use Rattle.text_scalars.specs.Utf8.{Scalar, encodes, All}
+use Rattle.text_scalars.proofs.EncodeLaws.{encode-1}
+use Rattle.text_scalars.proofs.ReadLaws.{encodes-append}
 use Rattle.decoder_rules.specs.declared.Encoding.{Encoding}
 use Rattle.decoder_rules.specs.declared.Ends.{Ends}
 use Rattle.decoder_rules.specs.declared.DecodeError.{DecodeError}

@@ -6,7 +6,7 @@ use mathlib.Core.List.{List, [], _∷_, _++_}
 use native.Mathlib.Omega.{arith}
 use lib.ListN.{length, take, drop, getD, take-append-drop, drop-of-length-le}
 use lib.Seq.{drop-cons}
-use Rattle.text.specs.Utf8.{All}
+use Rattle.text_scalars.specs.Utf8.{All}
 
 pub all-weaken : {P Q : ℕ → Type 0} → ((c : ℕ) → P c → Q c) → (t : List ℕ) → All P t → All Q t
 all-weaken f [] h = tt

@@ -8,8 +8,8 @@ use native.Mathlib.Omega.{arith}
 use Rattle.text_classes.specs.Classes.{literalChar}
 use Rattle.text_classes.specs.Runs.{run}
 use Rattle.text_classes.proofs.Conds.{cond-case}
-use Rattle.text.specs.Utf8.{Scalar, encodeScalar, encodes, All}
-use Rattle.text.proofs.EncodeLaws.{encode-1}
+use Rattle.text_scalars.specs.Utf8.{Scalar, encodeScalar, encodes, All}
+use Rattle.text_scalars.proofs.EncodeLaws.{encode-1}
 use Rattle.decoder_rules.specs.declared.Encoding.the-variants.{LiteralString as LiteralText}
 use Rattle.decoder_rules.specs.declared.Verdict.the-variants.{Clean}
 use Rattle.decoder_rules.specs.Pieces.{Pieces}

@@ -13,8 +13,8 @@ use borrow.Author.Tests.{eqb-true, ne-eqb}
 use Rattle.text_classes.specs.Classes.{wschar, mlbUnescaped}
 use Rattle.text_classes.specs.Runs.{run, firstIs}
 use Rattle.text_classes.proofs.Conds.{cond-case, by-eq, or-left, or-inv}
-use Rattle.text.specs.Utf8.{encodeScalar}
-use Rattle.text.proofs.EncodeLaws.{parts}
+use Rattle.text_scalars.specs.Utf8.{encodeScalar}
+use Rattle.text_scalars.proofs.EncodeLaws.{parts}
 use Rattle.decoder_rules.specs.declared.Edition.{Edition}
 use Rattle.decoder_rules.specs.declared.Piece.{Piece}
 use Rattle.decoder_rules.specs.declared.Verdict.the-variants.{Clean}

@@ -12,10 +12,10 @@ use lib.ListN.{length, length-append}
 use lib.Dec.{eqb}
 use borrow.Author.Tests.{eqb-true}
 use Rattle.text_classes.specs.Classes.{wschar, mlbUnescaped}
-use Rattle.text.specs.Utf8.{Scalar, encodeScalar, encodes, All}
-use Rattle.text.proofs.EncodeLaws.{encode-1}
-use Rattle.text.proofs.ReadLaws.{encodes-append}
-use Rattle.text.proofs.CutLaws.{all-append, all-parts}
+use Rattle.text_scalars.specs.Utf8.{Scalar, encodeScalar, encodes, All}
+use Rattle.text_scalars.proofs.EncodeLaws.{encode-1}
+use Rattle.text_scalars.proofs.ReadLaws.{encodes-append}
+use Rattle.text_scalars.proofs.CutLaws.{all-append, all-parts}
 use Rattle.decoder_rules.specs.declared.Edition.{Edition}
 use Rattle.decoder_rules.specs.declared.Encoding.the-variants.{MlBasicString as MlBasicText}
 use Rattle.decoder_rules.specs.Encodings.{mlbPlain}

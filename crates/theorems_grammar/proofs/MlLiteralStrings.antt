@@ -12,9 +12,9 @@ use borrow.Author.Tests.{eqb-true}
 use Rattle.text_classes.specs.Classes.{mllChar}
 use Rattle.text_classes.specs.Runs.{run}
 use Rattle.text_classes.proofs.Conds.{cond-case, by-eq, or-left, or-inv}
-use Rattle.text.specs.Utf8.{Scalar, encodeScalar, encodes, All}
-use Rattle.text.proofs.EncodeLaws.{encode-1}
-use Rattle.text.proofs.ReadLaws.{encodes-append}
+use Rattle.text_scalars.specs.Utf8.{Scalar, encodeScalar, encodes, All}
+use Rattle.text_scalars.proofs.EncodeLaws.{encode-1}
+use Rattle.text_scalars.proofs.ReadLaws.{encodes-append}
 use Rattle.decoder_rules.specs.declared.Encoding.the-variants.{MlLiteralString as MlLiteralText}
 use Rattle.decoder_rules.specs.Encodings.{mllPlain}
 use Rattle.decoder_rules.specs.declared.Verdict.the-variants.{Clean}

@@ -7,9 +7,9 @@ use mathlib.Core.Bool.{Bool, false}
 use mathlib.Core.List.{List, [], _∷_, _++_}
 use native.Mathlib.Omega.{arith}
 use lib.ListN.{length, length-append}
-use Rattle.text.specs.Utf8.{Scalar, encodeScalar, encodes, All}
-use Rattle.text.proofs.ReadLaws.{encodes-append}
-use Rattle.text.proofs.CutLaws.{all-parts}
+use Rattle.text_scalars.specs.Utf8.{Scalar, encodeScalar, encodes, All}
+use Rattle.text_scalars.proofs.ReadLaws.{encodes-append}
+use Rattle.text_scalars.proofs.CutLaws.{all-parts}
 use Rattle.decoder_rules.specs.Pieces.{notesAt, Pieces, collect}
 use Rattle.theorems_grammar.specs.Strings.{Apart}
 use Rattle.theorems_grammar.proofs.Reading.{ErrorFree, Reads}

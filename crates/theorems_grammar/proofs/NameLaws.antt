@@ -2,8 +2,8 @@
 -- Assumes nothing.
 use Prim.Native.Nat.{ℕ}
 use mathlib.Core.List.{List, _++_}
-use Rattle.text.specs.Utf8.{Scalar, All}
-use Rattle.text.proofs.CutLaws.{all-parts}
+use Rattle.text_scalars.specs.Utf8.{Scalar, All}
+use Rattle.text_scalars.proofs.CutLaws.{all-parts}
 use Rattle.decoder_rules.specs.declared.Edition.{Edition}
 use Rattle.theorems_grammar.specs.Grammar.{EscapeSeqChar, x22, x5C, x62, x66, x6E, x72, x74, x75, x55, x65, x78, Escaped, escaped, BasicChar, BasicChars, BasicString, basic-string, MlbChar, MlbContent, mlb-char, newline, escaped-nl, MlbContents, MlbContents1, some-content, MlbGroups, ml-basic-body, MlBasicString, ml-basic-string}
 use Rattle.theorems_grammar.specs.Scalars.{Names, EscapedNames, CharNames, CharsName, BasicNames, MlbCharNames, ContentNames, ContentsName, Contents1Name, GroupsName, MlBasicNames}

@@ -10,9 +10,9 @@ use native.Mathlib.Omega.{arith}
 use lib.ListN.{length, drop, length-append}
 use lib.Dec.{eqb}
 use borrow.Author.Tests.{ne-eqb, eq-eqb}
-use Rattle.text.specs.Utf8.{encodes, All}
-use Rattle.text.proofs.EncodeLaws.{parts, encode-1}
-use Rattle.text.proofs.ReadLaws.{encodes-append}
+use Rattle.text_scalars.specs.Utf8.{encodes, All}
+use Rattle.text_scalars.proofs.EncodeLaws.{parts, encode-1}
+use Rattle.text_scalars.proofs.ReadLaws.{encodes-append}
 use Rattle.text_classes.specs.Runs.{stands, triple}
 use Rattle.lexer_scans.specs.Extents.{hides}
 use Rattle.lexer_scans.specs.Extents.{lineTail, upToTwo, mlTail}

@@ -9,7 +9,7 @@ use native.Mathlib.Omega.{arith}
 use lib.ListN.{length, length-append, take, drop}
 use lib.Seq.{take-at, drop-at}
 use Rattle.text_classes.specs.Runs.{run}
-use Rattle.text.specs.Utf8.{encodeScalar, encodes, All}
+use Rattle.text_scalars.specs.Utf8.{encodeScalar, encodes, All}
 use Rattle.decoder_rules.specs.declared.Piece.{Piece}
 use Rattle.decoder_rules.specs.declared.Verdict.the-variants.{Clean}
 use Rattle.decoder_rules.specs.Pieces.{gives, notes, notesAt, Pieces, collect, copyPiece, charPiece, dropPiece}

@@ -4,8 +4,8 @@ use Prim.Native.Nat.{ℕ, _<_}
 use mathlib.Core.Logic.{inl, inr}
 use mathlib.Core.List.{List, [], _∷_, _++_}
 use native.Mathlib.Omega.{arith}
-use Rattle.text.specs.Utf8.{Scalar, All}
-use Rattle.text.proofs.CutLaws.{all-append}
+use Rattle.text_scalars.specs.Utf8.{Scalar, All}
+use Rattle.text_scalars.proofs.CutLaws.{all-append}
 use Rattle.decoder_rules.specs.declared.Edition.{Edition}
 use Rattle.theorems_grammar.specs.Grammar.{Wschar, Ws, Newline, OptNewline, NonAscii, x80-D7FF, xE000-10FFFF, BasicUnescaped, HexDig, digit, upper, lower, HexDigits, EscapeSeqChar, x22, x5C, x62, x66, x6E, x72, x74, x75, x55, x65, x78, Escaped, escaped, BasicChar, BasicChars, BasicString, basic-string, MlbUnescaped, MlbChar, WscharNewline, WscharNewlines, MlbEscapedNl, mlb-escaped-nl, MlbContent, mlb-char, escaped-nl, MlbContents, MlbContents1, MlbQuotes, MlbGroups, OptMlbQuotes, MlBasicBody, ml-basic-body, MlBasicString, ml-basic-string, LiteralChar, LiteralChars, LiteralString, literal-string, MllChar, MllContent, mll-char, MllContents, MllContents1, MllQuotes, MllGroups, OptMllQuotes, MlLiteralBody, ml-literal-body, MlLiteralString, ml-literal-string}
 use Rattle.theorems_grammar.specs.Strings.{StringKind, literal, basic, ml-literal, ml-basic}

@@ -10,7 +10,7 @@ use lib.ListN.{length}
 use Rattle.text_classes.specs.Classes.{wschar, literalChar, mllChar, basicUnescaped, mlbUnescaped, hexdig}
 use Rattle.text_classes.specs.Runs.{run, triple}
 use Rattle.text_classes.proofs.Conds.{not-both}
-use Rattle.text.specs.Utf8.{encodeScalar, encodes}
+use Rattle.text_scalars.specs.Utf8.{encodeScalar, encodes}
 use Rattle.decoder_rules.specs.declared.Edition.{Edition}
 use Rattle.decoder_rules.specs.declared.Edition.the-variants.{Toml10, Toml11}
 use Rattle.decoder_rules.specs.Encodings.{mllPlain, mlbPlain, basicInvalid}

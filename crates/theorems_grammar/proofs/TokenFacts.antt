@@ -12,8 +12,8 @@ use lib.Seq.{drop-drop}
 use borrow.Author.Tests.{le-ltb, ltb-false, ne-eqb}
 use lib.Dec.{ltb}
 use Rattle.text_classes.proofs.Conds.{cond-case, by-lt, by-eq}
-use Rattle.text.specs.Utf8.{Utf8}
-use Rattle.text.specs.Refusals.{limit}
+use Rattle.text_scalars.specs.Utf8.{Utf8}
+use Rattle.text_refusals.specs.Refusals.{limit}
 use Rattle.lexer_token.specs.declared.TokenKind.{TokenKind}
 use Rattle.lexer_token.specs.declared.Token.{Token}
 use Rattle.lexer_token.specs.Records.{tokenOf}

@@ -11,9 +11,9 @@ use lib.ListN.{length, take, drop, getD, length-append, take-append-drop, length
 use lib.Seq.{take-at, drop-at, drop-drop}
 use lib.Dec.{eqb, leb}
 use borrow.Author.Tests.{eqb-true, eq-eqb, ne-eqb, leb-true, le-leb}
-use Rattle.text.specs.Utf8.{Scalar, encodes, All}
-use Rattle.text.proofs.EncodeLaws.{parts, encode-1}
-use Rattle.text.proofs.ReadLaws.{encodes-append}
+use Rattle.text_scalars.specs.Utf8.{Scalar, encodes, All}
+use Rattle.text_scalars.proofs.EncodeLaws.{parts, encode-1}
+use Rattle.text_scalars.proofs.ReadLaws.{encodes-append}
 use Rattle.decoder_rules.specs.declared.Encoding.{Encoding}
 use Rattle.decoder_rules.specs.declared.Ends.{Ends}
 use Rattle.decoder_rules.specs.Encodings.{markError}

@@ -5,8 +5,8 @@ use mathlib.Core.Logic.{inl}
 use mathlib.Core.Bool.{Bool, false}
 use mathlib.Core.List.{List, [], _∷_, _++_}
 use native.Mathlib.Omega.{arith}
-use Rattle.text.specs.Utf8.{Scalar, All}
-use Rattle.text.proofs.CutLaws.{all-append, all-parts}
+use Rattle.text_scalars.specs.Utf8.{Scalar, All}
+use Rattle.text_scalars.proofs.CutLaws.{all-append, all-parts}
 use Rattle.decoder_rules.specs.declared.Edition.{Edition}
 use Rattle.theorems_grammar.specs.Grammar.{apostrophe, quotation-mark, LiteralString, literal-string, EscapeSeqChar, x22, x5C, x62, x66, x6E, x72, x74, x75, x55, x65, x78, Escaped, escaped, BasicChar, BasicChars, BasicString, basic-string, ml-literal-string-delim, MlLiteralString, ml-literal-string, MlbChar, MlbContent, mlb-char, newline, escaped-nl, ml-basic-string-delim, MlBasicString, ml-basic-string}
 use Rattle.theorems_grammar.specs.Scalars.{Names, EscapedNames, CharNames, CharsName, BasicNames, MlbCharNames, ContentNames, MlBasicNames, NamesMean}

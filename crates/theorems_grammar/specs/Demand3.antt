@@ -16,7 +16,8 @@
 use Prim.Native.Nat.{ℕ, _+_, _≤_, _<_}
 use mathlib.Core.{Path._≡_, Logic._↔_, List.List, List.[], List._++_, List.List·Memᴰ}
 use lib.{ListN.length, ListN.drop}
-use Rattle.text.specs.{Utf8.Scalar, Utf8.encodes, Utf8.All, Utf8.Utf8, Refusals.limit}
+use Rattle.text_scalars.specs.{Utf8.Scalar, Utf8.encodes, Utf8.All, Utf8.Utf8}
+use Rattle.text_refusals.specs.{Refusals.limit}
 use Rattle.decoder_rules.specs.declared.{Edition.Edition, Decoded.Decoded, Decoded.the-variants.Written}
 use Rattle.decoder_rules.specs.{Encodings.choiceBy, Encodings.editionNumber, Decoding.bytesOf, Decoding.errorsOf, Decoding.bytesBy, Decoding.decodeIn, Decoding.after, Told.decodedNumber}
 use Rattle.lexer_token.specs.{KindNumbers.kindNumber, Records.tokenOf, Records.textOf}

@@ -4,7 +4,7 @@
 use Prim.Native.Nat.{ℕ, _≤_}
 use mathlib.Core.Logic.{_↔_}
 use mathlib.Core.List.{List}
-use Rattle.text.specs.Utf8.{Scalar, All}
+use Rattle.text_scalars.specs.Utf8.{Scalar, All}
 use Rattle.decoder_rules.specs.declared.Edition.{Edition}
 use Rattle.theorems_grammar.specs.Grammar.{NonAscii}
 use Rattle.theorems_grammar.specs.Strings.{StringKind, Derived}

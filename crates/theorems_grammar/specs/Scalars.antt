@@ -4,7 +4,7 @@
 -- Assumes nothing.
 use Prim.Native.Nat.{ℕ}
 use mathlib.Core.{Logic._↔_, List.List}
-use Rattle.text.specs.{Utf8.Scalar, Utf8.All}
+use Rattle.text_scalars.specs.{Utf8.Scalar, Utf8.All}
 use Rattle.decoder_rules.specs.declared.{Edition.Edition}
 use Rattle.theorems_grammar.specs.Grammar.{EscapeSeqChar, x22, x5C, x62, x66, x6E, x72, x74, x75, x55, x65, x78, Escaped, escaped, BasicChar, BasicChars, BasicString, basic-string, MlbChar, MlbContent, mlb-char, newline, escaped-nl, MlbContents, MlbContents1, some-content, MlbGroups, MlBasicBody, ml-basic-body, MlBasicString, ml-basic-string}
 

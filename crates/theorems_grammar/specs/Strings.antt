@@ -3,7 +3,7 @@
 use Prim.Native.Nat.{ℕ}
 use mathlib.Core.{Path._≡_, Bool.false, List.List}
 use Rattle.text_classes.specs.{Runs.stands}
-use Rattle.text.specs.{Utf8.Scalar, Utf8.All}
+use Rattle.text_scalars.specs.{Utf8.Scalar, Utf8.All}
 use Rattle.lexer_token.specs.declared.{TokenKind.TokenKind}
 use Rattle.lexer_token.specs.declared.TokenKind.the-variants.{LiteralString as LiteralToken, BasicString as BasicToken, MlLiteralString as MlLiteralToken, MlBasicString as MlBasicToken}
 use Rattle.decoder_rules.specs.declared.{Edition.Edition, Encoding.Encoding}

@@ -13,13 +13,13 @@ use lib.ListN.{length, take, drop, length-append, length-drop, length-map}
 use lib.Seq.{take-append-le, drop-append-le, take-append-add, drop-append-add, take-at}
 use lib.Dec.{eqb}
 use Rattle.text_classes.specs.Classes.{continuation}
-use Rattle.text.specs.Refusals.{limit}
-use Rattle.text.specs.Utf8.{Utf8}
+use Rattle.text_refusals.specs.Refusals.{limit}
+use Rattle.text_scalars.specs.Utf8.{Utf8}
 use Rattle.text.specs.CheckMeans.{checkOf}
 use Rattle.text.specs.declared.utf8.Utf8Check.the-variants.{Valid}
-use Rattle.text.proofs.ReadLaws.{utf8-iff}
+use Rattle.text_scalars.proofs.ReadLaws.{utf8-iff}
 use Rattle.text.proofs.AnswerLaws.{answer-valid}
-use Rattle.text.proofs.CutLaws.{utf8-append}
+use Rattle.text_scalars.proofs.CutLaws.{utf8-append}
 use Rattle.lexer_token.specs.declared.Token.{Token}
 use Rattle.lexer_token.specs.Records.{recordOf, textOf}
 use Rattle.lexer.specs.Lines.{lineOf}

@@ -9,8 +9,8 @@ use native.Mathlib.Omega.{arith}
 use lib.ListN.{length}
 use Rattle.text_classes.specs.Classes.{wschar, tokenStart}
 use Rattle.text_classes.specs.Runs.{run, triple}
-use Rattle.text.specs.Utf8.{encodeScalar}
-use Rattle.text.proofs.CutLaws.{one-utf8}
+use Rattle.text_scalars.specs.Utf8.{encodeScalar}
+use Rattle.text_scalars.proofs.CutLaws.{one-utf8}
 use Rattle.lexer_scans.specs.Extents.{mlTail, newlineTail}
 use Rattle.lexer.specs.Table.{kindBy, kindOf, extent, tokenLen}
 use Rattle.lexer.specs.Tokens.{walk, tokensFrom, startOf, tokensOf}

@@ -11,8 +11,8 @@ use mathlib.Core.Bool.{false}
 use mathlib.Core.Option.{some}
 use mathlib.Core.List.{List, [], _∷_, _++_, map, flatten, head?, getLast?, dropLast, List·Memᴰ}
 use lib.ListN.{length, getD, take, drop}
-use Rattle.text.specs.Refusals.{limit}
-use Rattle.text.specs.Utf8.{Utf8}
+use Rattle.text_refusals.specs.Refusals.{limit}
+use Rattle.text_scalars.specs.Utf8.{Utf8}
 use Rattle.lexer_token.specs.declared.TokenKind.{TokenKind}
 use Rattle.lexer_token.specs.declared.TokenKind.the-variants.{Newline}
 use Rattle.lexer_token.specs.declared.Token.{Token}

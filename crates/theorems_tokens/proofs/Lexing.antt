@@ -11,11 +11,11 @@ use borrow.Author.Tests.{le-ltb, eq-eqb, ne-eqb}
 use lib.Dec.{eqb, ltb}
 use lib.ListN.{length, getD, take, drop, length-drop, drop-of-length-le}
 use lib.Seq.{drop-drop}
-use Rattle.text.specs.Refusals.{limit}
-use Rattle.text.specs.Utf8.{Utf8, encodeScalar, encodes}
-use Rattle.text.specs.Utf8Read.{scalars}
-use Rattle.text.proofs.ReadLaws.{scalars-char, encodes-of, front}
-use Rattle.text.proofs.CutLaws.{one-utf8, cut, ascii-cut, utf8-append}
+use Rattle.text_refusals.specs.Refusals.{limit}
+use Rattle.text_scalars.specs.Utf8.{Utf8, encodeScalar, encodes}
+use Rattle.text_scalars.specs.Utf8Read.{scalars}
+use Rattle.text_scalars.proofs.ReadLaws.{scalars-char, encodes-of, front}
+use Rattle.text_scalars.proofs.CutLaws.{one-utf8, cut, ascii-cut, utf8-append}
 use Rattle.lexer_token.specs.declared.TokenKind.the-variants.{Eof}
 use Rattle.lexer_token.specs.declared.Token.{Token}
 use Rattle.lexer_token.specs.Records.{tokenOf, recordOf}

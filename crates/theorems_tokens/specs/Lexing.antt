@@ -4,8 +4,8 @@ use Prim.Native.Nat.{ℕ, zero, suc, _+_, _-_, _≤_, _<_}
 use mathlib.Core.Path.{_≡_}
 use mathlib.Core.List.{List, [], _∷_, map, List·Memᴰ}
 use lib.ListN.{length, getD, take, drop}
-use Rattle.text.specs.Refusals.{limit}
-use Rattle.text.specs.Utf8.{Utf8}
+use Rattle.text_refusals.specs.Refusals.{limit}
+use Rattle.text_scalars.specs.Utf8.{Utf8}
 use Rattle.lexer_token.specs.declared.TokenKind.the-variants.{Eof}
 use Rattle.lexer_token.specs.declared.Token.{Token}
 use Rattle.lexer_token.specs.Records.{tokenOf, textOf}

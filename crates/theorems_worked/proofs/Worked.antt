@@ -3,7 +3,7 @@
 use mathlib.Core.Path.{refl}
 use Rattle.text_classes.specs.Classes.{wschar, tokenStart, literalChar, mllChar, basicUnescaped, mlbUnescaped, hexdig, unquotedChar}
 use Rattle.text_classes.specs.Runs.{run, triple}
-use Rattle.text.specs.Utf8.{encodeScalar}
+use Rattle.text_scalars.specs.Utf8.{encodeScalar}
 use Rattle.decoder_rules.specs.Encodings.{choiceIn, choiceBy, mllPlain, mlbPlain, basicInvalid, mlbInvalid}
 use Rattle.decoder_rules.specs.Pieces.{gives, notes}
 use Rattle.decoder_rules.specs.Escapes.{letterOf, hexValue, hexFrom, hexPiece, escapePiece}

@@ -9,8 +9,8 @@ use native.Mathlib.Nat.{zero-add, add-zero, sub-zero}
 use native.Mathlib.Omega.{arith}
 use lib.ListN.{length, take, drop-of-length-le}
 use lib.Seq.{take-all}
-use Rattle.text.specs.Utf8.{Scalar, All, encodes}
-use Rattle.text.specs.Refusals.{limit}
+use Rattle.text_scalars.specs.Utf8.{Scalar, All, encodes}
+use Rattle.text_refusals.specs.Refusals.{limit}
 use Rattle.decoder_rules.specs.declared.Edition.{Edition}
 use Rattle.decoder_rules.specs.declared.Edition.the-variants.{Toml10}
 use Rattle.lexer_token.specs.declared.Token.{Token}

@@ -10,10 +10,10 @@ use lib.ListN.{length, length-append}
 use Rattle.text_classes.specs.Classes.{basicUnescaped, literalChar}
 use Rattle.text_classes.specs.Runs.{run}
 use Rattle.text_classes.proofs.Conds.{cond-case}
-use Rattle.text.specs.Utf8.{Scalar, All, encodeScalar, encodes}
-use Rattle.text.proofs.EncodeLaws.{encode-1}
-use Rattle.text.proofs.ReadLaws.{encodes-append}
-use Rattle.text.proofs.CutLaws.{all-parts}
+use Rattle.text_scalars.specs.Utf8.{Scalar, All, encodeScalar, encodes}
+use Rattle.text_scalars.proofs.EncodeLaws.{encode-1}
+use Rattle.text_scalars.proofs.ReadLaws.{encodes-append}
+use Rattle.text_scalars.proofs.CutLaws.{all-parts}
 use Rattle.decoder_rules.specs.declared.Edition.{Edition}
 use Rattle.decoder_rules.specs.declared.Edition.the-variants.{Toml10}
 use Rattle.decoder_rules.proofs.AsciiLaws.{basic-high, literal-high}

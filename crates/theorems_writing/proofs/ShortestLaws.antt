@@ -11,10 +11,10 @@ use lib.ListN.{length}
 use borrow.Author.Tests.{lt-ltb, le-ltb}
 use Rattle.text_classes.specs.Classes.{literalChar}
 use Rattle.text_classes.specs.Runs.{run}
-use Rattle.text.specs.Utf8.{Scalar, All, encodes, Utf8}
-use Rattle.text.specs.Refusals.{limit}
-use Rattle.text.specs.declared.refusal.Refusal.the-variants.{ShortOutput}
-use Rattle.text.proofs.ReadLaws.{utf8-iff}
+use Rattle.text_scalars.specs.Utf8.{Scalar, All, encodes, Utf8}
+use Rattle.text_refusals.specs.Refusals.{limit}
+use Rattle.text_refusals.specs.declared.Refusal.the-variants.{ShortOutput}
+use Rattle.text_scalars.proofs.ReadLaws.{utf8-iff}
 use Rattle.text.proofs.AnswerLaws.{answer-valid}
 use Rattle.decoder_rules.specs.declared.Edition.{Edition}
 use Rattle.decoder_rules.specs.declared.Edition.the-variants.{Toml10}

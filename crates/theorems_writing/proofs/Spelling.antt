@@ -8,8 +8,8 @@ use native.Mathlib.Omega.{arith}
 use lib.ListN.{length}
 use Rattle.text_classes.specs.Classes.{basicUnescaped}
 use Rattle.text_classes.proofs.Conds.{cond-case, by-lt, by-eq, not-both}
-use Rattle.text.specs.Utf8.{Scalar, encodeScalar, encodes}
-use Rattle.text.proofs.EncodeLaws.{encode-length}
+use Rattle.text_scalars.specs.Utf8.{Scalar, encodeScalar, encodes}
+use Rattle.text_scalars.proofs.EncodeLaws.{encode-length}
 use Rattle.decoder_rules.specs.declared.Edition.{Edition}
 use Rattle.decoder_rules.specs.declared.Edition.the-variants.{Toml10, Toml11}
 use Rattle.decoder_rules.proofs.AsciiLaws.{basic-high}

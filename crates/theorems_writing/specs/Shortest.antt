@@ -13,8 +13,9 @@
 use Prim.Native.Nat.{ℕ, _+_, _≤_, _<_}
 use mathlib.Core.{Path._≡_, List.List, List.[], List._∷_, List._++_, List.List·Memᴰ}
 use lib.{ListN.length, ListN.drop}
-use Rattle.text.specs.{Utf8.encodes, Utf8.Utf8, Refusals.limit}
-use Rattle.text.specs.declared.refusal.Refusal.the-variants.{ShortOutput}
+use Rattle.text_scalars.specs.{Utf8.encodes, Utf8.Utf8}
+use Rattle.text_refusals.specs.{Refusals.limit}
+use Rattle.text_refusals.specs.declared.Refusal.the-variants.{ShortOutput}
 use Rattle.decoder_rules.specs.declared.{Edition.Edition, Edition.the-variants.Toml10, Decoded.the-variants.Written}
 use Rattle.decoder_rules.specs.{Decoding.bytesOf, Decoding.errorsOf}
 use Rattle.lexer_token.specs.{Records.tokenOf, declared.Token.Token}

@@ -5,7 +5,7 @@ use mathlib.Core.Path.{sym, ap, _∙_}
 use native.Mathlib.Omega.{arith}
 use borrow.Author.Needs.{needs}
 use lib.ListN.{length, length-append}
-use Rattle.text.specs.Refusals.{limit}
+use Rattle.text_refusals.specs.Refusals.{limit}
 use Rattle.decoder_rules.specs.Pieces.{notesOf}
 use Rattle.decoder_rules.proofs.PieceLaws.{verdict-few}
 use Rattle.decoder_marks.proofs.OpenLaws.{opened-bytes, opened-errors}

@@ -4,7 +4,7 @@ use borrow.Author.Needs.{needs}
 use Prim.Native.Nat.{_<_}
 use native.Mathlib.Omega.{arith}
 use borrow.Author.Tests.{ltb-true}
-use Rattle.text.proofs.FieldLaws.{bits-left, bits-right}
+use Rattle.text_scalars.proofs.FieldLaws.{bits-left, bits-right}
 use lib.Bits.{bitOr}
 use Rattle.decoder_rules.proofs.PlainLaws.{clear-few}
 use Rattle.decoder_plain.proofs.is_clear_few.Statement.{statement}

@@ -7,7 +7,7 @@ use native.Mathlib.Omega.{arith}
 use borrow.Author.Needs.{needs}
 use borrow.Author.Tests.{ltb-true}
 use lib.Bits.{bitOr}
-use Rattle.text.proofs.FieldLaws.{bits-left, bits-right}
+use Rattle.text_scalars.proofs.FieldLaws.{bits-left, bits-right}
 use Rattle.decoder_rules.proofs.PlainLaws.{ClearIn, clear-none, clear-more}
 use Rattle.decoder_plain.proofs.is_clear_pair.Statement.{statement}
 use Rattle.decoder_plain.proofs.is_clear_pair.Tie as tie

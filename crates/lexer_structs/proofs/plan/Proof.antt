@@ -9,8 +9,8 @@ use lib.Dec.{eqb}
 use denote.Enum.Declared.{tagOf}
 use Rattle.text_classes.proofs.Conds.{not-both}
 use Rattle.text_classes.proofs.ByteTable.{keys-are}
-use Rattle.text.specs.declared.refusal.Refusal.{Refusal}
-use Rattle.text.proofs.refusal.Refusal as refusal
+use Rattle.text_refusals.specs.declared.Refusal.{Refusal}
+use Rattle.text_refusals.proofs.Refusal as refusal
 use Rattle.lexer.specs.declared.Lexed.the-variants.{Refused}
 use Rattle.lexer_structs.proofs.PlanLaws.{plan-tokens, plan-few, plan-other}
 use borrow.Author.Needs.{needs}

@@ -6,7 +6,7 @@ use mathlib.Core.Path.{_≡_, refl, ap}
 use native.Mathlib.Omega.{arith}
 use borrow.Author.Needs.{needs}
 use lib.ListN.{length}
-use Rattle.text.proofs.EncodeLaws.{encode-1}
+use Rattle.text_scalars.proofs.EncodeLaws.{encode-1}
 use Rattle.decoder.proofs.WriteLaws.{encoded-len, encoded-fits, encoded-few, encoded-bytes}
 use Rattle.decoder.proofs.write.put_char.Statement.{statement}
 use Rattle.decoder.proofs.write.put_char.Tie as tie

@@ -2,7 +2,7 @@
 -- Assumes nothing.
 use mathlib.Core.Path.{refl}
 use borrow.Author.Tests.{ne-eqb}
-use Rattle.text.specs.declared.refusal.Refusal.the-variants.{NoKind}
+use Rattle.text_refusals.specs.declared.Refusal.the-variants.{NoKind}
 use Rattle.lexer_token.specs.declared.TokenKind.the-variants.{Dot, Equals, Comma, LeftSquareBracket, RightSquareBracket, LeftCurlyBracket, RightCurlyBracket, Whitespace, Comment, Newline, LiteralString, BasicString, MlLiteralString, MlBasicString, Atom, Eof}
 use Rattle.lexer_token.specs.declared.KindRead.the-variants.{Kind, Refused}
 use Rattle.lexer_token.specs.KindNumbers.{kindOfNumber}

@@ -5,8 +5,8 @@ use Prim.Native.Nat.{_+_, _-_, _≤_, _<_}
 use native.Mathlib.Omega.{arith}
 use borrow.Author.Tests.{ltb-true, lt-ltb}
 use lib.ListN.{getD}
-use Rattle.text.specs.Utf8Read.{ascii}
-use Rattle.text.proofs.FieldLaws.{bits-left, bits-right}
+use Rattle.text_scalars.specs.Utf8Read.{ascii}
+use Rattle.text_scalars.proofs.FieldLaws.{bits-left, bits-right}
 use Rattle.text_classes.proofs.RunLaws.{Block, block-start, block-step, block-end}
 use Rattle.text.proofs.utf8.ascii_block.Statement.{statement}
 use Rattle.text.proofs.utf8.ascii_block.Tie as tie

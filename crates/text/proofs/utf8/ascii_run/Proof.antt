@@ -5,7 +5,7 @@ use mathlib.Core.Logic.{⊎-elim}
 use native.Mathlib.Omega.{arith}
 use borrow.Author.Tests.{lt-ltb, le-ltb}
 use lib.ListN.{length}
-use Rattle.text.specs.Utf8Read.{ascii}
+use Rattle.text_scalars.specs.Utf8Read.{ascii}
 use Rattle.text_classes.specs.Runs.{run}
 use Rattle.text_classes.proofs.RunLaws.{run-stop, run-end, SameEnd, same-end-byte, same-end-reached}
 use Rattle.text.proofs.utf8.ascii_run.Statement.{statement}

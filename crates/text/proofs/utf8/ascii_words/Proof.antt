@@ -4,7 +4,7 @@ use Prim.Native.Nat.{_-_}
 use native.Mathlib.Omega.{arith}
 use borrow.Author.Tests.{not-false}
 use lib.ListN.{length}
-use Rattle.text.specs.Utf8Read.{ascii}
+use Rattle.text_scalars.specs.Utf8Read.{ascii}
 use Rattle.text_classes.specs.Runs.{run}
 use Rattle.text_classes.proofs.RunLaws.{SameEnd, same-end-start, same-end-block}
 use Rattle.text.proofs.utf8.ascii_words.Statement.{statement}

@@ -6,7 +6,7 @@ use borrow.Author.Tests.{not-false}
 use native.Mathlib.Omega.{arith}
 use lib.Count.{leading-le}
 use lib.ListN.{length, getD}
-use Rattle.text.specs.Utf8Read.{Along}
+use Rattle.text_scalars.specs.Utf8Read.{Along}
 use Rattle.text.proofs.CharLaws.{along-ascii, along-whole}
 use Rattle.text.proofs.utf8.chars_run.Statement.{statement}
 use Rattle.text.proofs.utf8.chars_run.Tie as tie

@@ -6,8 +6,8 @@ use mathlib.Core.Path.{_≡_}
 use native.Mathlib.Omega.{arith}
 use borrow.Author.Needs.{needs}
 use lib.ListN.{length, drop}
-use Rattle.text.specs.Utf8Read.{validPrefix}
-use Rattle.text.proofs.ReadLaws.{valid-end}
+use Rattle.text_scalars.specs.Utf8Read.{validPrefix}
+use Rattle.text_scalars.proofs.ReadLaws.{valid-end}
 use Rattle.text.proofs.AnswerLaws.{answer-long, answer-ascii, answer-valid, answer-broken, told}
 use Rattle.text.proofs.utf8.check_utf8.Statement.{statement}
 use Rattle.text.proofs.utf8.check_utf8.Tie as tie

@@ -4,7 +4,7 @@ use Prim.Native.Nat.{_-_}
 use borrow.Author.Tests.{not-false}
 use native.Mathlib.Omega.{arith}
 use lib.ListN.{length}
-use Rattle.text.specs.Utf8Read.{Along}
+use Rattle.text_scalars.specs.Utf8Read.{Along}
 use Rattle.text.proofs.CharLaws.{along-whole}
 use Rattle.text.proofs.utf8.fours_run.Statement.{statement}
 use Rattle.text.proofs.utf8.fours_run.Tie as tie

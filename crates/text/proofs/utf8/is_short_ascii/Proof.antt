@@ -6,7 +6,7 @@ use native.Mathlib.Omega.{arith}
 use borrow.Author.Needs.{needs}
 use borrow.Author.Tests.{not-false}
 use lib.ListN.{length}
-use Rattle.text.specs.Utf8Read.{ascii}
+use Rattle.text_scalars.specs.Utf8Read.{ascii}
 use Rattle.text.proofs.WordLaws.{whole-run}
 use Rattle.text.proofs.utf8.is_short_ascii.Statement.{statement}
 use Rattle.text.proofs.utf8.is_short_ascii.Tie as tie

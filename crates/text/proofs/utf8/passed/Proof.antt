@@ -5,7 +5,7 @@ use native.Mathlib.Omega.{arith}
 use borrow.Author.Needs.{needs}
 use borrow.Author.Tests.{lt-ltb}
 use lib.ListN.{length-drop, drop}
-use Rattle.text.proofs.ReadLaws.{char-le, passed-ascii, passed-char}
+use Rattle.text_scalars.proofs.ReadLaws.{char-le, passed-ascii, passed-char}
 use Rattle.text.proofs.utf8.passed.Statement.{statement}
 use Rattle.text.proofs.utf8.passed.Tie as tie
 

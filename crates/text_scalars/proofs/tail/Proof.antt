@@ -1,9 +1,9 @@
 -- `tail` is right because the mark 10 stands above the six bits that the mask leaves.
 -- Assumes nothing.
 use native.Mathlib.Omega.{arith}
-use Rattle.text.proofs.FieldLaws.{tail-or}
-use Rattle.text.proofs.utf8.tail.Statement.{statement}
-use Rattle.text.proofs.utf8.tail.Tie as tie
+use Rattle.text_scalars.proofs.FieldLaws.{tail-or}
+use Rattle.text_scalars.proofs.tail.Statement.{statement}
+use Rattle.text_scalars.proofs.tail.Tie as tie
 
 cast-result : tie.Need-cast-result
 cast-result c = omega (arith, tail-or (c .args .c))

@@ -2,10 +2,10 @@
 -- Assumes nothing.
 use native.Mathlib.Omega.{arith}
 use borrow.Author.Needs.{needs}
-use Rattle.text.proofs.EncodeLaws.{encode-1, encode-2, encode-3, encode-4}
-use Rattle.text.proofs.FieldLaws.{lead-2, lead-3, lead-4}
-use Rattle.text.proofs.utf8.encode_scalar.Statement.{statement}
-use Rattle.text.proofs.utf8.encode_scalar.Tie as tie
+use Rattle.text_scalars.proofs.EncodeLaws.{encode-1, encode-2, encode-3, encode-4}
+use Rattle.text_scalars.proofs.FieldLaws.{lead-2, lead-3, lead-4}
+use Rattle.text_scalars.proofs.encode_scalar.Statement.{statement}
+use Rattle.text_scalars.proofs.encode_scalar.Tie as tie
 
 cast-t3 : tie.Need-cast-t3
 cast-t3 c = search needs

@@ -10,12 +10,12 @@ use lib.ListN.{length, getD, take, drop, length-append, length-drop, take-append
 use lib.Seq.{take-append-seam, drop-at, drop-nil, take-length, drop-drop, length-take-le}
 use lib.Dec.{eqb}
 use borrow.Author.Tests.{eqb-true, eq-eqb, ltb-true}
-use Rattle.text.specs.Utf8.{Scalar, encodeScalar, encodes, All, Utf8}
-use Rattle.text.specs.Utf8Read.{isScalar, ascii, guess, starts, charLen, character, scalarsFrom, scalars, validPrefix, CharsPassed}
+use Rattle.text_scalars.specs.Utf8.{Scalar, encodeScalar, encodes, All, Utf8}
+use Rattle.text_scalars.specs.Utf8Read.{isScalar, ascii, guess, starts, charLen, character, scalarsFrom, scalars, validPrefix, CharsPassed}
 use Rattle.text_classes.specs.Runs.{run}
 use Rattle.text_classes.proofs.Conds.{not-both}
 use Rattle.text_classes.proofs.RunLaws.{run-le, run-step}
-use Rattle.text.proofs.EncodeLaws.{encode-1, encode-length, guess-encode, scalar-true, true-scalar}
+use Rattle.text_scalars.proofs.EncodeLaws.{encode-1, encode-length, guess-encode, scalar-true, true-scalar}
 
 -- ---- one character
 

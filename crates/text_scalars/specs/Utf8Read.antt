@@ -7,7 +7,7 @@ use mathlib.Core.List.{List, [], _∷_}
 use mathlib.Core.Bool.{Bool, true, false, cond, _&&_, _||_}
 use lib.ListN.{length, getD, drop}
 use lib.Dec.{ltb, leb, eqb}
-use Rattle.text.specs.Utf8.{encodeScalar, encodes}
+use Rattle.text_scalars.specs.Utf8.{encodeScalar, encodes}
 
 -- `Scalar`, as a test
 abbrev pub isScalar : ℕ → Bool

@@ -2,8 +2,8 @@
 -- Assumes nothing.
 use native.Mathlib.Omega.{arith}
 use borrow.Author.Tests.{lt-ltb, le-ltb, le-leb, lt-leb}
-use Rattle.text.proofs.utf8.is_scalar.Statement.{statement}
-use Rattle.text.proofs.utf8.is_scalar.Tie as tie
+use Rattle.text_scalars.proofs.is_scalar.Statement.{statement}
+use Rattle.text_scalars.proofs.is_scalar.Tie as tie
 
 returns : tie.Need-returns
 returns c =

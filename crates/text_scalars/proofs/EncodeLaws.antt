@@ -10,8 +10,8 @@ use native.Mathlib.Decide.{decLt}
 use lib.ListN.{length}
 use lib.Dec.{ltb, leb}
 use borrow.Author.Tests.{ltb-true, leb-true, lt-ltb, le-ltb, le-leb}
-use Rattle.text.specs.Utf8.{Scalar, All, encodeScalar}
-use Rattle.text.specs.Utf8Read.{isScalar, guess}
+use Rattle.text_scalars.specs.Utf8.{Scalar, All, encodeScalar}
+use Rattle.text_scalars.specs.Utf8Read.{isScalar, guess}
 use Rattle.text_classes.proofs.Conds.{by-lt, not-both}
 
 -- the ranges of a scalar value: a range for each length, the third cut in two by the surrogates

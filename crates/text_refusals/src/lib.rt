@@ -1,10 +1,12 @@
-// The numbered refusals: what a call answers where its arguments cannot be served.
-// Rule: specs/Refusals.antt.
+// The numbered refusals: what a call answers where its arguments cannot be served. Rule: specs/Refusals.antt.
 ghost use mathlib.Core.Path.{_≡_};
-ghost use Rattle.text.specs.Refusals.{refusalNumber, refusalValue, refusalLength};
+ghost use Rattle.text_refusals.specs.Refusals.{refusalNumber, refusalValue, refusalLength};
 
 // The most bytes that a document or a text may have.
 pub const LIMIT: usize = 16777216;
+
+// The most brackets of a value that may be open at once.
+pub const DEPTH: usize = 64;
 
 // Why a call did not answer. Beside each stands its number, and after the semicolon what the value
 // returned with it is. Only the first returns a second value.
@@ -25,12 +27,18 @@ pub enum Refusal {
     OutOfPlace { length: usize },
     // 7: a number that is no kind that the call knows, or of no error; that number
     NoKind { number: usize },
+    // 8: a part, or the closing word, after the end; 0
+    AfterEnd,
     // 9: a number that is no edition of TOML; that number
     NoEdition { number: usize },
+    // 10: more brackets open at once than the depth; the depth
+    TooDeep,
     // 11: a number that is no reviewer; that number
     NoReviewer { number: usize },
     // 12: fewer marks than token records; the records
     FewMarks { needed: usize },
+    // 13: a total that would pass 64 bits; the greatest number of 64 bits
+    TotalFull,
 }
 
 impl Refusal {
@@ -49,9 +57,12 @@ impl Refusal {
             Refusal::FewErrors { needed: _ } => 5,
             Refusal::OutOfPlace { length: _ } => 6,
             Refusal::NoKind { number: _ } => 7,
+            Refusal::AfterEnd => 8,
             Refusal::NoEdition { number: _ } => 9,
+            Refusal::TooDeep => 10,
             Refusal::NoReviewer { number: _ } => 11,
             Refusal::FewMarks { needed: _ } => 12,
+            Refusal::TotalFull => 13,
         }
     }
 
@@ -67,9 +78,12 @@ impl Refusal {
             Refusal::FewErrors { needed } => needed,
             Refusal::OutOfPlace { length } => length,
             Refusal::NoKind { number } => number,
+            Refusal::AfterEnd => 0,
             Refusal::NoEdition { number } => number,
+            Refusal::TooDeep => DEPTH,
             Refusal::NoReviewer { number } => number,
             Refusal::FewMarks { needed } => needed,
+            Refusal::TotalFull => usize::MAX,
         }
     }
 
@@ -85,9 +99,12 @@ impl Refusal {
             Refusal::FewErrors { needed: _ } => 0,
             Refusal::OutOfPlace { length: _ } => 0,
             Refusal::NoKind { number: _ } => 0,
+            Refusal::AfterEnd => 0,
             Refusal::NoEdition { number: _ } => 0,
+            Refusal::TooDeep => 0,
             Refusal::NoReviewer { number: _ } => 0,
             Refusal::FewMarks { needed: _ } => 0,
+            Refusal::TotalFull => 0,
         }
     }
 }

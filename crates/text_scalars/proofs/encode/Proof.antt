@@ -2,10 +2,10 @@
 -- Assumes nothing.
 use mathlib.Core.Path.{sym, _∙_}
 use borrow.Author.Needs.{needs}
-use Rattle.text.specs.CheckMeans.{encodedOf}
-use Rattle.text.proofs.EncodeLaws.{true-scalar, scalar-lt}
-use Rattle.text.proofs.utf8.encode.Statement.{statement}
-use Rattle.text.proofs.utf8.encode.Tie as tie
+use Rattle.text_scalars.specs.Encode.{encodedOf}
+use Rattle.text_scalars.proofs.EncodeLaws.{true-scalar, scalar-lt}
+use Rattle.text_scalars.proofs.encode.Statement.{statement}
+use Rattle.text_scalars.proofs.encode.Tie as tie
 
 is-scalar-requires : tie.Need-is-scalar-requires
 is-scalar-requires c κs = search needs

@@ -8,10 +8,10 @@ use native.Mathlib.Omega.{arith}
 use native.Mathlib.Decide.{decLt}
 use lib.ListN.{length, getD, take, drop, take-append-drop}
 use lib.Seq.{drop-length, drop-cons}
-use Rattle.text.specs.Utf8.{Scalar, encodeScalar, encodes, All, Utf8}
-use Rattle.text.specs.Utf8Read.{scalars}
-use Rattle.text.proofs.EncodeLaws.{Tail, Parts, parts, encode-1}
-use Rattle.text.proofs.ReadLaws.{encodes-append, scalars-char, scalars-encodes, scalars-of}
+use Rattle.text_scalars.specs.Utf8.{Scalar, encodeScalar, encodes, All, Utf8}
+use Rattle.text_scalars.specs.Utf8Read.{scalars}
+use Rattle.text_scalars.proofs.EncodeLaws.{Tail, Parts, parts, encode-1}
+use Rattle.text_scalars.proofs.ReadLaws.{encodes-append, scalars-char, scalars-encodes, scalars-of}
 
 -- ---- joining
 

@@ -1,0 +1,5 @@
+pub mod FieldLaws
+pub mod EncodeLaws
+pub mod ReadLaws
+pub mod CutLaws
+pub mod OneAnswer
