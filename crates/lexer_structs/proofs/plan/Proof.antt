@@ -52,7 +52,7 @@ returns-2 c =
 returns-3 : tie.Need-returns-3
 returns-3 c =
     plan-other _ _ _ _ (sym (c .before .before .before .before .before .lex .ensures .0) ∙ c .before .before .refusal .given .1)
-    (λ n e. not-both (sym (keys-are true (λ (t : ℕ). not (eqb t 2)) (0 ∷ 1 ∷ 3 ∷ 4 ∷ 5 ∷ 6 ∷ 7 ∷ 8 ∷ 9 ∷ []) tt (c .match2 .keys2)))
+    (λ n e. not-both (sym (keys-are true (λ (t : ℕ). not (eqb t 2)) (0 ∷ 1 ∷ 3 ∷ 4 ∷ 5 ∷ 6 ∷ 7 ∷ 8 ∷ 9 ∷ 10 ∷ 11 ∷ 12 ∷ []) tt (c .match2 .keys2)))
     (ap (λ (r : Refusal). not (eqb (tagOf refusal.the-type r) 2)) e))
 
 pub plan-spec : {M : Type 1} → statement M
