@@ -102,7 +102,7 @@ static void stepping(void)
     EXPECT(steps_nowhere(galoxumi_step(BYTES(""), 0, 1, 1), 0, 0));
     FROM("crates/lexer/specs/Steps.antt: before the end the flag is carried along");
     EXPECT(steps(galoxumi_step(BYTES("a"), 0, 1, 1), (galoxumi_token)T(3, 0, 1, 1), (galoxumi_cursor){1, 1, 1}));
-    FROM("crates/galoxumi/specs/Numbers.antt: anything but 0 says that the cursor is ended");
+    FROM("crates/library_numbers/specs/Numbers.antt: anything but 0 says that the cursor is ended");
     EXPECT(steps_nowhere(galoxumi_step(BYTES("a"), 1, SIZE_MAX, 1), 0, 0));
     FROM("docs/RULES.md, the refusals: 6 with the document's length");
     EXPECT(steps_nowhere(galoxumi_step(BYTES("a"), 2, 0, 1), 6, 1));
@@ -258,7 +258,7 @@ static void places(void)
     EXPECT(answers(galoxumi_check_span(BYTES("\xC3\xA9=1"), 0, 1), 6, 4));
     EXPECT(answers(galoxumi_check_span(BYTES("\xC3\xA9=1"), 3, 2), 6, 4));
     EXPECT(answers(galoxumi_check_span(BYTES("\xC3\xA9=1"), 0, 5), 6, 4));
-    FROM("crates/galoxumi/specs/Numbers.antt: start and length, 0 and 0 where refused");
+    FROM("crates/library_numbers/specs/Numbers.antt: start and length, 0 and 0 where refused");
     EXPECT(is_part(galoxumi_text(BYTES("\xC3\xA9=1"), 2, 4), 2, 2));
     EXPECT(is_part(galoxumi_text(BYTES("\xC3\xA9=1"), 4, 4), 4, 0));
     EXPECT(is_part(galoxumi_text(BYTES("\xC3\xA9=1"), 1, 4), 0, 0));

@@ -1,7 +1,5 @@
--- `galoxumi_description` is right because it spells the description, field by field.
+-- `galoxumi_description` is right because the call's answer is spelled in numbers.
 -- Assumes nothing.
-use mathlib.Core.Path.{ap}
-use Rattle.galoxumi.specs.Numbers.{describedNumbers}
 use borrow.Author.Needs.{needs}
 use Rattle.galoxumi.proofs.galoxumi_description.Statement.{statement}
 use Rattle.galoxumi.proofs.galoxumi_description.Tie as tie
@@ -9,11 +7,11 @@ use Rattle.galoxumi.proofs.galoxumi_description.Tie as tie
 description-requires : tie.Need-description-requires
 description-requires c κs = search needs
 
-told-requires : tie.Need-told-requires
-told-requires c κs = search needs
+described-requires : tie.Need-described-requires
+described-requires c κs = search needs
 
 returns : tie.Need-returns
-returns c = rw (c .told .ensures) (ap describedNumbers (c .before .before .description .ensures .0))
+returns c = rw (c .before .description .ensures .0) at (c .described .ensures)
 
 pub galoxumi-description-spec : {M : Type 1} → statement M
-galoxumi-description-spec = tie.close (tie.spec description-requires told-requires returns)
+galoxumi-description-spec = tie.close (tie.spec description-requires described-requires returns)

@@ -1,0 +1,35 @@
+-- The exported numbers are the numbers of the answers as Told.antt of each crate defines them: each field is the one of its name.
+-- Assumes nothing.
+use mathlib.Core.Path.{_≡_, refl}
+use Rattle.built_review.specs.Told.{markNumber, markValue, readNumber, readValue, countNumber, countValue}
+use Rattle.built_review.specs.declared.Marking.{Marking}
+use Rattle.built_review.specs.declared.Marking.the-variants.{Done, Refused as Unmarked}
+use Rattle.built_review.specs.declared.TickRead.{TickRead}
+use Rattle.built_review.specs.declared.TickRead.the-variants.{Ticked, Unticked, Refused as Unread}
+use Rattle.built_review.specs.declared.TickCount.{TickCount}
+use Rattle.built_review.specs.declared.TickCount.the-variants.{Ticks, Refused as Uncounted}
+use Rattle.built_writing.specs.Told.{wroteNumber, wroteValue, wroteLength}
+use Rattle.built_writing.specs.declared.Wrote.{Wrote}
+use Rattle.built_writing.specs.declared.Wrote.the-variants.{Text, Refused as Unwritten}
+use Rattle.library_built.specs.Numbers.{writeNumbers, markNumbers, readNumbers, countNumbers}
+
+pub write-told : (r : Wrote) → writeNumbers r ≡ record { refusal = wroteNumber r; value = wroteValue r; length = wroteLength r }
+unfolding writeNumbers
+write-told (Text bytes) = refl
+write-told (Unwritten r) = refl
+
+pub mark-told : (m : Marking) → (markNumbers m .refusal ≡ markNumber m) × (markNumbers m .value ≡ markValue m)
+unfolding markNumbers
+mark-told Done = (refl, refl)
+mark-told (Unmarked r) = (refl, refl)
+
+pub read-told : (t : TickRead) → (readNumbers t .refusal ≡ readNumber t) × (readNumbers t .value ≡ readValue t)
+unfolding readNumbers
+read-told Ticked = (refl, refl)
+read-told Unticked = (refl, refl)
+read-told (Unread r) = (refl, refl)
+
+pub count-told : (t : TickCount) → (countNumbers t .refusal ≡ countNumber t) × (countNumbers t .value ≡ countValue t)
+unfolding countNumbers
+count-told (Ticks n) = (refl, refl)
+count-told (Uncounted r) = (refl, refl)

@@ -1,0 +1,33 @@
+-- FOLLOWS. The answers of the calls that requests added, as the numbers that are exported: by the cases of each, as in
+-- library_numbers. That each field is the number of that name of the answer is proved in proofs/ToldLaws.antt.
+-- Assumes nothing.
+use Prim.Native.Nat.{ℕ}
+use mathlib.Core.{List.List}
+use lib.{ListN.length}
+use Rattle.library_numbers.specs.{Numbers.answerOf, Numbers.refusedBy}
+use Rattle.library_numbers.specs.declared.{AnswerNumbers.AnswerNumbers}
+use Rattle.built_writing.specs.{Writing.written, Writing.writeAnswer, Writing.writtenAfter}
+use Rattle.built_writing.specs.declared.{Wrote.Wrote, Wrote.the-variants.Text, Wrote.the-variants.Refused as Unwritten}
+use Rattle.built_review.specs.declared.{Marking.Marking, Marking.the-variants.Done, Marking.the-variants.Refused as Unmarked, TickRead.TickRead, TickRead.the-variants.Ticked, TickRead.the-variants.Unticked, TickRead.the-variants.Refused as Unread, TickCount.TickCount, TickCount.the-variants.Ticks, TickCount.the-variants.Refused as Uncounted}
+
+-- writing a value: the value of the answer is the count of bytes, and after it what an output holds that held `output`
+unfoldable pub writeNumbers : Wrote → AnswerNumbers
+writeNumbers (Text bytes) = answerOf bytes
+writeNumbers (Unwritten r) = refusedBy r
+
+abbrev pub writtenBytes : List ℕ → List ℕ → List ℕ
+writtenBytes value output = writtenAfter (writeAnswer value (length output)) (written value) output
+
+-- setting and clearing a tick; asking for one: the value is 1 for a token that is ticked; counting: the value is the count
+unfoldable pub markNumbers : Marking → AnswerNumbers
+markNumbers Done = answerOf 0
+markNumbers (Unmarked r) = refusedBy r
+
+unfoldable pub readNumbers : TickRead → AnswerNumbers
+readNumbers Ticked = answerOf 1
+readNumbers Unticked = answerOf 0
+readNumbers (Unread r) = refusedBy r
+
+unfoldable pub countNumbers : TickCount → AnswerNumbers
+countNumbers (Ticks n) = answerOf n
+countNumbers (Uncounted r) = refusedBy r

@@ -1,0 +1,49 @@
+// The answers of the calls that requests added, as numbers: library_numbers has the reader's.
+// Definitions: specs/Numbers.antt.
+ghost use mathlib.Core.Path.{_≡_};
+ghost use Rattle.library_built.specs.Numbers.{writeNumbers, markNumbers, readNumbers, countNumbers};
+use built_review::Marking;
+use built_review::TickCount;
+use built_review::TickRead;
+use built_writing::Wrote;
+use library_numbers::AnswerNumbers;
+use library_numbers::answer_of;
+use library_numbers::refused;
+
+pub fn wrote(wrote: Wrote) -> AnswerNumbers
+    ensures { λ r. ⌜ r ≡ writeNumbers wrote ⌝ }
+{
+    match wrote {
+        Wrote::Text { bytes } => answer_of(bytes),
+        Wrote::Refused(r) => refused(r),
+    }
+}
+
+pub fn marked(marking: Marking) -> AnswerNumbers
+    ensures { λ r. ⌜ r ≡ markNumbers marking ⌝ }
+{
+    match marking {
+        Marking::Done => answer_of(0),
+        Marking::Refused(r) => refused(r),
+    }
+}
+
+// `value` is 1 for a token that is ticked.
+pub fn tick_read(read: TickRead) -> AnswerNumbers
+    ensures { λ r. ⌜ r ≡ readNumbers read ⌝ }
+{
+    match read {
+        TickRead::Ticked => answer_of(1),
+        TickRead::Unticked => answer_of(0),
+        TickRead::Refused(r) => refused(r),
+    }
+}
+
+pub fn tick_count(count: TickCount) -> AnswerNumbers
+    ensures { λ r. ⌜ r ≡ countNumbers count ⌝ }
+{
+    match count {
+        TickCount::Ticks(n) => answer_of(n),
+        TickCount::Refused(r) => refused(r),
+    }
+}
