@@ -1,7 +1,7 @@
-//! Errors of decoding: an error's number stands for its description and for what was expected. The library has the words.
+//! Errors of decoding: an error's number stands for its description and for what was expected. The words are the proved
+//! library's, which are toml_parser's; they stand here as constants, and a test below holds each to the library.
 
-use crate::{ffi, Edition, Span};
-use std::sync::OnceLock;
+use crate::{position, Edition, Position, Refusal, Span};
 
 /// What was expected at the place of an error.
 #[derive(Copy, Clone, PartialEq, Eq, Debug)]
@@ -12,7 +12,8 @@ pub enum Expected {
     Description(&'static str),
 }
 
-/// An error of a text, and where it stands in it.
+/// An error of a text, and where it stands. Places are counted from the start of the text that was given: of the document,
+/// where a [`Token`](crate::Token) was decoded.
 #[derive(Copy, Clone, PartialEq, Eq, Debug)]
 pub struct ParseError {
     number: usize,
@@ -21,90 +22,129 @@ pub struct ParseError {
     unexpected: Span,
 }
 
-/// The words of an error in an edition.
-struct Words {
-    description: &'static str,
-    expected: Vec<Expected>,
-}
-
-impl Words {
-    /// The words of the error that has a number, unless none has it.
-    fn read(number: usize, edition: Edition) -> Option<Self> {
-        let text = |which| ffi::error_words(number, edition.number(), which);
-        let message = text(0);
-        let expected = (1..=message.expected).map(|which| Expected::read(&text(which))).collect();
-        (message.answer.refusal == 0).then(|| Self { description: kept(&message), expected })
-    }
-
-    /// The words of all errors in an edition, in the order of their numbers: read once, and then kept.
-    fn all(edition: Edition) -> &'static [Self] {
-        static TOML_10: OnceLock<Vec<Words>> = OnceLock::new();
-        static TOML_11: OnceLock<Vec<Words>> = OnceLock::new();
-        let words = match edition {
-            Edition::Toml10 => &TOML_10,
-            Edition::Toml11 => &TOML_11,
-        };
-        words.get_or_init(|| (1..).map_while(|number| Self::read(number, edition)).collect())
-    }
-}
-
-impl Expected {
-    /// A text of a list of what is expected: 2 is a literal's number, and 3 a description's.
-    fn read(text: &ffi::ErrorWords) -> Self {
-        match text.said {
-            2 => Self::Literal(kept(text)),
-            _ => Self::Description(kept(text)),
-        }
-    }
-}
-
-/// A text of the library's, kept for as long as the program runs.
-fn kept(text: &ffi::ErrorWords) -> &'static str {
-    let words = String::from_utf8_lossy(&text.bytes[..text.length]);
-    Box::leak(words.into_owned().into_boxed_str())
-}
+/// Three numbers of memory that a decode is lent for an error: the error's number, its start and its end.
+pub type ErrorRecord = [usize; 3];
 
 impl ParseError {
-    pub(crate) fn from_record(record: [usize; 3], text: &[u8], edition: Edition) -> Self {
+    /// The error of a record, whose text is `context` of what was given.
+    pub(crate) fn from_record(record: ErrorRecord, context: Span, edition: Edition) -> Self {
         let [number, start, end] = record;
-        Self { number, edition, context: Span::new(0, text.len()), unexpected: Span::new(start, end) }
+        Self { number, edition, context, unexpected: Span::new(start, end) + context.start() }
     }
 
     /// Its number, 1 to 15.
-    pub fn number(&self) -> usize {
+    pub const fn number(&self) -> usize {
         self.number
     }
 
     /// What was being decoded: the whole text.
-    pub fn context(&self) -> Span {
+    pub const fn context(&self) -> Span {
         self.context
     }
 
-    /// Where it stands, counted from the start of the text.
-    pub fn unexpected(&self) -> Span {
+    /// Where it stands.
+    pub const fn unexpected(&self) -> Span {
         self.unexpected
     }
 
+    /// Line and column of where it stands, in the document that the token was decoded from. It counts from the document's
+    /// start; for many errors of a document there is [`Places`](crate::Places).
+    pub fn position(&self, doc: &[u8]) -> Result<Position, Refusal> {
+        position(doc, self.unexpected.start())
+    }
+
     /// What is wrong.
-    pub fn description(&self) -> &'static str {
-        self.words().description
+    pub const fn description(&self) -> &'static str {
+        words(self.number, self.edition).0
     }
 
     /// What was expected there. The list of escapes has no `t`, though `\t` is accepted: it is
     /// toml_parser's list, to which TOML 1.1 adds its own two.
-    pub fn expected(&self) -> &'static [Expected] {
-        &self.words().expected
-    }
-
-    fn words(&self) -> &'static Words {
-        &Words::all(self.edition)[self.number - 1]
+    pub const fn expected(&self) -> &'static [Expected] {
+        words(self.number, self.edition).1
     }
 }
 
 impl core::fmt::Display for ParseError {
     fn fmt(&self, f: &mut core::fmt::Formatter<'_>) -> core::fmt::Result {
-        write!(f, "{} at {}..{}", self.description(), self.unexpected.start(), self.unexpected.end())
+        write!(f, "{} at {:?}", self.description(), self.unexpected)
     }
 }
 
-impl std::error::Error for ParseError {}
+impl core::error::Error for ParseError {}
+
+/// What is wrong, and what was expected, by an error's number.
+const fn words(number: usize, edition: Edition) -> (&'static str, &'static [Expected]) {
+    use Expected::{Description, Literal};
+    const KEY: &[Expected] = &[Description("letters"), Description("numbers"), Literal("-"), Literal("_")];
+    const HEX: &[Expected] = &[Description("unicode hexadecimal value")];
+    match number {
+        1 => ("invalid literal string", &[Literal("'")]),
+        2 => ("invalid literal string", &[Description("non-single-quote visible characters")]),
+        3 => ("invalid multi-line literal string", &[Literal("'")]),
+        4 => ("carriage return must be followed by newline", &[Literal("\n")]),
+        5 => ("invalid multi-line literal string", &[Description("non-single-quote characters")]),
+        6 => ("invalid basic string", &[Literal("\"")]),
+        7 => ("invalid basic string", &[Description("non-double-quote visible characters"), Literal("\\")]),
+        8 => ("missing escaped value", escapes(edition)),
+        9 => ("too few unicode value digits", HEX),
+        10 => ("invalid value", HEX),
+        11 => ("invalid multi-line basic string", &[Literal("\"")]),
+        12 => ("invalid multi-line basic string", &[Literal("\\"), Description("characters")]),
+        13 => ("invalid multi-line basic string", &[Literal("\n")]),
+        14 => ("unquoted keys cannot be empty", KEY),
+        // 15: a record has no other number
+        _ => ("invalid unquoted key", KEY),
+    }
+}
+
+const fn escapes(edition: Edition) -> &'static [Expected] {
+    use Expected::Literal;
+    const ALL: &[Expected] = &[
+        Literal("b"),
+        Literal("f"),
+        Literal("n"),
+        Literal("r"),
+        Literal("\\"),
+        Literal("\""),
+        Literal("u"),
+        Literal("U"),
+        Literal("e"),
+        Literal("x"),
+    ];
+    match edition {
+        Edition::Toml10 => ALL.split_at(8).0,
+        Edition::Toml11 => ALL,
+    }
+}
+
+#[cfg(test)]
+mod tests {
+    use super::*;
+    use crate::ffi;
+
+    fn text(words: &ffi::ErrorWords) -> &str {
+        core::str::from_utf8(&words.bytes[..words.length]).expect("the library's words are ASCII")
+    }
+
+    /// Each text of each error in each edition is the library's, and the library has no other error.
+    #[test]
+    fn words_are_the_library_s() {
+        for edition in [Edition::Toml10, Edition::Toml11] {
+            for number in 1..=15 {
+                let (description, expected) = words(number, edition);
+                let message = ffi::error_words(number, edition.number(), 0);
+                assert_eq!((text(&message), message.said, message.expected), (description, 1, expected.len()));
+                for (which, expected) in expected.iter().enumerate() {
+                    let said = ffi::error_words(number, edition.number(), which + 1);
+                    match expected {
+                        Expected::Literal(literal) => assert_eq!((text(&said), said.said), (*literal, 2)),
+                        Expected::Description(words) => assert_eq!((text(&said), said.said), (*words, 3)),
+                    }
+                }
+            }
+            assert_eq!(ffi::error_words(0, edition.number(), 0).answer.refusal, 7);
+            assert_eq!(ffi::error_words(16, edition.number(), 0).answer.refusal, 7);
+        }
+    }
+}

@@ -5,6 +5,9 @@
 //! below is safe for all arguments, too. That these declarations match the archive's is not checked
 //! by anything but the tests.
 
+use core::mem::MaybeUninit;
+
+#[derive(Copy, Clone)]
 #[repr(C)]
 pub(crate) struct Answer {
     pub refusal: usize,
@@ -60,6 +63,7 @@ pub(crate) struct Decoded {
     pub errors: usize,
 }
 
+#[cfg(test)]
 #[repr(C)]
 pub(crate) struct Described {
     pub answer: Answer,
@@ -67,12 +71,14 @@ pub(crate) struct Described {
     pub bytes: [u8; 25],
 }
 
+#[cfg(test)]
 #[repr(C)]
 pub(crate) struct Encoded {
     pub answer: Answer,
     pub encoding: usize,
 }
 
+#[cfg(test)]
 #[repr(C)]
 pub(crate) struct ErrorWords {
     pub answer: Answer,
@@ -104,8 +110,11 @@ mod archive {
             errors_len: usize,
         ) -> Decoded;
         pub fn galoxumi_write_value(value: *const u8, len: usize, output: *mut u8, output_len: usize) -> Answer;
+        #[cfg(test)]
         pub fn galoxumi_description(kind: usize) -> Described;
+        #[cfg(test)]
         pub fn galoxumi_encoding(kind: usize) -> Encoded;
+        #[cfg(test)]
         pub fn galoxumi_error_words(error: usize, edition: usize, which: usize) -> ErrorWords;
         pub fn galoxumi_tick(
             records: *const [usize; 4],
@@ -153,8 +162,14 @@ pub(crate) fn step(doc: &[u8], place: usize, ended: bool, line: usize) -> Steppe
     unsafe { archive::galoxumi_step(doc.as_ptr(), doc.len(), place, ended.into(), line) }
 }
 
-pub(crate) fn lex(doc: &[u8], records: &mut [[usize; 4]]) -> Answer {
-    unsafe { archive::galoxumi_lex(doc.as_ptr(), doc.len(), records.as_mut_ptr(), records.len()) }
+/// Writes tokens where records are written: both are the same four numbers, and `lex` writes only numbers of kinds.
+pub(crate) fn lex(doc: &[u8], tokens: &mut [MaybeUninit<crate::Token>]) -> Answer {
+    unsafe { archive::galoxumi_lex(doc.as_ptr(), doc.len(), tokens.as_mut_ptr().cast(), tokens.len()) }
+}
+
+/// Tokens as memory for tokens. Only tokens are ever written to it.
+pub(crate) fn lent(tokens: &mut [crate::Token]) -> &mut [MaybeUninit<crate::Token>] {
+    unsafe { core::slice::from_raw_parts_mut(tokens.as_mut_ptr().cast(), tokens.len()) }
 }
 
 pub(crate) fn check_span(doc: &[u8], start: usize, end: usize) -> Answer {
@@ -188,23 +203,28 @@ pub(crate) fn write_value(value: &[u8], output: &mut [u8]) -> Answer {
     unsafe { archive::galoxumi_write_value(value.as_ptr(), value.len(), output.as_mut_ptr(), output.len()) }
 }
 
+/// The crate has the words of kinds as constants, which a test holds to these.
+#[cfg(test)]
 pub(crate) fn description(kind: usize) -> Described {
     unsafe { archive::galoxumi_description(kind) }
 }
 
+#[cfg(test)]
 pub(crate) fn encoding(kind: usize) -> Encoded {
     unsafe { archive::galoxumi_encoding(kind) }
 }
 
+#[cfg(test)]
 pub(crate) fn error_words(error: usize, edition: usize, which: usize) -> ErrorWords {
     unsafe { archive::galoxumi_error_words(error, edition, which) }
 }
 
-/// The records that a call on marks is lent. It takes only their number; that a token has a record's size, and its address
-/// suits one, keeps even a read of them within the tokens.
+// A token is a record of four numbers: its kind is one by its `repr(usize)`, and its fields stand in order by `repr(C)`.
+const _: () = assert!(core::mem::size_of::<crate::Token>() == core::mem::size_of::<[usize; 4]>());
+const _: () = assert!(core::mem::align_of::<crate::Token>() == core::mem::align_of::<[usize; 4]>());
+
+/// The records that a call on marks is lent. It takes only their number.
 fn records_of(tokens: &[crate::Token]) -> *const [usize; 4] {
-    const _: () = assert!(core::mem::size_of::<crate::Token>() == core::mem::size_of::<[usize; 4]>());
-    const _: () = assert!(core::mem::align_of::<crate::Token>() == core::mem::align_of::<[usize; 4]>());
     tokens.as_ptr().cast()
 }
 

@@ -1,7 +1,7 @@
 //! Two reviewers tick off the tokens of one document, in a table of marks: a byte for each token, in which each reviewer has
 //! a bit. A token is named by its number among the tokens, from 0 on.
 
-use crate::{ffi, Refusal, Token};
+use crate::{ffi, Refusal, Sought, Token};
 
 /// One of the two reviewers of a table of marks. What one is told depends on nothing that the other does.
 #[derive(Copy, Clone, PartialEq, Eq, Hash, Debug)]
@@ -35,20 +35,20 @@ impl Reviewer {
 /// # Ok::<(), galoxumi::Refusal>(())
 /// ```
 pub fn tick(tokens: &[Token], marks: &mut [u8], reviewer: Reviewer, token: usize) -> Result<(), Refusal> {
-    Refusal::read(ffi::tick(tokens, marks, reviewer.number(), token)).map(|_| ())
+    Refusal::read_sought(ffi::tick(tokens, marks, reviewer.number(), token), Sought::Token).map(|_| ())
 }
 
 /// Clears the reviewer's bit of a token; every other bit of the table keeps its value.
 pub fn untick(tokens: &[Token], marks: &mut [u8], reviewer: Reviewer, token: usize) -> Result<(), Refusal> {
-    Refusal::read(ffi::untick(tokens, marks, reviewer.number(), token)).map(|_| ())
+    Refusal::read_sought(ffi::untick(tokens, marks, reviewer.number(), token), Sought::Token).map(|_| ())
 }
 
 /// Whether the reviewer's bit of a token is set.
 pub fn is_ticked(tokens: &[Token], marks: &[u8], reviewer: Reviewer, token: usize) -> Result<bool, Refusal> {
-    Refusal::read(ffi::is_ticked(tokens, marks, reviewer.number(), token)).map(|bit| bit == 1)
+    Refusal::read_sought(ffi::is_ticked(tokens, marks, reviewer.number(), token), Sought::Token).map(|bit| bit == 1)
 }
 
 /// How many of the reviewer's bits are set over the tokens. What the table has after them does not count.
 pub fn ticks(tokens: &[Token], marks: &[u8], reviewer: Reviewer) -> Result<usize, Refusal> {
-    Refusal::read(ffi::ticks(tokens, marks, reviewer.number()))
+    Refusal::read_sought(ffi::ticks(tokens, marks, reviewer.number()), Sought::Token)
 }

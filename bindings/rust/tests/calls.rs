@@ -1,6 +1,7 @@
 //! The binding on texts of tests/scope.txt, and each error's words, which are toml_parser's. What the proved
 //! library answers has its own tests.
 
+use core::num::NonZeroUsize;
 use galoxumi::*;
 
 fn records(doc: &[u8]) -> Vec<(usize, usize, usize)> {
@@ -28,7 +29,7 @@ fn steps_give_the_tokens_of_whole_lexing() {
 #[test]
 fn a_cursor_made_by_hand_answers() {
     let mut lexer = Lexer::at(b"a", 2, false, 1);
-    assert_eq!(lexer.next(), Some(Err(Refusal::OutOfPlace { length: 1 })));
+    assert_eq!(lexer.next(), Some(Err(Refusal::OutOfPlace { what: Sought::Cursor, length: 1 })));
     assert_eq!(Lexer::at(b"a", 1, true, 1).next(), None);
     // a refusal ends the tokens
     assert_eq!(Lexer::at(b"a", 2, false, 1).count(), 1);
@@ -36,13 +37,13 @@ fn a_cursor_made_by_hand_answers() {
 
 #[test]
 fn refusals() {
-    let broken = |valid, len| Err(Refusal::NotUtf8 { valid, error_len: core::num::NonZeroUsize::new(len) });
-    assert_eq!(check_utf8(b"a\xFF"), broken(1, 1));
+    let broken = |valid, len| Err(Refusal::NotUtf8 { valid, error_len: NonZeroUsize::new(len) });
+    assert_eq!(check_utf8(b"a\xFF").map(|_| ()), broken(1, 1));
     assert_eq!(lex(b"\xFF").map(|_| ()), broken(0, 1));
-    assert_eq!(lex_into(b"a.b", &mut [[0; 4]; 2]), Err(Refusal::FewTokens { needed: 4 }));
+    assert_eq!(lex_into(b"a.b", &mut [Token::default(); 2]), Err(Refusal::FewTokens { needed: 4 }));
     assert_eq!(lex(&vec![b'.'; LIMIT + 1]), Err(Refusal::TooLong));
-    assert_eq!(text("é=1".as_bytes(), Span::new(1, 2)), Err(Refusal::OutOfPlace { length: 4 }));
-    assert_eq!(position(b"a", 2), Err(Refusal::OutOfPlace { length: 1 }));
+    assert_eq!(text("é=1".as_bytes(), Span::new(1, 2)), Err(Refusal::OutOfPlace { what: Sought::Span, length: 4 }));
+    assert_eq!(position(b"a", 2), Err(Refusal::OutOfPlace { what: Sought::Offset, length: 1 }));
     assert_eq!(TokenKind::from_number(5), Err(Refusal::NoKind { number: 5 }));
 }
 
@@ -53,8 +54,9 @@ fn documents_of_16777216_bytes_are_taken() {
     assert_eq!(LIMIT, len);
     // one comment as a document, and a text of a string without its marks: few tokens and few errors come back
     let doc = vec![b'#'; len + 1];
-    let calls: [(&str, fn(&[u8]) -> Result<(), Refusal>); 10] = [
-        ("check_utf8", check_utf8),
+    type Call = fn(&[u8]) -> Result<(), Refusal>;
+    let calls: [(&str, Call); 10] = [
+        ("check_utf8", |doc| check_utf8(doc).map(|_| ())),
         ("Lexer::new", |doc| Lexer::new(doc).map(|_| ())),
         ("Lexer::next", |doc| Lexer::at(doc, 0, false, 1).next().expect("a token or a refusal").map(|_| ())),
         ("lex", |doc| lex(doc).map(|_| ())),
@@ -74,15 +76,15 @@ fn documents_of_16777216_bytes_are_taken() {
 #[test]
 fn strings_without_error() {
     let decoded = decode(br#""\uD7FF""#, Encoding::BasicString).expect("decoded");
-    assert_eq!(decoded.value(), Ok("\u{D7FF}".as_bytes().to_vec()));
+    assert_eq!(decoded.value(), Ok("\u{D7FF}".to_string()));
     let decoded = decode(b"\"\"\"a\\ \n  b\"\"\"", Encoding::MlBasicString).expect("decoded");
-    assert_eq!(decoded.value(), Ok(b"ab".to_vec()));
+    assert_eq!(decoded.value(), Ok("ab".to_string()));
 }
 
 #[test]
 fn errors_have_their_places() {
     let decoded = decode(br#""\q""#, Encoding::BasicString).expect("decoded");
-    assert_eq!(decoded.bytes, br"\q");
+    assert_eq!(decoded.text, r"\q");
     let error = decoded.errors[0];
     assert_eq!((error.number(), error.context(), error.unexpected()), (8, Span::new(0, 4), Span::new(2, 2)));
     assert_eq!(error.to_string(), "missing escaped value at 2..2");
@@ -92,6 +94,11 @@ fn errors_have_their_places() {
 /// A text, how it is read, its first error's number, that error's words and what was expected.
 type Case<'a> = (&'a [u8], Encoding, usize, &'a str, &'a [Expected]);
 
+/// The first error of a text.
+fn error_in(text: &[u8], encoding: Encoding, edition: Edition) -> ParseError {
+    decode_in(text, encoding, edition).expect("decoded").errors[0]
+}
+
 #[test]
 fn errors_have_their_words() {
     use Encoding::*;
@@ -100,7 +107,7 @@ fn errors_have_their_words() {
     let escapes = ["b", "f", "n", "r", "\\", "\"", "u", "U"].map(Literal);
     let hex = [Description("unicode hexadecimal value")];
     let visible = [Description("non-double-quote visible characters"), Literal("\\")];
-    let cases: [Case; 15] = [
+    let cases: [Case; 13] = [
         (b"'", LiteralString, 1, "invalid literal string", &[Literal("'")]),
         (b"'\0'", LiteralString, 2, "invalid literal string", &[Description("non-single-quote visible characters")]),
         (b"'''", MlLiteralString, 3, "invalid multi-line literal string", &[Literal("'")]),
@@ -126,17 +133,20 @@ fn errors_have_their_words() {
             &[Literal("\\"), Description("characters")],
         ),
         (b"\"\"\"\\ a\"\"\"", MlBasicString, 13, "invalid multi-line basic string", &[Literal("\n")]),
-        (b"", UnquotedKey, 14, "unquoted keys cannot be empty", &key),
-        (b".", UnquotedKey, 15, "invalid unquoted key", &key),
     ];
     for (text, encoding, number, description, expected) in cases {
-        let error = decode(text, encoding).expect("decoded").errors[0];
+        let error = error_in(text, encoding, Edition::Toml10);
         assert_eq!((error.number(), error.description(), error.expected()), (number, description, expected));
         // TOML 1.1 has the same words, and of escapes two more.
-        let later = decode_in(text, encoding, Edition::Toml11).expect("decoded").errors[0];
+        let later = error_in(text, encoding, Edition::Toml11);
         assert_eq!((later.number(), later.description()), (number, description));
         assert_eq!(later.expected()[..expected.len()], *expected);
         assert_eq!(later.expected().len(), if number == 8 { 10 } else { expected.len() });
+    }
+    let keys = [(&b""[..], 14, "unquoted keys cannot be empty"), (b".", 15, "invalid unquoted key")];
+    for (text, number, description) in keys {
+        let error = decode_key(text).expect("decoded").errors[0];
+        assert_eq!((error.number(), error.description(), error.expected()), (number, description, &key[..]));
     }
 }
 
@@ -165,12 +175,12 @@ fn places_and_texts() {
 fn toml_11_has_two_more_escapes() {
     let text = br#""\e\xe9\t""#;
     let decoded = decode_in(text, Encoding::BasicString, Edition::Toml11).expect("decoded");
-    assert_eq!(decoded.value(), Ok("\u{1B}\u{E9}\t".as_bytes().to_vec()));
+    assert_eq!(decoded.value(), Ok("\u{1B}\u{E9}\t".to_string()));
     let decoded = decode(text, Encoding::BasicString).expect("decoded");
     assert_eq!(decoded.errors.iter().map(|e| (e.number(), e.unexpected().start())).collect::<Vec<_>>(), [(8, 2), (8, 4)]);
-    let error = decode_in(br#""\q""#, Encoding::BasicString, Edition::Toml11).expect("decoded").errors[0];
+    let error = error_in(br#""\q""#, Encoding::BasicString, Edition::Toml11);
     assert_eq!(error.expected()[8..], [Expected::Literal("e"), Expected::Literal("x")]);
-    let error = decode_in(br#""\x4""#, Encoding::BasicString, Edition::Toml11).expect("decoded").errors[0];
+    let error = error_in(br#""\x4""#, Encoding::BasicString, Edition::Toml11);
     assert_eq!((error.number(), error.unexpected()), (9, Span::new(4, 4)));
 }
 
@@ -181,9 +191,9 @@ fn broken_characters_as_rust_tells_them() {
         [b"\x80", b"a\xC3", b"\xC3(", b"\xE2\x82", b"\xE2\x82A", b"\xED\xA0\x80", b"\xF0\x90\x80", b"\xF0\x90\x80A"];
     for text in texts {
         let error = core::str::from_utf8(text).expect_err("not UTF-8");
-        let (valid, error_len) = (error.valid_up_to(), error.error_len().and_then(core::num::NonZeroUsize::new));
+        let (valid, error_len) = (error.valid_up_to(), error.error_len().and_then(NonZeroUsize::new));
         assert_eq!(check_utf8(text), Err(Refusal::NotUtf8 { valid, error_len }));
-        assert_eq!(decode(text, Encoding::UnquotedKey), Err(Refusal::NotUtf8 { valid, error_len }));
+        assert_eq!(decode_key(text), Err(Refusal::NotUtf8 { valid, error_len }));
     }
 }
 
@@ -196,7 +206,10 @@ fn tokens_bear_their_lines() {
     }
     let steps: Result<Vec<Token>, Refusal> = Lexer::at(doc, 1, false, 2).collect();
     assert_eq!(steps.expect("stepped").last().map(Token::line), Some(6));
-    assert_eq!(Lexer::at(doc, 1, false, 3).next(), Some(Err(Refusal::OutOfPlace { length: doc.len() })));
+    assert_eq!(
+        Lexer::at(doc, 1, false, 3).next(),
+        Some(Err(Refusal::OutOfPlace { what: Sought::Cursor, length: doc.len() }))
+    );
 }
 
 /// From docs/TRACE.md, k2 and k3: the shortest text, a literal string on a tie, hex digits in capitals; from the ABNF of
@@ -212,14 +225,14 @@ fn values_are_written_as_their_shortest_text() {
         (b"\0\x1F\x7F", br#""\u0000\u001F\u007F""#, Encoding::BasicString),
     ];
     for (value, text, encoding) in cases {
-        assert_eq!(write_value(value).as_deref(), Ok(text));
-        assert_eq!(decode(text, encoding).expect("decoded").value().as_deref(), Ok(value));
+        assert_eq!(write_value(value).map(String::into_bytes).as_deref(), Ok(text));
+        assert_eq!(decode(text, encoding).expect("decoded").value().map(String::into_bytes).as_deref(), Ok(value));
         let mut lent = vec![0xA5; text.len() + 1];
-        assert_eq!(write_value_into(value, &mut lent), Ok(text.len()));
+        assert_eq!(write_value_into(value, &mut lent).map(str::as_bytes), Ok(text));
         assert_eq!((&lent[..text.len()], lent[text.len()]), (text, 0xA5));
         assert_eq!(write_value_into(value, &mut lent[..text.len() - 1]), Err(Refusal::ShortOutput { needed: text.len() }));
     }
-    let error_len = core::num::NonZeroUsize::new(1);
+    let error_len = NonZeroUsize::new(1);
     assert_eq!(write_value(b"a\xFF"), Err(Refusal::NotUtf8 { valid: 1, error_len }));
 }
 
@@ -246,14 +259,116 @@ fn reviewers_tick_apart() {
 fn marks_are_refused() {
     let tokens = lex(b"a = 'b'").expect("lexed");
     let mut marks = [0xA5; 5];
-    let beyond = Refusal::OutOfPlace { length: 6 };
+    let beyond = Refusal::OutOfPlace { what: Sought::Token, length: 6 };
     let few = Refusal::FewMarks { needed: 6 };
     assert_eq!(tick(&tokens, &mut marks, Reviewer::First, 6), Err(beyond));
     assert_eq!(tick(&tokens, &mut marks, Reviewer::First, 5), Err(few));
     assert_eq!(untick(&tokens, &mut marks, Reviewer::Second, 0), Err(few));
     assert_eq!(is_ticked(&tokens, &marks, Reviewer::Second, usize::MAX), Err(beyond));
     assert_eq!(ticks(&tokens, &marks, Reviewer::First), Err(few));
-    assert_eq!(tick(&[], &mut [], Reviewer::First, 0), Err(Refusal::OutOfPlace { length: 0 }));
+    assert_eq!(tick(&[], &mut [], Reviewer::First, 0), Err(Refusal::OutOfPlace { what: Sought::Token, length: 0 }));
     assert_eq!(ticks(&[], &[], Reviewer::First), Ok(0));
     assert_eq!(marks, [0xA5; 5]);
+}
+
+/// From docs/RULES.md: error 8 stands after its backslash. The string opens at byte 4 of the document, on line 2.
+#[test]
+fn errors_of_a_token_stand_in_the_document() {
+    let doc = b"\na = \"x\\q\"\n";
+    let token = lex(doc).expect("lexed")[5];
+    let decoded = token.decode(doc).expect("a string").expect("decoded");
+    let error = decoded.errors[0];
+    assert_eq!((error.number(), error.context(), error.unexpected()), (8, Span::new(5, 10), Span::new(8, 8)));
+    assert_eq!(error.position(doc), Ok(Position { line: 2, column: 8 }));
+    assert_eq!(decoded.text, "x\\q");
+    let (mut output, mut records) = ([0xA5; 8], [[7; 3]; 2]);
+    let lent = token.decode_into(doc, Edition::Toml10, &mut output, &mut records).expect("a string").expect("decoded");
+    assert_eq!((lent.text(), lent.value()), ("x\\q", Err(error)));
+    assert_eq!(lent.errors().collect::<Vec<_>>(), [error]);
+    assert_eq!((output, records[1]), (*b"x\\q\xA5\xA5\xA5\xA5\xA5", [7; 3]));
+    assert!(lex(doc).expect("lexed")[0].decode(doc).is_none());
+}
+
+/// Three bytes and one error: lent one less of either, nothing is written.
+#[test]
+fn lent_memory_too_short_is_refused() {
+    let text = b"\"x\\q\"";
+    let (mut output, mut records) = ([0xA5; 3], [[7; 3]; 1]);
+    let decoded = decode_into(text, Encoding::BasicString, Edition::Toml10, &mut output[..2], &mut records);
+    assert_eq!(decoded, Err(Refusal::ShortOutput { needed: 3 }));
+    let decoded = decode_into(text, Encoding::BasicString, Edition::Toml10, &mut output, &mut []);
+    assert_eq!(decoded, Err(Refusal::FewErrors { needed: 1 }));
+    let decoded = decode_key_into(b"a b", &mut output, &mut []);
+    assert_eq!(decoded, Err(Refusal::FewErrors { needed: 1 }));
+    assert_eq!((output, records), ([0xA5; 3], [[7; 3]]));
+    assert_eq!(decode_key_into(b"a-b", &mut output, &mut []).expect("decoded").value(), Ok("a-b"));
+}
+
+/// A text of n times `\q` has n errors, each after its backslash: more than `decode` makes room for at first.
+#[test]
+fn many_errors_come_back() {
+    let count = 1000;
+    let text = format!("\"{}\"", "\\q".repeat(count));
+    let decoded = decode(text.as_bytes(), Encoding::BasicString).expect("decoded");
+    assert_eq!(decoded.text, "\\q".repeat(count));
+    let places: Vec<usize> = decoded.errors.iter().map(|error| error.unexpected().start()).collect();
+    assert_eq!(places, (0..count).map(|n| 2 * n + 2).collect::<Vec<_>>());
+}
+
+/// A long document with a token for each byte has more tokens than `lex` makes room for at first.
+#[test]
+fn long_documents_are_lexed_whole() {
+    for text in [".", "abc = 'd'\n", "# a comment\n"] {
+        let doc = text.repeat(5000).into_bytes();
+        let steps: Result<Vec<Token>, Refusal> = Lexer::new(&doc).expect("started").collect();
+        assert_eq!(steps, lex(&doc));
+    }
+}
+
+/// From every offset to every later or earlier one, with a byte order mark at the start and one that is a character.
+#[test]
+fn places_are_those_of_position() {
+    let docs: [&[u8]; 5] = [
+        b"",
+        b"a\nb\r\n\n",
+        "é\u{1F600}\nx\u{301}\ty".as_bytes(),
+        "\u{FEFF}a\n\u{FEFF}b".as_bytes(),
+        "a\u{FEFF}\u{FEFF}b".as_bytes(),
+    ];
+    for doc in docs {
+        for first in 0..=doc.len() {
+            for second in 0..=doc.len() + 1 {
+                let mut places = Places::new(doc);
+                assert_eq!(places.position(first), position(doc, first));
+                assert_eq!(places.position(second), position(doc, second));
+            }
+        }
+    }
+    assert_eq!(Places::new(&vec![b'#'; LIMIT + 1]).position(0), Err(Refusal::TooLong));
+}
+
+#[test]
+fn refusals_say_which_case_they_are() {
+    let cases: [(Refusal, &str); 8] = [
+        (check_utf8(b"a\xFF").unwrap_err(), "refused 1: 1 bytes from byte 1 on are not UTF-8"),
+        (check_utf8(b"a\xC3").unwrap_err(), "refused 1: the text ends inside the character at byte 1"),
+        (lex_into(b"a", &mut []).unwrap_err(), "refused 3: 2 token records are needed"),
+        (position(b"a", 2).unwrap_err(), "refused 6: the offset is beyond the document's 1 bytes"),
+        (
+            check_span(b"a", Span::new(1, 0)).unwrap_err(),
+            "refused 6: the span passes the document's 1 bytes, starts after its end or cuts a character",
+        ),
+        (
+            Lexer::at(b"a", 0, false, 2).next().unwrap().unwrap_err(),
+            "refused 6: the cursor's place is beyond the document's 1 bytes, or its line past its place plus 1",
+        ),
+        (
+            tick(&[], &mut [], Reviewer::First, 0).unwrap_err(),
+            "refused 6: the token's number is not below 0, the number of tokens",
+        ),
+        (TokenKind::from_number(5).unwrap_err(), "refused 7: 5 is no kind"),
+    ];
+    for (refusal, words) in cases {
+        assert_eq!(refusal.to_string(), words);
+    }
 }
