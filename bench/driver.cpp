@@ -27,17 +27,19 @@ using bench::Document;
 struct Work {
     std::string doc;
     std::vector<uint8_t> out;
-    std::vector<size_t> records, errors; // four numbers a token, three an error
+    std::vector<galoxumi_token> tokens;
+    std::vector<galoxumi_error> errors;
     std::vector<galoxumi_token> encoded; // its strings, or its Atoms where a document's keys are decoded
     size_t doc_bytes, encoded_bytes = 0, parsed_bytes; // the bytes that are read: of the document, by decoding, by toml++
 
     explicit Work(const Document &document)
-        : doc(document.text), out(doc.size() * 3 / 2), records(4 * (doc.size() + 1)), errors(3 * (doc.size() + 2)),
+        : doc(document.text), out(GALOXUMI_MOST_BYTES(doc.size())), tokens(GALOXUMI_MOST_TOKENS(doc.size())),
+          errors(GALOXUMI_MOST_ERRORS(doc.size())),
           doc_bytes(doc.size()), parsed_bytes(parses() ? doc.size() : 0)
     {
-        size_t tokens = lex();
-        for (size_t i = 0; i < tokens; i++) {
-            galoxumi_token token = {records[4 * i], records[4 * i + 1], records[4 * i + 2], records[4 * i + 3]};
+        size_t count = lex();
+        for (size_t i = 0; i < count; i++) {
+            galoxumi_token token = tokens[i];
             if (document.decodes_keys ? token.kind == GALOXUMI_ATOM : galoxumi_encoding(token.kind).encoding != 0) {
                 encoded.push_back(token);
                 encoded_bytes += token.end - token.start;
@@ -46,12 +48,11 @@ struct Work {
     }
 
     const uint8_t *bytes() const { return reinterpret_cast<const uint8_t *>(doc.data()); }
-    template <size_t n> static size_t (*rows(std::vector<size_t> &v))[n] { return reinterpret_cast<size_t(*)[n]>(v.data()); }
 
     size_t copy() { return std::memcpy(out.data(), doc.data(), doc.size()) == out.data(); }
     size_t rust_check() { return rust_from_utf8(bytes(), doc.size()); }
     size_t check() { return galoxumi_check_utf8(bytes(), doc.size()).refusal; }
-    size_t lex() { return galoxumi_lex(bytes(), doc.size(), rows<4>(records), records.size() / 4).value; }
+    size_t lex() { return galoxumi_lex(bytes(), doc.size(), tokens.data(), tokens.size()).value; }
     size_t position() { return galoxumi_position(bytes(), doc.size(), doc.size()).column; }
     size_t parse() { return toml::parse(std::string_view(doc)).size(); }
 
@@ -82,7 +83,7 @@ struct Work {
     {
         size_t all = 0;
         for (const auto &t : encoded) {
-            all += galoxumi_decode(bytes() + t.start, t.end - t.start, t.kind, out.data(), out.size(), rows<3>(errors), errors.size() / 3)
+            all += galoxumi_decode(bytes() + t.start, t.end - t.start, t.kind, out.data(), out.size(), errors.data(), errors.size())
                        .answer.value;
         }
         return all;
@@ -278,7 +279,8 @@ void count_all(const std::vector<Document> &real)
 
 // Memory that always suffices for a call on a few bytes.
 uint8_t few_bytes[16];
-size_t few_records[16][4], few_errors[16][3];
+galoxumi_token few_tokens[16];
+galoxumi_error few_errors[16];
 
 struct Text {
     std::string bytes;
@@ -313,7 +315,7 @@ void count_calls()
     const std::string on = "|`a = \"b\"` LF";
     count("nothing|", [] { return 0; });
     count("galoxumi_check_utf8" + on, [=] { return galoxumi_check_utf8(doc, len).refusal; });
-    count("galoxumi_lex" + on, [=] { return galoxumi_lex(doc, len, few_records, 16).value; });
+    count("galoxumi_lex" + on, [=] { return galoxumi_lex(doc, len, few_tokens, 16).value; });
     count("galoxumi_start" + on, [=] { return galoxumi_start(doc, len).cursor.place; });
     count("galoxumi_step, first token" + on, [=] { return galoxumi_step(doc, len, 0, 0, 1).found; });
     count("galoxumi_position, at the end" + on, [=] { return galoxumi_position(doc, len, len).column; });

@@ -1,29 +1,11 @@
 /* TOML tokens and strings: the functions of libgaloxumi.a (`rt staticlib galoxumi`).
  *
  * Every function returns, for all arguments, and reads and writes only what it is lent: that is proved.
- * The caller sees to the rest: a pointer points to as many elements as the length after it says, it is not null
- * even where that length is 0, and lent memory overlaps nothing else that is read or lent.
+ * The caller sees to the rest: a pointer points to as many elements as the length after it says, and may be NULL where
+ * that length is 0; lent memory overlaps nothing else that is read or lent.
  *
- * An answer has `refusal`, which is 0 where the call answered and else the refusal's number; `value`; and `length`,
- * which is 0 except with refusal 1:
- *
- *   refusal  given exactly when                                      value
- *   0        answered                                                tokens, bytes, ticks, 1 or 0: see the call
- *   1        the bytes are not UTF-8                                 length of the longest valid prefix
- *   2        more than GALOXUMI_LIMIT bytes                          GALOXUMI_LIMIT
- *   3        fewer token records than tokens, Eof counted            tokens needed
- *   4        the output is shorter than what is to be written       bytes needed
- *   5        fewer error records than errors                         records needed
- *   6        a place beyond the document; for a cursor also a line   the document's length
- *            past its place plus 1; for a span also a start after
- *            the end, or an end at a byte 80 to BF
- *            in the calls on marks: a token number not below the     the number of records
- *            number of token records
- *   7        a number that is no kind that the call knows, or the    that number
- *            number of no error
- *   9        a number that is no edition of TOML                     that number
- *   11       a number that is no reviewer's: neither 0 nor 1         that number
- *   12       the table of marks is shorter than the token records    the number of records
+ * An answer has `refusal`, which is GALOXUMI_ANSWERED, 0, where the call answered, and else says why it did not (`enum
+ * galoxumi_refusal` below, with the value that is returned); `value`; and `length`, which is 0 except with refusal 1.
  *
  * With refusal 1 `length` is the length, 1 to 3, of the faulty sequence after the valid prefix: of the bytes that, with
  * what follows them, begin no character; or 0 where the bytes end inside a character, which further bytes could mend.
@@ -42,10 +24,48 @@
 extern "C" {
 #endif
 
+/* The version of this header, and of the archive that it is installed with. */
+#define GALOXUMI_VERSION "0.9.0"
+#define GALOXUMI_VERSION_MAJOR 0
+#define GALOXUMI_VERSION_MINOR 9
+#define GALOXUMI_VERSION_PATCH 0
+
+/* The most bytes that a document, a text to decode or a value to write may have. */
 #define GALOXUMI_LIMIT ((size_t)16777216)
 
+/* How much to lend, by the bytes of what is read, so that no call finds it too little, and none counts first: tokens to
+ * galoxumi_lex; output and errors to a decode; output to galoxumi_write_value. */
+#define GALOXUMI_MOST_TOKENS(doc_len) ((doc_len) + 1)
+#define GALOXUMI_MOST_BYTES(text_len) ((text_len) + (text_len) / 2)
+#define GALOXUMI_MOST_ERRORS(text_len) ((text_len) + 2)
+#define GALOXUMI_MOST_WRITTEN(value_len) (6 * (value_len) + 2)
+
+/* Why a call did not answer. Beside each: when it is given, and the value returned with it. */
+enum galoxumi_refusal {
+    GALOXUMI_ANSWERED = 0,     /* it answered; tokens, bytes, ticks, 1 or 0: see the call */
+    GALOXUMI_NOT_UTF8 = 1,     /* the bytes are not UTF-8; the length of the longest valid prefix */
+    GALOXUMI_TOO_LONG = 2,     /* more than GALOXUMI_LIMIT bytes; GALOXUMI_LIMIT */
+    GALOXUMI_FEW_TOKENS = 3,   /* fewer tokens are lent than there are, Eof counted; the tokens needed */
+    GALOXUMI_SHORT_OUTPUT = 4, /* the output is shorter than what is to be written; the bytes needed */
+    GALOXUMI_FEW_ERRORS = 5,   /* fewer errors are lent than there are; the errors needed */
+    /* A place beyond the document; for a cursor also a line past its place plus 1; for a span also a start after the end, or
+     * an end at a byte 80 to BF; the document's length. In the calls on marks: a token number not below the number of
+     * tokens; the number of tokens. */
+    GALOXUMI_OUT_OF_PLACE = 6,
+    GALOXUMI_NO_KIND = 7,      /* a number that is no kind that the call knows, or the number of no error; that number */
+    GALOXUMI_NO_EDITION = 9,   /* a number that is no edition of TOML; that number */
+    GALOXUMI_NO_REVIEWER = 11, /* a number that is no reviewer's: neither 0 nor 1; that number */
+    GALOXUMI_FEW_MARKS = 12    /* the table of marks is shorter than the tokens; the number of tokens */
+};
+
+/* The edition of TOML that a text is read as. */
+enum galoxumi_edition {
+    GALOXUMI_TOML_10 = 10,
+    GALOXUMI_TOML_11 = 11
+};
+
 /* Kinds of token. Those of strings, and GALOXUMI_ATOM for an unquoted key, are the kinds of a decode. */
-enum {
+enum galoxumi_kind {
     GALOXUMI_DOT = 46,
     GALOXUMI_EQUALS = 61,
     GALOXUMI_COMMA = 44,
@@ -78,12 +98,39 @@ typedef struct {
     size_t line;
 } galoxumi_cursor;
 
+/* A token, as a call writes it into lent memory. */
 typedef struct {
-    size_t kind;
+    size_t kind; /* enum galoxumi_kind */
     size_t start;
     size_t end;  /* the place after its last byte */
     size_t line; /* the line of its first byte: 1 plus the LFs before it */
 } galoxumi_token;
+
+/* What is wrong with a text that is decoded. */
+enum galoxumi_error_number {
+    GALOXUMI_LITERAL_MISSING_QUOTE = 1,     /* a quote mark is missing */
+    GALOXUMI_LITERAL_INVALID = 2,           /* a byte is not allowed */
+    GALOXUMI_ML_LITERAL_MISSING_QUOTE = 3,  /* a quote mark is missing */
+    GALOXUMI_LONE_CR = 4,                   /* a CR without LF in a multi-line string */
+    GALOXUMI_ML_LITERAL_INVALID = 5,        /* a byte is not allowed */
+    GALOXUMI_BASIC_MISSING_QUOTE = 6,       /* a quote mark is missing */
+    GALOXUMI_BASIC_INVALID = 7,             /* bytes are not allowed */
+    GALOXUMI_MISSING_ESCAPE = 8,            /* the escaped value is missing */
+    GALOXUMI_FEW_DIGITS = 9,                /* too few hex digits */
+    GALOXUMI_NOT_SCALAR = 10,               /* not a Unicode scalar value */
+    GALOXUMI_ML_BASIC_MISSING_QUOTE = 11,   /* a quote mark is missing */
+    GALOXUMI_ML_BASIC_INVALID = 12,         /* bytes are not allowed */
+    GALOXUMI_MISSING_NEWLINE = 13,          /* a line-ending backslash without its newline */
+    GALOXUMI_EMPTY_KEY = 14,                /* a key is empty */
+    GALOXUMI_KEY_INVALID = 15               /* a byte is not allowed in a key */
+};
+
+/* An error, as a decode writes it into lent memory; its words are galoxumi_error_words's. */
+typedef struct {
+    size_t number; /* enum galoxumi_error_number */
+    size_t start;  /* from the start of the text */
+    size_t end;    /* the place after its last byte */
+} galoxumi_error;
 
 /* Whether all of doc is UTF-8. Refusals 2, 1; value 0 where it is. */
 galoxumi_answer galoxumi_check_utf8(const uint8_t *doc, size_t doc_len);
@@ -109,10 +156,10 @@ typedef struct {
 
 galoxumi_stepped galoxumi_step(const uint8_t *doc, size_t doc_len, size_t place, size_t ended, size_t line);
 
-/* All tokens, Eof last, each as kind, start, end, line, into the lent records from the front; records after
- * them keep their contents. value is the count of tokens. Refusals 2, 1, 3. Where more records are lent than the
- * document has bytes, the tokens are not counted first, which saves a pass. */
-galoxumi_answer galoxumi_lex(const uint8_t *doc, size_t doc_len, size_t (*records)[4], size_t records_len);
+/* All tokens, Eof last, into the lent ones from the front; those after them keep their contents. value is the count of
+ * tokens. Refusals 2, 1, 3. Where more are lent than the document has bytes, they are not counted first, which saves a
+ * pass. */
+galoxumi_answer galoxumi_lex(const uint8_t *doc, size_t doc_len, galoxumi_token *tokens, size_t tokens_len);
 
 /* Whether start..end lies in the document and neither end is inside a character. Refusals 2, 6. */
 galoxumi_answer galoxumi_check_span(const uint8_t *doc, size_t doc_len, size_t start, size_t end);
@@ -135,34 +182,23 @@ typedef struct {
 
 galoxumi_positioned galoxumi_position(const uint8_t *doc, size_t doc_len, size_t offset);
 
-/* The bytes of a text of a kind (39, 34, 1, 2, or 3 for a key) into output from its front, and its errors,
- * each as number, start, end, into the lent records from the front; the rest keeps its contents. value is
- * the count of bytes, errors the count of errors. Refusals 2, 1, 7, 4, 5. Where the output is one and a half times as
- * long as the text, and two more records are lent than it has bytes, nothing is counted first, which saves a pass.
- * Errors:
- *
- *   1, 3, 6, 11  a quote mark is missing: literal, multi-line literal, basic, multi-line basic
- *   2, 5         a byte is not allowed: literal, multi-line literal
- *   4            a CR without LF in a multi-line string
- *   7, 12        bytes are not allowed: basic, multi-line basic
- *   8            the escaped value is missing
- *   9            too few hex digits
- *   10           not a Unicode scalar value
- *   13           a line-ending backslash without its newline
- *   14, 15       a key is empty; a byte is not allowed in a key */
+/* The bytes of a text of a kind (a string's, or GALOXUMI_ATOM for a key) into output from its front, and its errors into
+ * the lent ones from the front: opening mark, closing mark, then the body from left to right. The rest keeps its contents.
+ * value is the count of bytes, errors the count of errors. Refusals 2, 1, 7, 4, 5. Where the output is one and a half times
+ * as long as the text, and two more errors are lent than it has bytes, nothing is counted first, which saves a pass. */
 typedef struct {
     galoxumi_answer answer;
     size_t errors;
 } galoxumi_decoded;
 
 galoxumi_decoded galoxumi_decode(const uint8_t *text, size_t text_len, size_t kind, uint8_t *output, size_t output_len,
-                                 size_t (*errors)[3], size_t errors_len);
+                                 galoxumi_error *errors, size_t errors_len);
 
-/* The same in the edition of TOML that a number names, 10 for TOML 1.0 or 11 for TOML 1.1; galoxumi_decode reads 10.
+/* The same in the edition of TOML that a number names (enum galoxumi_edition); galoxumi_decode reads 10.
  * Edition 11 adds \e (U+001B) and \x with two hex digits (U+0000 to U+00FF) to the basic kinds: error 8 where the
  * escape is neither those nor 1.0's, and 9 for an \x with fewer digits. Refusals 2, 1, 7, 9, 4, 5. */
 galoxumi_decoded galoxumi_decode_in(const uint8_t *text, size_t text_len, size_t edition, size_t kind, uint8_t *output,
-                                    size_t output_len, size_t (*errors)[3], size_t errors_len);
+                                    size_t output_len, galoxumi_error *errors, size_t errors_len);
 
 /* The shortest text that TOML 1.0.0 reads as a literal or basic string with the value, into output from its front; the
  * rest keeps its contents. It is the literal string where there is one: where the value has no apostrophe and, tabs apart,
@@ -191,7 +227,7 @@ typedef struct {
 galoxumi_encoded galoxumi_encoding(size_t kind);
 
 /* What a text of an error is. */
-enum {
+enum galoxumi_said {
     GALOXUMI_NOTHING = 0,    /* there is no such text */
     GALOXUMI_MESSAGE = 1,    /* what is wrong */
     GALOXUMI_LITERAL = 2,    /* a text that is expected at the error's place */
@@ -213,24 +249,24 @@ typedef struct {
 
 galoxumi_words galoxumi_error_words(size_t error, size_t edition, size_t which);
 
-/* Two reviewers, 0 and 1, tick off the tokens of one document. Beside the token records lies a lent table of marks, a byte
- * for each record and perhaps more: bit 0 is reviewer 0's, bit 1 is reviewer 1's, and the other six are unused. A token is
- * named by its number among the records, from 0 on; what the records hold does not matter, only how many there are.
- * What a reviewer is told depends only on the number of records, the table's length, and that reviewer's own calls and bits.
+/* Two reviewers, 0 and 1, tick off the tokens of one document. Beside the tokens lies a lent table of marks, a byte for each
+ * token and perhaps more: bit 0 is reviewer 0's, bit 1 is reviewer 1's, and the other six are unused. A token is named by
+ * its number among the tokens, from 0 on; what the tokens hold does not matter, only how many there are. What a reviewer is
+ * told depends only on the number of tokens, the table's length, and that reviewer's own calls and bits.
  *
  * galoxumi_tick sets the reviewer's bit of a token and galoxumi_untick clears it; every other bit of the table keeps its
  * value. value is 0. galoxumi_is_ticked asks for that bit: value is 1 where it is set, and 0 where it is not. Refusals of
  * all three: 11, 6, 12. */
-galoxumi_answer galoxumi_tick(const size_t (*records)[4], size_t records_len, uint8_t *marks, size_t marks_len, size_t reviewer,
+galoxumi_answer galoxumi_tick(const galoxumi_token *tokens, size_t tokens_len, uint8_t *marks, size_t marks_len, size_t reviewer,
                               size_t token);
-galoxumi_answer galoxumi_untick(const size_t (*records)[4], size_t records_len, uint8_t *marks, size_t marks_len, size_t reviewer,
+galoxumi_answer galoxumi_untick(const galoxumi_token *tokens, size_t tokens_len, uint8_t *marks, size_t marks_len, size_t reviewer,
                                 size_t token);
-galoxumi_answer galoxumi_is_ticked(const size_t (*records)[4], size_t records_len, const uint8_t *marks, size_t marks_len,
+galoxumi_answer galoxumi_is_ticked(const galoxumi_token *tokens, size_t tokens_len, const uint8_t *marks, size_t marks_len,
                                    size_t reviewer, size_t token);
 
-/* How many of the reviewer's bits are set over the records, as value; entries after those of the records do not count.
+/* How many of the reviewer's bits are set over the tokens, as value; entries after those of the tokens do not count.
  * Refusals 11, 12. */
-galoxumi_answer galoxumi_ticks(const size_t (*records)[4], size_t records_len, const uint8_t *marks, size_t marks_len,
+galoxumi_answer galoxumi_ticks(const galoxumi_token *tokens, size_t tokens_len, const uint8_t *marks, size_t marks_len,
                                size_t reviewer);
 
 #ifdef __cplusplus

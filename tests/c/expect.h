@@ -41,23 +41,23 @@ static void run(void (*test)(void), const char *name)
 /* A string literal as bytes and their number. */
 #define BYTES(text) (const uint8_t *)(text), sizeof(text) - 1
 
-/* An error's record: three numbers. A token's: its line too. */
-#define R(a, b, c) {a, b, c}
-#define T(a, b, c, line) {a, b, c, line}
+/* An error: number, start, end. A token: kind, start, end, line. */
+#define R(number, start, end) {number, start, end}
+#define T(kind, start, end, line) {kind, start, end, line}
 
 static int answers(galoxumi_answer a, size_t refusal, size_t value)
 {
     return a.refusal == refusal && a.value == value;
 }
 
-static int is_record(const size_t record[3], size_t a, size_t b, size_t c)
+static int is_error(galoxumi_error e, size_t number, size_t start, size_t end)
 {
-    return record[0] == a && record[1] == b && record[2] == c;
+    return e.number == number && e.start == start && e.end == end;
 }
 
-static int is_token(const size_t record[4], size_t a, size_t b, size_t c, size_t line)
+static int is_token(galoxumi_token t, size_t kind, size_t start, size_t end, size_t line)
 {
-    return is_record(record, a, b, c) && record[3] == line;
+    return t.kind == kind && t.start == start && t.end == end && t.line == line;
 }
 
 #endif

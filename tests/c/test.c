@@ -9,14 +9,14 @@
 
 /* Lexed with records to spare: the tokens, and the record after them kept. With as many as there are
  * tokens: the same. With one fewer, and with none: refusal 3, and nothing written. */
-static int lexes(const uint8_t *doc, size_t len, const size_t (*tokens)[4], size_t count)
+static int lexes(const uint8_t *doc, size_t len, const galoxumi_token *tokens, size_t count)
 {
-    size_t records[16][4], old[16][4];
+    galoxumi_token records[16], old[16];
     memset(old, 0xA5, sizeof old);
     for (size_t room = count; room <= count + 1; room++) {
         memcpy(records, old, sizeof old);
         if (!answers(galoxumi_lex(doc, len, records, room), 0, count) || memcmp(records, tokens, count * sizeof *records) != 0
-            || memcmp(records[count], old[count], sizeof *old) != 0) {
+            || memcmp(&records[count], &old[count], sizeof *old) != 0) {
             return 0;
         }
     }
@@ -27,7 +27,7 @@ static int lexes(const uint8_t *doc, size_t len, const size_t (*tokens)[4], size
 
 #define LEXES(text, ...)                                                             \
     do {                                                                             \
-        static const size_t tokens[][4] = {__VA_ARGS__};                             \
+        static const galoxumi_token tokens[] = {__VA_ARGS__};                        \
         EXPECT(lexes(BYTES(text), tokens, sizeof tokens / sizeof *tokens) && #text); \
     } while (0)
 
@@ -43,7 +43,7 @@ static void lexing(void)
     LEXES("a\"b c", T(3, 0, 3, 1), T(32, 3, 4, 1), T(3, 4, 5, 1), T(4, 5, 5, 1));
     LEXES("a = \"b\"\n", T(3, 0, 1, 1), T(32, 1, 2, 1), T(61, 2, 3, 1), T(32, 3, 4, 1), T(34, 4, 7, 1), T(10, 7, 8, 1), T(4, 8, 8, 2));
     FROM("docs/RULES.md, the refusals: 1 before 3, with the longest valid prefix");
-    size_t one[1][4] = {T(7, 8, 9, 1)};
+    galoxumi_token one[1] = {T(7, 8, 9, 1)};
     EXPECT(answers(galoxumi_lex(BYTES("a\xFF"), one, 0), 1, 1));
     EXPECT(is_token(one[0], 7, 8, 9, 1));
     EXPECT(answers(galoxumi_check_utf8(BYTES("")), 0, 0));
@@ -56,7 +56,8 @@ static void lexing(void)
 static int counts_lines(size_t n, size_t k)
 {
     uint8_t doc[320];
-    size_t records[8][4], lines = 1;
+    galoxumi_token records[8];
+    size_t lines = 1;
     memset(doc, '\'', sizeof doc);
     for (size_t i = 0; i < n; i++) {
         doc[3 + i] = i % k == k - 1 ? '\n' : 'x';
@@ -117,10 +118,10 @@ static void stepping(void)
 
 /* Decoded with room to spare, and with just enough: the bytes and the errors, and what stands after them kept.
  * With a byte or a record too few, and with none: refusal 4 or 5, and nothing written. */
-static int decodes(size_t kind, const uint8_t *text, size_t len, const uint8_t *bytes, size_t n, const size_t (*errors)[3], size_t m)
+static int decodes(size_t kind, const uint8_t *text, size_t len, const uint8_t *bytes, size_t n, const galoxumi_error *errors, size_t m)
 {
     uint8_t out[32], old[32];
-    size_t records[8][3], kept[8][3];
+    galoxumi_error records[8], kept[8];
     memset(old, 0xA5, sizeof old);
     memset(kept, 0xA5, sizeof kept);
     for (size_t spare = 0; spare <= 20; spare += 20) {
@@ -149,7 +150,7 @@ static int decodes(size_t kind, const uint8_t *text, size_t len, const uint8_t *
 #define NO_ERRORS R(0, 0, 0)
 #define DECODES(kind, text, bytes, m, ...)                                    \
     do {                                                                      \
-        static const size_t errors[][3] = {__VA_ARGS__};                      \
+        static const galoxumi_error errors[] = {__VA_ARGS__};                 \
         EXPECT(decodes(kind, BYTES(text), BYTES(bytes), errors, m) && #text); \
     } while (0)
 
@@ -177,7 +178,7 @@ static void decoding(void)
 static void decoding_refused(void)
 {
     uint8_t out[2] = {0xA5, 0xA5};
-    size_t errors[1][3] = {R(7, 8, 9)};
+    galoxumi_error errors[1] = {R(7, 8, 9)};
     FROM("docs/RULES.md, the refusals: 1 before 7, 7 before 4, 4 before 5");
     galoxumi_decoded d = galoxumi_decode(BYTES("\"\xFF\""), 5, out, 0, errors, 0);
     EXPECT(answers(d.answer, 1, 1) && d.errors == 0);
@@ -188,7 +189,7 @@ static void decoding_refused(void)
     d = galoxumi_decode(BYTES("\"ab"), 34, out, 2, errors, 0);
     EXPECT(answers(d.answer, 5, 1) && d.errors == 0);
     FROM("docs/RULES.md, the refusals: a refused call writes nothing");
-    EXPECT(out[0] == 0xA5 && out[1] == 0xA5 && is_record(errors[0], 7, 8, 9));
+    EXPECT(out[0] == 0xA5 && out[1] == 0xA5 && is_error(errors[0], 7, 8, 9));
 }
 
 /* ---- writing */
@@ -198,7 +199,7 @@ static void decoding_refused(void)
 static int writes(const uint8_t *value, size_t len, size_t kind, const uint8_t *text, size_t n)
 {
     uint8_t out[64], old[64], back[64];
-    size_t errors[1][3];
+    galoxumi_error errors[1];
     memset(old, 0xA5, sizeof old);
     for (size_t room = n; room <= n + 1; room++) {
         memcpy(out, old, sizeof old);
@@ -328,8 +329,8 @@ static const size_t LIMIT = 16777216;
 
 struct memory {
     uint8_t *doc, *out;
-    size_t (*records)[3];
-    size_t (*tokens)[4];
+    galoxumi_error *errors;
+    galoxumi_token *tokens;
 };
 
 /* Accepted by every call. Each byte is a token or an error of its own, so the lent records are as many as
@@ -350,17 +351,17 @@ static void at_the_limit(struct memory m, size_t len)
     EXPECT(answers(galoxumi_lex(m.doc, len, m.tokens, len), 3, len + 1));
     EXPECT(answers(galoxumi_lex(m.doc, len, m.tokens, 0), 3, len + 1));
     FROM("crates/decoder_rules/specs/Bodies.antt: error 15 at each byte of a key of dots");
-    galoxumi_decoded d = galoxumi_decode(m.doc, len, 3, m.out, len, m.records, len);
-    EXPECT(answers(d.answer, 0, len) && d.errors == len && is_record(m.records[len - 1], 15, len - 1, len - 1));
-    EXPECT(answers(galoxumi_decode(m.doc, len, 3, m.out, len, m.records, len - 1).answer, 5, len));
+    galoxumi_decoded d = galoxumi_decode(m.doc, len, 3, m.out, len, m.errors, len);
+    EXPECT(answers(d.answer, 0, len) && d.errors == len && is_error(m.errors[len - 1], 15, len - 1, len - 1));
+    EXPECT(answers(galoxumi_decode(m.doc, len, 3, m.out, len, m.errors, len - 1).answer, 5, len));
     FROM("crates/decoder_rules/specs/Marks.antt: one string without its two marks");
     m.doc[0] = m.doc[len - 1] = '"';
     EXPECT(answers(galoxumi_lex(m.doc, len, m.tokens, 2), 0, 2) && is_token(m.tokens[0], 34, 0, len, 1));
-    d = galoxumi_decode(m.doc, len, 34, m.out, len + len / 2, m.records, len + 2);
+    d = galoxumi_decode(m.doc, len, 34, m.out, len + len / 2, m.errors, len + 2);
     EXPECT(answers(d.answer, 0, len - 2) && d.errors == 0 && m.out[0] == '.' && m.out[len - 3] == '.');
-    EXPECT(answers(galoxumi_decode(m.doc, len, 34, m.out, len - 2, m.records, 0).answer, 0, len - 2));
-    EXPECT(answers(galoxumi_decode(m.doc, len, 34, m.out, len - 3, m.records, 0).answer, 4, len - 2));
-    EXPECT(answers(galoxumi_decode_in(m.doc, len, 11, 34, m.out, len - 2, m.records, 0).answer, 0, len - 2));
+    EXPECT(answers(galoxumi_decode(m.doc, len, 34, m.out, len - 2, m.errors, 0).answer, 0, len - 2));
+    EXPECT(answers(galoxumi_decode(m.doc, len, 34, m.out, len - 3, m.errors, 0).answer, 4, len - 2));
+    EXPECT(answers(galoxumi_decode_in(m.doc, len, 11, 34, m.out, len - 2, m.errors, 0).answer, 0, len - 2));
     FROM("crates/built_writing/specs/Writing.antt: a text is written where it fits, and may be longer than the limit");
     EXPECT(answers(galoxumi_write_value(m.doc, len, m.out, len + 2), 0, len + 2) && m.out[0] == '\'' && m.out[len + 1] == '\'');
     EXPECT(answers(galoxumi_write_value(m.doc, len, m.out, len + 1), 4, len + 2));
@@ -368,7 +369,7 @@ static void at_the_limit(struct memory m, size_t len)
     m.doc[len - 1] = 0xC3;
     EXPECT(answers(galoxumi_check_utf8(m.doc, len), 1, len - 1));
     EXPECT(answers(galoxumi_lex(m.doc, len, m.tokens, 0), 1, len - 1));
-    EXPECT(answers(galoxumi_decode(m.doc, len, 5, m.out, 0, m.records, 0).answer, 1, len - 1));
+    EXPECT(answers(galoxumi_decode(m.doc, len, 5, m.out, 0, m.errors, 0).answer, 1, len - 1));
 }
 
 /* Refused by every call, before all else that is wrong with what it is given. */
@@ -377,8 +378,8 @@ static void past_the_limit(struct memory m, size_t len)
     FROM("docs/RULES.md, the refusals: 2 first, with 16,777,216, and the other results zero");
     m.doc[0] = 0xFF;
     m.out[0] = 0xA5;
-    m.records[0][0] = 7;
-    m.tokens[0][0] = 7;
+    m.errors[0].number = 7;
+    m.tokens[0].kind = 7;
     EXPECT(answers(galoxumi_check_utf8(m.doc, len), 2, LIMIT));
     EXPECT(answers(galoxumi_lex(m.doc, len, m.tokens, 0), 2, LIMIT));
     EXPECT(answers(galoxumi_lex(m.doc, len, m.tokens, len + 1), 2, LIMIT));
@@ -388,15 +389,15 @@ static void past_the_limit(struct memory m, size_t len)
     EXPECT(answers(galoxumi_check_span(m.doc, len, 5, 4), 2, LIMIT));
     EXPECT(is_part(galoxumi_text(m.doc, len, 1, 2), 0, 0));
     EXPECT(is_position(galoxumi_position(m.doc, len, SIZE_MAX), 2, LIMIT, 0, 0));
-    galoxumi_decoded d = galoxumi_decode(m.doc, len, 5, m.out, 0, m.records, 0);
+    galoxumi_decoded d = galoxumi_decode(m.doc, len, 5, m.out, 0, m.errors, 0);
     EXPECT(answers(d.answer, 2, LIMIT) && d.errors == 0);
-    d = galoxumi_decode(m.doc, len, 34, m.out, LIMIT, m.records, LIMIT);
+    d = galoxumi_decode(m.doc, len, 34, m.out, LIMIT, m.errors, LIMIT);
     EXPECT(answers(d.answer, 2, LIMIT) && d.errors == 0);
     EXPECT(answers(galoxumi_write_value(m.doc, len, m.out, 0), 2, LIMIT));
     EXPECT(answers(galoxumi_write_value(m.doc, len, m.out, LIMIT), 2, LIMIT));
-    d = galoxumi_decode_in(m.doc, len, 12, 34, m.out, LIMIT, m.records, LIMIT);
+    d = galoxumi_decode_in(m.doc, len, 12, 34, m.out, LIMIT, m.errors, LIMIT);
     EXPECT(answers(d.answer, 2, LIMIT) && d.errors == 0);
-    EXPECT(m.out[0] == 0xA5 && m.records[0][0] == 7 && m.tokens[0][0] == 7);
+    EXPECT(m.out[0] == 0xA5 && m.errors[0].number == 7 && m.tokens[0].kind == 7);
 }
 
 /* ---- the words of errors */
@@ -477,11 +478,11 @@ static int broken(galoxumi_answer a, size_t value, size_t length)
 static void faults(void)
 {
     uint8_t out[16];
-    size_t records[4][3];
+    galoxumi_error records[4];
     FROM("core::str::Utf8Error: error_len is none, here 0, at an unexpected end, and else 1 to 3");
     EXPECT(broken(galoxumi_check_utf8(BYTES("a\xE2\x82")), 1, 0));
     EXPECT(broken(galoxumi_check_utf8(BYTES("a\xE2\x82" "b")), 1, 2));
-    size_t tokens[1][4];
+    galoxumi_token tokens[1];
     EXPECT(broken(galoxumi_lex(BYTES("\xF0\x90\x80" "b"), tokens, 1), 0, 3));
     EXPECT(broken(galoxumi_decode(BYTES("\xED\xA0\x80"), 34, out, 16, records, 4).answer, 0, 1));
     EXPECT(broken(galoxumi_decode_in(BYTES("\xFF"), 12, 5, out, 16, records, 4).answer, 0, 1));
@@ -493,7 +494,7 @@ static void faults(void)
 static void editions(void)
 {
     uint8_t out[16];
-    size_t records[4][3];
+    galoxumi_error records[4];
     const uint8_t text[] = "\"\\e\\x41\"";
     size_t len = sizeof text - 1;
     FROM("the ABNF of TOML 1.1.0: escape-seq-char has e (U+001B) and x with two hex digits besides");
@@ -501,9 +502,9 @@ static void editions(void)
     EXPECT(answers(d.answer, 0, 2) && d.errors == 0 && out[0] == 0x1B && out[1] == 0x41);
     FROM("docs/RULES.md, the errors: 8 after the backslash");
     d = galoxumi_decode_in(text, len, 10, 34, out, 16, records, 4);
-    EXPECT(answers(d.answer, 0, 6) && d.errors == 2 && records[0][0] == 8 && records[0][1] == 2 && records[1][1] == 4);
+    EXPECT(answers(d.answer, 0, 6) && d.errors == 2 && records[0].number == 8 && records[0].start == 2 && records[1].start == 4);
     d = galoxumi_decode(text, len, 34, out, 16, records, 4);
-    EXPECT(answers(d.answer, 0, 6) && d.errors == 2 && records[0][0] == 8 && records[0][1] == 2 && records[1][1] == 4);
+    EXPECT(answers(d.answer, 0, 6) && d.errors == 2 && records[0].number == 8 && records[0].start == 2 && records[1].start == 4);
     FROM("docs/RULES.md, the refusals: 9 with the number named, after 7 and before 4");
     out[0] = 0xA5;
     EXPECT(answers(galoxumi_decode_in(text, len, 12, 34, out, 0, records, 4).answer, 9, 12));
@@ -534,8 +535,8 @@ static void longest_text(void)
 /* ---- two reviewers on one table of marks */
 
 /* The tokens of `a = 'b'`, an LF, and Eof; for the calls on marks only their number matters. */
-static const size_t SEVEN[7][4] = {T(3, 0, 1, 1), T(32, 1, 2, 1), T(61, 2, 3, 1), T(32, 3, 4, 1),
-                                   T(39, 4, 7, 1), T(10, 7, 8, 1), T(4, 8, 8, 2)};
+static const galoxumi_token SEVEN[7] = {T(3, 0, 1, 1), T(32, 1, 2, 1), T(61, 2, 3, 1), T(32, 3, 4, 1),
+                                        T(39, 4, 7, 1), T(10, 7, 8, 1), T(4, 8, 8, 2)};
 
 /* Setting, asking, clearing and asking again, by one reviewer, with each byte as the token's entry: the reviewer's bit and
  * no other changes, and the entries beside it stay. */
@@ -572,7 +573,7 @@ static void reviewers(void)
     EXPECT(answers(galoxumi_ticks(SEVEN, 7, table, 9, 0), 0, 4));
     EXPECT(answers(galoxumi_ticks(SEVEN, 7, table, 9, 1), 0, 3));
     EXPECT(answers(galoxumi_ticks(SEVEN, 0, table, 0, 1), 0, 0));
-    static const size_t many[300][4];
+    static const galoxumi_token many[300];
     uint8_t marks[300];
     for (size_t i = 0; i < 300; i++) {
         marks[i] = (uint8_t)(i % 4);
@@ -611,14 +612,52 @@ static void reviewers_refused(void)
     EXPECT(answers(galoxumi_ticks(SEVEN, 1, none, 0, 1), 12, 1));
 }
 
+/* NULL stands for memory of no bytes, tokens, errors or marks, read or lent. */
+static void nulls(void)
+{
+    FROM("include/galoxumi.h: a pointer may be NULL where the length after it is 0; docs/RULES.md: a document of no bytes is Eof");
+    galoxumi_token one[1];
+    EXPECT(answers(galoxumi_check_utf8(NULL, 0), 0, 0));
+    EXPECT(answers(galoxumi_start(NULL, 0).answer, 0, 0));
+    EXPECT(steps(galoxumi_step(NULL, 0, 0, 0, 1), (galoxumi_token)T(4, 0, 0, 1), (galoxumi_cursor){0, 1, 1}));
+    EXPECT(answers(galoxumi_lex(NULL, 0, NULL, 0), 3, 1));
+    EXPECT(answers(galoxumi_lex(NULL, 0, one, 1), 0, 1) && is_token(one[0], 4, 0, 0, 1));
+    EXPECT(answers(galoxumi_check_span(NULL, 0, 0, 0), 0, 0) && is_part(galoxumi_text(NULL, 0, 0, 0), 0, 0));
+    EXPECT(is_position(galoxumi_position(NULL, 0, 0), 0, 0, 1, 1));
+    EXPECT(answers(galoxumi_decode(NULL, 0, 3, NULL, 0, NULL, 0).answer, 5, 1));
+    EXPECT(answers(galoxumi_decode_in(BYTES("''"), 10, 39, NULL, 0, NULL, 0).answer, 0, 0));
+    EXPECT(answers(galoxumi_decode(BYTES("'a'"), 39, NULL, 0, NULL, 0).answer, 4, 1));
+    EXPECT(answers(galoxumi_write_value(NULL, 0, NULL, 0), 4, 2));
+    EXPECT(answers(galoxumi_tick(NULL, 0, NULL, 0, 0, 0), 6, 0) && answers(galoxumi_untick(NULL, 0, NULL, 0, 0, 0), 6, 0));
+    EXPECT(answers(galoxumi_is_ticked(NULL, 0, NULL, 0, 0, 0), 6, 0) && answers(galoxumi_ticks(NULL, 0, NULL, 0, 0), 0, 0));
+}
+
+/* What the header says to lend is never too little, and its enums have the numbers of the calls. */
+static void header(void)
+{
+    uint8_t out[32];
+    galoxumi_token tokens[8];
+    galoxumi_error errors[8];
+    FROM("include/galoxumi.h: so much that no call finds it too little: dots, an escape of two bytes that gives three, 01");
+    EXPECT(answers(galoxumi_lex(BYTES("...."), tokens, GALOXUMI_MOST_TOKENS(4)), 0, 5));
+    EXPECT(answers(galoxumi_decode(BYTES("\\u\\u"), 34, out, GALOXUMI_MOST_BYTES(4), errors, GALOXUMI_MOST_ERRORS(4)).answer, 0, 6));
+    EXPECT(galoxumi_decode(BYTES("\x01\x01"), 39, out, 4, errors, GALOXUMI_MOST_ERRORS(2)).errors == 4);
+    EXPECT(answers(galoxumi_write_value(BYTES("\x01\x01"), out, GALOXUMI_MOST_WRITTEN(2)), 0, 14));
+    FROM("docs/RULES.md, the numbers of the errors and of the refusals");
+    EXPECT(galoxumi_decode(BYTES("\"\\q\""), GALOXUMI_BASIC_STRING, out, 8, errors, 8).errors == 1);
+    EXPECT(errors[0].number == GALOXUMI_MISSING_ESCAPE);
+    EXPECT(answers(galoxumi_decode_in(BYTES("\"\\e\""), GALOXUMI_TOML_11, GALOXUMI_BASIC_STRING, out, 8, errors, 8).answer, 0, 1));
+    EXPECT(answers(galoxumi_description(5).answer, GALOXUMI_NO_KIND, 5) && answers(galoxumi_ticks(NULL, 0, NULL, 0, 2), GALOXUMI_NO_REVIEWER, 2));
+}
+
 static void long_documents(void)
 {
     size_t len = LIMIT;
     FROM("docs/RULES.md, the refusals: the header has the same number");
     EXPECT(GALOXUMI_LIMIT == len);
-    struct memory m = {malloc(len + 1), malloc(len + len / 2), malloc((len + 2) * sizeof(size_t[3])),
-                       malloc((len + 2) * sizeof(size_t[4]))};
-    if (!m.doc || !m.out || !m.records || !m.tokens) {
+    struct memory m = {malloc(len + 1), malloc(len + len / 2), malloc((len + 2) * sizeof(galoxumi_error)),
+                       malloc((len + 2) * sizeof(galoxumi_token))};
+    if (!m.doc || !m.out || !m.errors || !m.tokens) {
         printf("FAILED: no memory for the long documents: they need 1 GB\n");
         broke++;
         return;
@@ -627,7 +666,7 @@ static void long_documents(void)
     past_the_limit(m, len + 1);
     free(m.doc);
     free(m.out);
-    free(m.records);
+    free(m.errors);
     free(m.tokens);
 }
 
@@ -638,6 +677,8 @@ int main(void)
     RUN(stepping);
     RUN(decoding);
     RUN(decoding_refused);
+    RUN(nulls);
+    RUN(header);
     RUN(writing);
     RUN(places);
     RUN(kinds);

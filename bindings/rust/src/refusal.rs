@@ -42,11 +42,18 @@ pub enum Refusal {
         /// That number.
         number: usize,
     },
+    /// 8: a part, or the closing word, after the end.
+    AfterEnd,
     /// 9: a number that is no edition of TOML. No call of this crate gives it, since an [`Edition`](crate::Edition) always
     /// is one.
     NoEdition {
         /// That number.
         number: usize,
+    },
+    /// 10: more brackets are open at once than the depth.
+    TooDeep {
+        /// The depth.
+        depth: usize,
     },
     /// 11: a number that is no reviewer's. No call of this crate gives it, since a [`Reviewer`](crate::Reviewer) always is
     /// one.
@@ -59,6 +66,8 @@ pub enum Refusal {
         /// The tokens.
         needed: usize,
     },
+    /// 13: a total would pass 64 bits.
+    TotalFull,
 }
 
 /// What a call looked for where it gave refusal 6.
@@ -85,9 +94,12 @@ impl Refusal {
             Self::FewErrors { .. } => 5,
             Self::OutOfPlace { .. } => 6,
             Self::NoKind { .. } => 7,
+            Self::AfterEnd => 8,
             Self::NoEdition { .. } => 9,
+            Self::TooDeep { .. } => 10,
             Self::NoReviewer { .. } => 11,
             Self::FewMarks { .. } => 12,
+            Self::TotalFull => 13,
         }
     }
 
@@ -108,9 +120,13 @@ impl Refusal {
             5 => Err(Self::FewErrors { needed: value }),
             6 => Err(Self::OutOfPlace { what, length: value }),
             7 => Err(Self::NoKind { number: value }),
+            8 => Err(Self::AfterEnd),
             9 => Err(Self::NoEdition { number: value }),
+            10 => Err(Self::TooDeep { depth: value }),
             11 => Err(Self::NoReviewer { number: value }),
-            _ => Err(Self::FewMarks { needed: value }),
+            12 => Err(Self::FewMarks { needed: value }),
+            // 13: an answer has no other number
+            _ => Err(Self::TotalFull),
         }
     }
 }
@@ -143,9 +159,12 @@ impl core::fmt::Display for Refusal {
                 Sought::Token => write!(f, "the token's number is not below {length}, the number of tokens"),
             },
             Self::NoKind { number } => write!(f, "{number} is no kind"),
+            Self::AfterEnd => write!(f, "a part, or the closing word, after the end"),
             Self::NoEdition { number } => write!(f, "{number} is no edition of TOML"),
+            Self::TooDeep { depth } => write!(f, "more than {depth} brackets are open at once"),
             Self::NoReviewer { number } => write!(f, "{number} is no reviewer"),
             Self::FewMarks { needed } => write!(f, "{needed} marks are needed"),
+            Self::TotalFull => write!(f, "a total would pass 64 bits"),
         }
     }
 }
