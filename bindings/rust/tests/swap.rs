@@ -135,6 +135,47 @@ fn keys_are_decoded() {
     assert_eq!(value, "a");
 }
 
+/// The release tool of docs/SWAP.md, after.
+fn flags(manifest: &str) -> Result<Vec<String>, Vec<ParseError>> {
+    let source = Source::new(manifest);
+    let (mut flags, mut errors) = (Vec::new(), Vec::new());
+    for token in source.lex().filter(|token| token.kind().encoding().is_some()) {
+        let mut flag = String::new();
+        let _ = source.get(token).unwrap().decode_string(&mut flag, &mut errors);
+        flags.push(flag);
+    }
+    if errors.is_empty() {
+        Ok(flags)
+    } else {
+        Err(errors)
+    }
+}
+
+/// And as a new one would be written.
+fn new_flags(manifest: &[u8]) -> Result<Vec<String>, Box<dyn std::error::Error>> {
+    let mut flags = Vec::new();
+    for token in galoxumi::lex(manifest)? {
+        if let Some(decoded) = token.decode(manifest) {
+            let decoded = decoded?;
+            if let Some(error) = decoded.errors.first() {
+                return Err(format!("{}: {}", error.position(manifest)?, error.description()).into());
+            }
+            flags.push(decoded.text);
+        }
+    }
+    Ok(flags)
+}
+
+#[test]
+fn the_release_tool_of_the_paper() {
+    let sound = "flags = [\"-O2\", '-g']\n";
+    assert_eq!(flags(sound), Ok(vec!["-O2".to_string(), "-g".to_string()]));
+    assert_eq!(new_flags(sound.as_bytes()).unwrap(), ["-O2", "-g"]);
+    let broken = "flags = [\"-O2\", \"\\q\"]\n";
+    assert_eq!(flags(broken).unwrap_err()[0].unexpected(), Some(span_at(18)));
+    assert_eq!(new_flags(broken.as_bytes()).unwrap_err().to_string(), "1:19: missing escaped value");
+}
+
 /// A builder and a sink of the caller's own.
 #[test]
 fn builders_and_sinks_are_traits() {
