@@ -1,11 +1,11 @@
 // Answers calls: reads standard input line by line, and writes each line, ` => ` and its answer.
 // tests/README.md says which lines there are. `answers_asking` reads what a line asks for,
-// `answers_spelling` writes an answer; here the calls are made. The memory that is lent to them is made
-// once, and a line uses no more of it than its own length asks for.
-mod calls;
-
+// `answers_calls` and `answers_built_calls` make the call, and `answers_spelling` writes the answer. The
+// memory that is lent to them is made here, once, and a line uses no more of it than its own length
+// asks for.
 ghost use Prim.Native.Nat.{_≤_};
 ghost use lib.ListN.{length};
+use answers_asking::Call;
 use answers_asking::LineFault;
 use answers_asking::RECORDS;
 use answers_asking::Reading;
@@ -76,7 +76,36 @@ fn answer_to(
     let call = asked.call;
     let numbers = asked.numbers;
     if let LineFault::Nothing = fault {
-        return calls::make(call, numbers, &line[..len], bytes, errors, tokens);
+        return reply(call, numbers, &line[..len], bytes, errors, tokens);
     }
     answers_forms::fault(fault)
+}
+
+fn reply(
+    call: Call,
+    numbers: [usize; 3],
+    doc: &[u8],
+    bytes: &mut [u8],
+    errors: &mut [[usize; 3]],
+    tokens: &mut [[usize; 4]],
+) -> Reply {
+    match call {
+        Call::Reader(made) => answers_calls::reader_reply(
+            made,
+            numbers,
+            doc,
+            bytes,
+            errors,
+            tokens,
+        ),
+        Call::Built(made) => answers_built_calls::built_reply(
+            made,
+            numbers,
+            doc,
+            bytes,
+            errors,
+            tokens,
+        ),
+        Call::Unknown => answers_forms::fault(LineFault::UnknownCall),
+    }
 }

@@ -2,14 +2,17 @@
 // ` => ` after it, and taken apart. tests/README.md says which lines there are.
 mod asked;
 mod lines;
+mod names;
 mod words;
 
-pub use asked::Call;
 pub use asked::LineFault;
 pub use asked::Question;
-pub use asked::RECORDS;
-pub use asked::WRITTEN;
 pub use lines::Reading;
+pub use names::BuiltCall;
+pub use names::Call;
+pub use names::RECORDS;
+pub use names::ReaderCall;
+pub use names::WRITTEN;
 ghost use Prim.Native.Nat.{_≤_};
 ghost use lib.ListN.{length};
 

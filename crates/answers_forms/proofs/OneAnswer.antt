@@ -5,6 +5,21 @@ use mathlib.Core.Path.{sym, _∙_}
 use Rattle.text_classes.proofs.OneAnswer.{OneAnswer}
 use Rattle.answers_forms.proofs as promised
 
+pub filled : OneAnswer promised.filled.Reads.Learnt
+filled κs a x y s t p q = p ∙ sym q
+
+pub answered : OneAnswer promised.answered.Reads.Learnt
+answered κs a x y s t p q = p ∙ sym q
+
+pub three : OneAnswer promised.three.Reads.Learnt
+three κs a x y s t p q = p ∙ sym q
+
+pub refused : OneAnswer promised.refused.Reads.Learnt
+refused κs a x y s t p q = p ∙ sym q
+
+pub refused-whole : OneAnswer promised.refused_whole.Reads.Learnt
+refused-whole κs a x y s t p q = p ∙ sym q
+
 pub tokens : OneAnswer promised.tokens.Reads.Learnt
 tokens κs a x y s t p q = p ∙ sym q
 
@@ -19,12 +34,6 @@ decoded κs a x y s t p q = p ∙ sym q
 
 pub decoded-count : OneAnswer promised.decoded_count.Reads.Learnt
 decoded-count κs a x y s t p q = p ∙ sym q
-
-pub wrote : OneAnswer promised.wrote.Reads.Learnt
-wrote κs a x y s t p q = p ∙ sym q
-
-pub wrote-count : OneAnswer promised.wrote_count.Reads.Learnt
-wrote-count κs a x y s t p q = p ∙ sym q
 
 pub checked : OneAnswer promised.checked.Reads.Learnt
 checked κs a x y s t p q = p ∙ sym q
@@ -52,15 +61,6 @@ hex κs a x y s t p q = p ∙ sym q
 
 pub described : OneAnswer promised.described.Reads.Learnt
 described κs a x y s t p q = p ∙ sym q
-
-pub marked : OneAnswer promised.marked.Reads.Learnt
-marked κs a x y s t p q = p ∙ sym q
-
-pub tick-read : OneAnswer promised.tick_read.Reads.Learnt
-tick-read κs a x y s t p q = p ∙ sym q
-
-pub tick-count : OneAnswer promised.tick_count.Reads.Learnt
-tick-count κs a x y s t p q = p ∙ sym q
 
 pub fault : OneAnswer promised.fault.Reads.Learnt
 fault κs a x y s t p q = p ∙ sym q

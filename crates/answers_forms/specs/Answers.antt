@@ -1,5 +1,5 @@
--- The reply to a line: for the result of each call, and for each fault of a line, the form in which it is written and the
--- numbers that fill the form. The comments name the calls as a line does; tests/README.md lists them.
+-- The reply to a line: for the result of each call of the reader, and for each fault of a line, the form in which it is
+-- written and the numbers that fill the form. The comments name the calls as a line does; tests/README.md lists them.
 -- Assumes nothing.
 use Prim.Native.Nat.{ℕ}
 use mathlib.Core.Bool.{cond}
@@ -28,14 +28,6 @@ use Rattle.lexer_place.specs.declared.Position.{Position}
 use Rattle.lexer_place.specs.declared.Position.the-variants.{At as Found, Refused as Unfound}
 use Rattle.decoder_rules.specs.declared.Decoded.{Decoded}
 use Rattle.decoder_rules.specs.declared.Decoded.the-variants.{Written, Refused as Undecoded}
-use Rattle.built_review.specs.declared.Marking.{Marking}
-use Rattle.built_review.specs.declared.Marking.the-variants.{Done, Refused as Unmarked}
-use Rattle.built_review.specs.declared.TickRead.{TickRead}
-use Rattle.built_review.specs.declared.TickRead.the-variants.{Ticked, Unticked, Refused as Unread}
-use Rattle.built_review.specs.declared.TickCount.{TickCount}
-use Rattle.built_review.specs.declared.TickCount.the-variants.{Ticks, Refused as Uncounted}
-use Rattle.built_writing.specs.declared.Wrote.{Wrote}
-use Rattle.built_writing.specs.declared.Wrote.the-variants.{Text, Refused as Unwritten}
 use Rattle.answers_asking.specs.declared.asked.LineFault.{LineFault}
 use Rattle.answers_asking.specs.declared.asked.LineFault.the-variants as fault
 use Rattle.answers_spelling.specs.declared.Reply.{Reply}
@@ -84,15 +76,6 @@ decodedAs (Undecoded r) = refusedWhole r
 abbrev pub decodedCountAs : Decoded → Reply
 decodedCountAs (Written b e) = threeBy form.Three 0 b e
 decodedCountAs (Undecoded r) = refusedAs form.Three r
-
--- write: the bytes of the text; writecap: 0 and their count
-abbrev pub wroteAs : Wrote → Reply
-wroteAs (Text b) = filledBy form.Hex b 0
-wroteAs (Unwritten r) = refusedWhole r
-
-abbrev pub wroteCountAs : Wrote → Reply
-wroteCountAs (Text b) = filledBy form.Two 0 b
-wroteCountAs (Unwritten r) = refusedAs form.Two r
 
 -- utf8: 0 and 0
 abbrev pub checkedAs : Utf8Check → Reply
@@ -150,21 +133,6 @@ describedAs (Undescribed r) len n e =
       form = form.Described;
       numbers = refusalNumber r ∷ refusalValue r ∷ len ∷ n ∷ e ∷ 0 ∷ 0 ∷ 0 ∷ [];
     }
-
--- tick, untick: the answer's two numbers, and the table of marks afterwards, with so many entries
-abbrev pub markedAs : Marking → ℕ → Reply
-markedAs Done entries = threeBy form.Marked 0 0 entries
-markedAs (Unmarked r) entries = threeBy form.Marked (refusalNumber r) (refusalValue r) entries
-
--- ticked: 1 for a token that is ticked, else 0; ticks: the count
-abbrev pub tickReadAs : TickRead → Reply
-tickReadAs Ticked = threeBy form.Three 0 0 1
-tickReadAs Unticked = threeBy form.Three 0 0 0
-tickReadAs (Unread r) = refusedAs form.Three r
-
-abbrev pub tickCountAs : TickCount → Reply
-tickCountAs (Ticks n) = threeBy form.Three 0 0 n
-tickCountAs (Uncounted r) = refusedAs form.Three r
 
 -- each fault has a form of its own; where there is no fault, and at the input's end, nothing is written
 abbrev pub faultForm : LineFault → Form

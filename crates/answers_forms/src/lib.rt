@@ -1,18 +1,14 @@
-// The reply to a line: for the result of each call, and for each fault of a line, the form in which it
-// is written and the numbers that fill the form. Definitions: specs/Answers.antt.
+// The reply to a line: for the result of each call of the reader, and for each fault of a line, the form
+// in which it is written and the numbers that fill the form. Definitions: specs/Answers.antt.
 ghost use mathlib.Core.Path.{_≡_};
 ghost use Rattle.lexer.specs.Told.{bitOf};
 ghost use Rattle.answers_forms.specs.Answers.{filledBy, answeredBy, threeBy, refusedAs, refusedWhole, faultAs, faultForm};
 ghost use Rattle.answers_forms.specs.Answers.{tokensAs, tokenLinesAs, tokenCountAs, decodedAs, decodedCountAs, checkedAs, faultedAs};
 ghost use Rattle.answers_forms.specs.Answers.{spanCheckedAs, startedAs, positionedAs, steppedAs, steppedLineAs, nextAs, nextLineAs};
-ghost use Rattle.answers_forms.specs.Answers.{hexAs, describedAs, wroteAs, wroteCountAs, markedAs, tickReadAs, tickCountAs};
+ghost use Rattle.answers_forms.specs.Answers.{hexAs, describedAs};
 use answers_asking::LineFault;
 use answers_spelling::Form;
 use answers_spelling::Reply;
-use built_review::Marking;
-use built_review::TickCount;
-use built_review::TickRead;
-use built_writing::Wrote;
 use decoder_rules::Decoded;
 use lexer::Cursor;
 use lexer::Lexed;
@@ -26,7 +22,7 @@ use text::Utf8Check;
 use text_refusals::Refusal;
 
 // A reply with two numbers, and zeros after them.
-fn filled(form: Form, a: usize, b: usize) -> Reply
+pub fn filled(form: Form, a: usize, b: usize) -> Reply
     ensures { λ r. ⌜ r ≡ filledBy form a b ⌝ }
 {
     Reply {
@@ -36,7 +32,7 @@ fn filled(form: Form, a: usize, b: usize) -> Reply
 }
 
 // A reply with 0, 0 and two numbers, and zeros after them.
-fn answered(form: Form, a: usize, b: usize) -> Reply
+pub fn answered(form: Form, a: usize, b: usize) -> Reply
     ensures { λ r. ⌜ r ≡ answeredBy form a b ⌝ }
 {
     Reply {
@@ -46,7 +42,7 @@ fn answered(form: Form, a: usize, b: usize) -> Reply
 }
 
 // A reply with three numbers, and zeros after them.
-fn three(form: Form, a: usize, b: usize, c: usize) -> Reply
+pub fn three(form: Form, a: usize, b: usize, c: usize) -> Reply
     ensures { λ r. ⌜ r ≡ threeBy form a b c ⌝ }
 {
     Reply {
@@ -56,7 +52,7 @@ fn three(form: Form, a: usize, b: usize, c: usize) -> Reply
 }
 
 // A refused call: the refusal's number, the value returned with it, and zeros for the other results.
-fn refused(form: Form, why: Refusal) -> Reply
+pub fn refused(form: Form, why: Refusal) -> Reply
     ensures { λ r. ⌜ r ≡ refusedAs form why ⌝ }
 {
     filled(form, why.number(), why.value())
@@ -64,7 +60,7 @@ fn refused(form: Form, why: Refusal) -> Reply
 
 // A refused call in the form that only refusals have: with refusal 1 also the length of the faulty
 // sequence.
-fn refused_whole(why: Refusal) -> Reply
+pub fn refused_whole(why: Refusal) -> Reply
     ensures { λ r. ⌜ r ≡ refusedWhole why ⌝ }
 {
     if why.number() == 1 {
@@ -118,25 +114,6 @@ pub fn decoded_count(result: Decoded) -> Reply
     match result {
         Decoded::Written { bytes, errors } => three(Form::Three, 0, bytes, errors),
         Decoded::Refused(why) => refused(Form::Three, why),
-    }
-}
-
-pub fn wrote(result: Wrote) -> Reply
-    ensures { λ r. ⌜ r ≡ wroteAs result ⌝ }
-{
-    match result {
-        Wrote::Text { bytes } => filled(Form::Hex, bytes, 0),
-        Wrote::Refused(why) => refused_whole(why),
-    }
-}
-
-// 0 and the count of bytes.
-pub fn wrote_count(result: Wrote) -> Reply
-    ensures { λ r. ⌜ r ≡ wroteCountAs result ⌝ }
-{
-    match result {
-        Wrote::Text { bytes } => filled(Form::Two, 0, bytes),
-        Wrote::Refused(why) => refused(Form::Two, why),
     }
 }
 
@@ -262,35 +239,6 @@ pub fn described(answer: Described, len: usize, count: usize, encoding: usize) -
     Reply {
         form: Form::Described,
         numbers,
-    }
-}
-
-// The two numbers of the answer, and the table of marks afterwards, which has so many entries.
-pub fn marked(marking: Marking, entries: usize) -> Reply
-    ensures { λ r. ⌜ r ≡ markedAs marking entries ⌝ }
-{
-    match marking {
-        Marking::Done => three(Form::Marked, 0, 0, entries),
-        Marking::Refused(why) => three(Form::Marked, why.number(), why.value(), entries),
-    }
-}
-
-pub fn tick_read(read: TickRead) -> Reply
-    ensures { λ r. ⌜ r ≡ tickReadAs read ⌝ }
-{
-    match read {
-        TickRead::Ticked => three(Form::Three, 0, 0, 1),
-        TickRead::Unticked => three(Form::Three, 0, 0, 0),
-        TickRead::Refused(why) => refused(Form::Three, why),
-    }
-}
-
-pub fn tick_count(count: TickCount) -> Reply
-    ensures { λ r. ⌜ r ≡ tickCountAs count ⌝ }
-{
-    match count {
-        TickCount::Ticks(n) => three(Form::Three, 0, 0, n),
-        TickCount::Refused(why) => refused(Form::Three, why),
     }
 }
 

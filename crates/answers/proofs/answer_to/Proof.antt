@@ -9,11 +9,11 @@ use Rattle.answers.proofs.answer_to.Tie as tie
 enum-told : tie.Need-enum-told
 enum-told c = search needs
 
-slice-aggregate-make : tie.Need-slice-aggregate-make
-slice-aggregate-make c = simp length-take (omega arith)
+slice-aggregate-reply : tie.Need-slice-aggregate-reply
+slice-aggregate-reply c = simp length-take (omega arith)
 
-make-requires : tie.Need-make-requires
-make-requires c κs = search needs
+reply-requires : tie.Need-reply-requires
+reply-requires c κs = search needs
 
 same-length : tie.Need-same-length
 same-length c = search needs
@@ -38,8 +38,8 @@ answer-to-spec =
     tie.close
     (tie.spec
     enum-told
-    slice-aggregate-make
-    make-requires
+    slice-aggregate-reply
+    reply-requires
     same-length
     same-length-2
     same-length-3

@@ -6,10 +6,10 @@ use Rattle.answers_asking.proofs.asked.read_numbers.Statement.{statemen
 use Rattle.answers_asking.proofs.asked.read_numbers.Tie as tie
 
 abbrev Inv-loop : tie.InvT-loop
-Inv-loop line count values₀ last₀ good₀ i₀ values last good i = (i ≤ count) × (count ≤ 3)
+Inv-loop text count values₀ last₀ good₀ i₀ values last good i = (i ≤ count) × (count ≤ 3)
 
 abbrev μ-loop : tie.MeasureT-loop
-μ-loop line count values₀ last₀ good₀ i₀ values last good i = count - i
+μ-loop text count values₀ last₀ good₀ i₀ values last good i = count - i
 
 loop-holds : tie.Need-loop-holds Inv-loop μ-loop
 loop-holds c = search needs

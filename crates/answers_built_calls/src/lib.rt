@@ -1,0 +1,83 @@
+// The calls that requests added, as lines can ask for them, a function each: answers_calls has those of
+// the reader.
+use answers_asking::BuiltCall;
+use answers_lent::copy;
+use answers_lent::front;
+use answers_lent::least;
+use answers_spelling::Reply;
+
+// The reply to a call, for which `bytes`, `errors` and `tokens` are there to be lent: an arm for each
+// request, whose function is given the memory that its calls need.
+pub fn built_reply(
+    call: BuiltCall,
+    numbers: [usize; 3],
+    doc: &[u8],
+    bytes: &mut [u8],
+    errors: &mut [[usize; 3]],
+    tokens: &mut [[usize; 4]],
+) -> Reply {
+    match call {
+        BuiltCall::Write | BuiltCall::WriteCap => writing(call, numbers, doc, bytes),
+        _ => review(call, numbers, doc, bytes, tokens),
+    }
+}
+
+fn writing(call: BuiltCall, numbers: [usize; 3], doc: &[u8], bytes: &mut [u8]) -> Reply {
+    match call {
+        BuiltCall::WriteCap => writecap(numbers, doc, bytes),
+        _ => write(doc, bytes),
+    }
+}
+
+fn review(
+    call: BuiltCall,
+    numbers: [usize; 3],
+    doc: &[u8],
+    bytes: &mut [u8],
+    tokens: &[[usize; 4]],
+) -> Reply {
+    match call {
+        BuiltCall::Tick => tick(numbers, doc, bytes, tokens),
+        BuiltCall::Untick => untick(numbers, doc, bytes, tokens),
+        BuiltCall::Ticked => ticked(numbers, doc, tokens),
+        _ => ticks(numbers, doc, tokens),
+    }
+}
+
+fn write(doc: &[u8], bytes: &mut [u8]) -> Reply {
+    answers_built_forms::wrote(built_writing::write_value(doc, bytes))
+}
+
+// The number is how many bytes of output are lent.
+fn writecap(numbers: [usize; 3], doc: &[u8], bytes: &mut [u8]) -> Reply {
+    let lent = least(numbers[0], bytes.len());
+    answers_built_forms::wrote_count(built_writing::write_value(doc, &mut bytes[..lent]))
+}
+
+// The numbers are the reviewer, the token, and how many token records are lent. The document is the table of marks; it is
+// copied, so that the call has a table to write to.
+fn tick(numbers: [usize; 3], doc: &[u8], bytes: &mut [u8], tokens: &[[usize; 4]]) -> Reply {
+    let records = front(tokens, numbers[2]);
+    let entries = copy(doc, bytes);
+    let marking = built_review::tick(records, &mut bytes[..entries], numbers[0], numbers[1]);
+    answers_built_forms::marked(marking, entries)
+}
+
+fn untick(numbers: [usize; 3], doc: &[u8], bytes: &mut [u8], tokens: &[[usize; 4]]) -> Reply {
+    let records = front(tokens, numbers[2]);
+    let entries = copy(doc, bytes);
+    let marking = built_review::untick(records, &mut bytes[..entries], numbers[0], numbers[1]);
+    answers_built_forms::marked(marking, entries)
+}
+
+fn ticked(numbers: [usize; 3], marks: &[u8], tokens: &[[usize; 4]]) -> Reply {
+    let records = front(tokens, numbers[2]);
+    let read = built_review::is_ticked(records, marks, numbers[0], numbers[1]);
+    answers_built_forms::tick_read(read)
+}
+
+// The numbers are the reviewer, and how many token records are lent.
+fn ticks(numbers: [usize; 3], marks: &[u8], tokens: &[[usize; 4]]) -> Reply {
+    let records = front(tokens, numbers[1]);
+    answers_built_forms::tick_count(built_review::ticks(records, marks, numbers[0]))
+}

@@ -1,0 +1,40 @@
+-- The replies to lines of the calls that requests added: the form in which each result is written and the numbers that fill
+-- the form, as in answers_forms. The comments name the calls as a line does; tests/README.md lists them.
+-- Assumes nothing.
+use Prim.Native.Nat.{ℕ}
+use Rattle.text_refusals.specs.Refusals.{refusalNumber, refusalValue}
+use Rattle.built_review.specs.declared.Marking.{Marking}
+use Rattle.built_review.specs.declared.Marking.the-variants.{Done, Refused as Unmarked}
+use Rattle.built_review.specs.declared.TickRead.{TickRead}
+use Rattle.built_review.specs.declared.TickRead.the-variants.{Ticked, Unticked, Refused as Unread}
+use Rattle.built_review.specs.declared.TickCount.{TickCount}
+use Rattle.built_review.specs.declared.TickCount.the-variants.{Ticks, Refused as Uncounted}
+use Rattle.built_writing.specs.declared.Wrote.{Wrote}
+use Rattle.built_writing.specs.declared.Wrote.the-variants.{Text, Refused as Unwritten}
+use Rattle.answers_spelling.specs.declared.Reply.{Reply}
+use Rattle.answers_spelling.specs.declared.Form.the-variants as form
+use Rattle.answers_forms.specs.Answers.{filledBy, threeBy, refusedAs, refusedWhole}
+
+-- write: the bytes of the text; writecap: 0 and their count
+abbrev pub wroteAs : Wrote → Reply
+wroteAs (Text b) = filledBy form.Hex b 0
+wroteAs (Unwritten r) = refusedWhole r
+
+abbrev pub wroteCountAs : Wrote → Reply
+wroteCountAs (Text b) = filledBy form.Two 0 b
+wroteCountAs (Unwritten r) = refusedAs form.Two r
+
+-- tick, untick: the answer's two numbers, and the table of marks afterwards, with so many entries
+abbrev pub markedAs : Marking → ℕ → Reply
+markedAs Done entries = threeBy form.Marked 0 0 entries
+markedAs (Unmarked r) entries = threeBy form.Marked (refusalNumber r) (refusalValue r) entries
+
+-- ticked: 1 for a token that is ticked, else 0; ticks: the count
+abbrev pub tickReadAs : TickRead → Reply
+tickReadAs Ticked = threeBy form.Three 0 0 1
+tickReadAs Unticked = threeBy form.Three 0 0 0
+tickReadAs (Unread r) = refusedAs form.Three r
+
+abbrev pub tickCountAs : TickCount → Reply
+tickCountAs (Ticks n) = threeBy form.Three 0 0 n
+tickCountAs (Uncounted r) = refusedAs form.Three r

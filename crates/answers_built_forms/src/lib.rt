@@ -1,0 +1,62 @@
+// The replies to lines of the calls that requests added: answers_forms has those of the reader.
+// Definitions: specs/Answers.antt.
+ghost use mathlib.Core.Path.{_≡_};
+ghost use Rattle.answers_built_forms.specs.Answers.{wroteAs, wroteCountAs, markedAs, tickReadAs, tickCountAs};
+use answers_forms::filled;
+use answers_forms::refused;
+use answers_forms::refused_whole;
+use answers_forms::three;
+use answers_spelling::Form;
+use answers_spelling::Reply;
+use built_review::Marking;
+use built_review::TickCount;
+use built_review::TickRead;
+use built_writing::Wrote;
+
+pub fn wrote(result: Wrote) -> Reply
+    ensures { λ r. ⌜ r ≡ wroteAs result ⌝ }
+{
+    match result {
+        Wrote::Text { bytes } => filled(Form::Hex, bytes, 0),
+        Wrote::Refused(why) => refused_whole(why),
+    }
+}
+
+// 0 and the count of bytes.
+pub fn wrote_count(result: Wrote) -> Reply
+    ensures { λ r. ⌜ r ≡ wroteCountAs result ⌝ }
+{
+    match result {
+        Wrote::Text { bytes } => filled(Form::Two, 0, bytes),
+        Wrote::Refused(why) => refused(Form::Two, why),
+    }
+}
+
+// The two numbers of the answer, and the table of marks afterwards, which has so many entries.
+pub fn marked(marking: Marking, entries: usize) -> Reply
+    ensures { λ r. ⌜ r ≡ markedAs marking entries ⌝ }
+{
+    match marking {
+        Marking::Done => three(Form::Marked, 0, 0, entries),
+        Marking::Refused(why) => three(Form::Marked, why.number(), why.value(), entries),
+    }
+}
+
+pub fn tick_read(read: TickRead) -> Reply
+    ensures { λ r. ⌜ r ≡ tickReadAs read ⌝ }
+{
+    match read {
+        TickRead::Ticked => three(Form::Three, 0, 0, 1),
+        TickRead::Unticked => three(Form::Three, 0, 0, 0),
+        TickRead::Refused(why) => refused(Form::Three, why),
+    }
+}
+
+pub fn tick_count(count: TickCount) -> Reply
+    ensures { λ r. ⌜ r ≡ tickCountAs count ⌝ }
+{
+    match count {
+        TickCount::Ticks(n) => three(Form::Three, 0, 0, n),
+        TickCount::Refused(why) => refused(Form::Three, why),
+    }
+}
