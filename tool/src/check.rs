@@ -1,5 +1,6 @@
 //! `galoxumi check`: what is wrong with the strings and the encoding of files.
 
+use crate::advice::Advice;
 use crate::arguments::Arguments;
 use crate::finding::{Finding, What};
 use crate::input::{self, Input};
@@ -96,6 +97,7 @@ impl Check<'_> {
         }
         self.found.broken += 1;
         let opened = places.position(token.span().start())?;
+        let advice = Advice::new(&self.input.doc, token.span(), self.arguments.edition);
         let (mut near, mut last) = (*places, 0);
         for error in errors {
             // The error of a closing mark comes before those of the body: from there it is counted from the token's start again.
@@ -106,7 +108,7 @@ impl Check<'_> {
             last = place;
             self.found.errors += 1;
             let at = near.position(place)?;
-            self.report(Finding { what: What::Error(error), at, token, opened }, output)?;
+            self.report(Finding { what: What::Error(error, advice), at, token, opened }, output)?;
             if self.arguments.first {
                 break;
             }
@@ -116,9 +118,9 @@ impl Check<'_> {
 
     fn report(&self, finding: Finding, output: &mut Output) -> Result<(), Stop> {
         if self.arguments.json {
-            output.line(&finding.object(self.input, self.arguments.edition).end())
+            output.line(&finding.object(self.input).end())
         } else {
-            finding.write(self.input, self.arguments.edition, output)
+            finding.write(self.input, output)
         }
     }
 

@@ -27,7 +27,7 @@ pub fn of(doc: &[u8], span: Span) -> Excerpt {
     let cut_before = near.cut_before || from > 0;
     let cut_after = near.cut_after || to < cells.len();
     let mut line = String::from(if cut_before { "…" } else { "" });
-    cells[from..to].iter().for_each(|cell| line.push_str(&cell.shown));
+    cells[from..to].iter().for_each(|cell| cell.show(&mut line));
     line.push_str(if cut_after { "…" } else { "" });
     let before = usize::from(cut_before) + columns(&cells[from..at]);
     // A mark that takes no column stands over the character before it.
@@ -70,25 +70,39 @@ impl Near {
 
     fn cells(&self, doc: &[u8]) -> Vec<Cell> {
         let mut start = self.from;
-        let cell = |unit: Unit| {
-            let mut shown = String::new();
-            match unit {
-                Unit::Char('\t') => shown.push_str("    "),
-                unit => unit.show(&mut shown),
-            }
-            let cell = Cell { width: width::of(&shown), shown, start };
+        let mut cells = Vec::with_capacity(self.to - self.from);
+        for unit in units(&doc[self.from..self.to]) {
+            cells.push(Cell::of(unit, start));
             start += unit.len();
-            cell
-        };
-        units(&doc[self.from..self.to]).map(cell).collect()
+        }
+        cells
     }
 }
 
-/// A character of a line: how it is shown, the columns that it takes then, and where it stands.
+/// A character of a line, the columns that it takes, and where it stands.
 struct Cell {
-    shown: String,
+    unit: Unit,
     width: usize,
     start: usize,
+}
+
+impl Cell {
+    fn of(unit: Unit, start: usize) -> Self {
+        let mut cell = Self { unit, width: 1, start };
+        if !matches!(unit, Unit::Char(' '..='~')) {
+            let mut shown = String::new();
+            cell.show(&mut shown);
+            cell.width = width::of(&shown);
+        }
+        cell
+    }
+
+    fn show(&self, line: &mut String) {
+        match self.unit {
+            Unit::Char('\t') => line.push_str("    "),
+            unit => unit.show(line),
+        }
+    }
 }
 
 fn columns(cells: &[Cell]) -> usize {

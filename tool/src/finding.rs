@@ -1,37 +1,38 @@
 //! Something that is wrong, for people and as an object of JSON.
 
+use crate::advice::Advice;
 use crate::input::Input;
 use crate::json::{hex, Object};
 use crate::judge::Fault;
 use crate::output::{Output, Stop, Style};
-use crate::{advice, excerpt, shown};
-use galoxumi::{Edition, Expected, ParseError, Position, Span, Token};
+use crate::{excerpt, shown};
+use galoxumi::{Expected, ParseError, Position, Span, Token};
 
 /// What is wrong.
-pub enum What {
-    Error(ParseError),
+pub enum What<'i> {
+    Error(ParseError, Advice<'i>),
     NotUtf8(Fault),
 }
 
 /// Something that is wrong with a token, its place, and where the token opens.
-pub struct Finding {
-    pub what: What,
+pub struct Finding<'i> {
+    pub what: What<'i>,
     pub at: Position,
     pub token: Token,
     pub opened: Position,
 }
 
-impl Finding {
+impl Finding<'_> {
     fn span(&self) -> Span {
         match &self.what {
-            What::Error(error) => error.unexpected(),
+            What::Error(error, _) => error.unexpected(),
             What::NotUtf8(fault) => fault.span,
         }
     }
 
     fn message(&self, doc: &[u8]) -> String {
         match &self.what {
-            What::Error(error) => error.description().to_string(),
+            What::Error(error, _) => error.description().to_string(),
             What::NotUtf8(fault) => {
                 let bytes: Vec<String> =
                     doc[fault.span.start()..fault.span.end()].iter().map(|b| format!("{b:02X}")).collect();
@@ -42,16 +43,16 @@ impl Finding {
     }
 
     /// In the manner of a compiler: the place and what is wrong, the line, and what else is known.
-    pub fn write(&self, input: &Input, edition: Edition, output: &mut Output) -> Result<(), Stop> {
+    pub fn write(&self, input: &Input, output: &mut Output) -> Result<(), Stop> {
         let number = match &self.what {
-            What::Error(error) => error.number().to_string(),
+            What::Error(error, _) => error.number().to_string(),
             What::NotUtf8(_) => "utf-8".to_string(),
         };
         let place = output.set(Style::Strong, &format!("{}:{}:", input.name, self.at));
         let error = output.set(Style::Error, &format!("error[{number}]"));
         output.line(&format!("{place} {error}: {}", self.message(&input.doc)))?;
         self.write_line(input, output)?;
-        for (kind, note) in self.notes(input, edition) {
+        for (kind, note) in self.notes() {
             let edge = " ".repeat(self.at.line.to_string().len());
             output.line(&format!("{edge} {} {kind}: {note}", output.set(Style::Frame, "=")))?;
         }
@@ -70,13 +71,13 @@ impl Finding {
         output.line(&format!("{edge} {bar} {}{carets}", " ".repeat(excerpt.before)))
     }
 
-    fn notes(&self, input: &Input, edition: Edition) -> Vec<(&'static str, String)> {
+    fn notes(&self) -> Vec<(&'static str, String)> {
         let kind = self.token.kind().description();
         match &self.what {
-            What::Error(error) => {
+            What::Error(error, advice) => {
                 let expected: Vec<String> = error.expected().iter().map(expected_words).collect();
                 let opened = ("note", format!("in the {kind} that opens at {}", self.opened));
-                let help = advice::of(error, &input.doc, edition).map(|help| ("help", help));
+                let help = advice.on(error).map(|help| ("help", help));
                 [opened, ("expected", expected.join(", "))].into_iter().chain(help).collect()
             }
             What::NotUtf8(fault) => {
@@ -90,12 +91,12 @@ impl Finding {
         }
     }
 
-    pub fn object(&self, input: &Input, edition: Edition) -> Object {
+    pub fn object(&self, input: &Input) -> Object {
         let span = self.span();
         let object = Object::new().string("file", &input.name).number("line", self.at.line).number("column", self.at.column);
         let object = object.number("start", span.start()).number("end", span.end());
         let object = match &self.what {
-            What::Error(error) => error_in(object, error),
+            What::Error(error, _) => error_in(object, error),
             What::NotUtf8(fault) => object
                 .number("refusal", 1)
                 .string("message", if fault.ends { "the file ends inside a character" } else { "not UTF-8" })
@@ -104,7 +105,7 @@ impl Finding {
         };
         let object = object.object("token", token_object(self.token, self.opened));
         match &self.what {
-            What::Error(error) => match advice::of(error, &input.doc, edition) {
+            What::Error(error, advice) => match advice.on(error) {
                 Some(help) => object.string("help", &help),
                 None => object,
             },

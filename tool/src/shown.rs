@@ -30,6 +30,10 @@ impl Unit {
 
     /// Appends it as it is shown.
     pub fn show(self, shown: &mut String) {
+        if let Self::Char(plain @ ' '..='~') = self {
+            shown.push(plain);
+            return;
+        }
         let named = match self {
             Self::Byte(byte) => write!(shown, "⟨{byte:02X}⟩"),
             Self::Char(character) => match name(character) {

@@ -207,8 +207,7 @@ impl<'i> Raw<'i> {
     /// Hands a value to a builder: as the part of the text that it is, so that nothing need be copied, and by its characters
     /// where it is none.
     fn push(&self, value: &str, output: &mut dyn StringBuilder<'i>) -> bool {
-        // Before the value stand at most three quote marks and CR LF.
-        let part = (0..=5).find_map(|start| self.raw.get(start..start + value.len()).filter(|part| *part == value));
+        let part = self.raw.find(value).map(|start| &self.raw[start..start + value.len()]);
         if let Some(part) = part {
             return output.push_str(part);
         }
