@@ -44,8 +44,8 @@ pub struct Output {
 impl Output {
     pub fn new() -> Self {
         let stdout = std::io::stdout();
-        let wanted = std::env::var_os("NO_COLOR").map_or(true, |value| value.is_empty());
-        let able = std::env::var_os("TERM").map_or(true, |term| term != "dumb");
+        let wanted = std::env::var_os("NO_COLOR").is_none_or(|value| value.is_empty());
+        let able = std::env::var_os("TERM").is_none_or(|term| term != "dumb");
         let colours = wanted && able && stdout.is_terminal();
         Self { lines: BufWriter::with_capacity(1 << 16, stdout.lock()), colours }
     }
