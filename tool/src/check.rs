@@ -120,7 +120,7 @@ impl Check<'_> {
         if self.arguments.json {
             output.line(&finding.object(self.input).end())
         } else {
-            finding.write(self.input, output)
+            finding.diagnostic(&self.input.doc).write(self.input, output)
         }
     }
 
@@ -161,6 +161,6 @@ impl Found {
     }
 }
 
-fn counted(count: usize, what: &str) -> String {
+pub fn counted(count: usize, what: &str) -> String {
     format!("{count} {what}{}", if count == 1 { "" } else { "s" })
 }

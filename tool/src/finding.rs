@@ -1,11 +1,11 @@
 //! Something that is wrong, for people and as an object of JSON.
 
 use crate::advice::Advice;
+use crate::diagnostic::Diagnostic;
 use crate::input::Input;
 use crate::json::{hex, Object};
 use crate::judge::Fault;
-use crate::output::{Output, Stop, Style};
-use crate::{excerpt, shown};
+use crate::shown;
 use galoxumi::{Expected, ParseError, Position, Span, Token};
 
 /// What is wrong.
@@ -42,33 +42,12 @@ impl Finding<'_> {
         }
     }
 
-    /// In the manner of a compiler: the place and what is wrong, the line, and what else is known.
-    pub fn write(&self, input: &Input, output: &mut Output) -> Result<(), Stop> {
-        let number = match &self.what {
+    pub fn diagnostic(&self, doc: &[u8]) -> Diagnostic {
+        let code = match &self.what {
             What::Error(error, _) => error.number().to_string(),
             What::NotUtf8(_) => "utf-8".to_string(),
         };
-        let place = output.set(Style::Strong, &format!("{}:{}:", input.name, self.at));
-        let error = output.set(Style::Error, &format!("error[{number}]"));
-        output.line(&format!("{place} {error}: {}", self.message(&input.doc)))?;
-        self.write_line(input, output)?;
-        for (kind, note) in self.notes() {
-            let edge = " ".repeat(self.at.line.to_string().len());
-            output.line(&format!("{edge} {} {kind}: {note}", output.set(Style::Frame, "=")))?;
-        }
-        output.line("")
-    }
-
-    fn write_line(&self, input: &Input, output: &mut Output) -> Result<(), Stop> {
-        let number = self.at.line.to_string();
-        let edge = " ".repeat(number.len());
-        let excerpt = excerpt::of(&input.doc, self.span());
-        let carets = output.set(Style::Error, &"^".repeat(excerpt.carets));
-        let bar = output.set(Style::Frame, "|");
-        output.line(&format!("{edge} {bar}"))?;
-        let line = if excerpt.line.is_empty() { String::new() } else { format!(" {}", excerpt.line) };
-        output.line(&format!("{} {bar}{line}", output.set(Style::Frame, &number)))?;
-        output.line(&format!("{edge} {bar} {}{carets}", " ".repeat(excerpt.before)))
+        Diagnostic { at: self.at, span: self.span(), code, message: self.message(doc), notes: self.notes() }
     }
 
     fn notes(&self) -> Vec<(&'static str, String)> {

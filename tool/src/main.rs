@@ -6,6 +6,7 @@
 mod advice;
 mod arguments;
 mod check;
+mod diagnostic;
 mod excerpt;
 mod finding;
 mod input;
