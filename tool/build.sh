@@ -34,6 +34,8 @@ for_machine() {
 for_rust() {
     need cargo "install Rust (rustup, or Debian's cargo where it is 1.84 or later)"
     need rustc "install Rust (rustup, or Debian's rustc where it is 1.84 or later)"
+    minor=$(rustc --version | sed -n 's/^rustc 1\.\([0-9]*\).*/\1/p')
+    [ "${minor:-0}" -ge 84 ] || lacks "$(rustc --version) is too old: install Rust 1.84 or later (rustup)"
     [ -d "$(rustc --print target-libdir --target "$CARGO_BUILD_TARGET" 2>/dev/null)" ] ||
         lacks "Rust has no library for $CARGO_BUILD_TARGET: run rustup target add $CARGO_BUILD_TARGET"
 }
