@@ -54,7 +54,7 @@ impl Finding<'_> {
         let kind = self.token.kind().description();
         match &self.what {
             What::Error(error, advice) => {
-                let expected: Vec<String> = error.expected().iter().map(expected_words).collect();
+                let expected: Vec<String> = error.expected().map(expected_words).collect();
                 let opened = ("note", format!("in the {kind} that opens at {}", self.opened));
                 let help = advice.on(error).map(|help| ("help", help));
                 [opened, ("expected", expected.join(", "))].into_iter().chain(help).collect()
@@ -95,11 +95,11 @@ impl Finding<'_> {
 
 /// The fields of an error.
 pub fn error_in(object: Object, error: &ParseError) -> Object {
-    let expected = error.expected().iter().map(|expected| match expected {
-        Expected::Literal(text) => Object::new().string("literal", text),
-        Expected::Description(words) => Object::new().string("description", words),
+    let expected = error.expected().map(|expected| match expected {
+        Expected::Literal(text) => Object::new().string("literal", &text),
+        Expected::Description(words) => Object::new().string("description", &words),
     });
-    object.number("error", error.number()).string("message", error.description()).list("expected", expected)
+    object.number("error", error.number()).string("message", &error.description()).list("expected", expected)
 }
 
 /// A token's kind and place.
@@ -108,9 +108,9 @@ pub fn token_object(token: Token, at: Position) -> Object {
     object.number("start", token.span().start()).number("end", token.span().end())
 }
 
-fn expected_words(expected: &Expected) -> String {
+fn expected_words(expected: Expected) -> String {
     match expected {
         Expected::Literal(text) => format!("`{}`", shown::text(text.as_bytes())),
-        Expected::Description(words) => (*words).to_string(),
+        Expected::Description(words) => words.to_string(),
     }
 }

@@ -1,6 +1,6 @@
 //! Prints the value of every string of a TOML document on standard input, or what is wrong with it.
 
-use galoxumi::{lex, Places};
+use galoxumi::{lex, Expected, Places};
 use std::io::Read;
 
 fn main() -> Result<(), Box<dyn std::error::Error>> {
@@ -16,7 +16,8 @@ fn main() -> Result<(), Box<dyn std::error::Error>> {
             Err(errors) => {
                 for error in errors {
                     let at = places.position(error.unexpected().start())?;
-                    println!("{at}: {}, expected {:?}", error.description(), error.expected());
+                    let expected: Vec<Expected> = error.expected().collect();
+                    println!("{at}: {}, expected {expected:?}", error.description());
                 }
             }
         }

@@ -1,15 +1,83 @@
 //! Errors of decoding: an error's number stands for its description and for what was expected. The words are the proved
-//! library's, which are toml_parser's; they stand here as constants, and a test below holds each to the library.
+//! library's, which are toml_parser's, and none is spelled here: each text is read from the library where it is asked for.
 
-use crate::{position, Edition, Position, Refusal, Span};
+use crate::{ffi, position, Edition, Position, Refusal, Span};
+
+/// A text of an error, in the proved library's words. It is a `str` by value: it holds its bytes, which are ASCII, and no
+/// allocator is needed. For a `&str` that outlives a statement, give the text a name, as below.
+///
+/// ```
+/// use galoxumi::{decode_into, Edition, Encoding, Words};
+///
+/// let (mut output, mut errors) = ([0u8; 8], [[0usize; 3]; 8]);
+/// let decoded = decode_into(br#""\q""#, Encoding::BasicString, Edition::Toml10, &mut output, &mut errors)?;
+/// let description: Words = decoded.value().unwrap_err().description();
+/// assert_eq!(description, "missing escaped value");
+/// let first: &str = description.split(' ').next().unwrap();
+/// assert_eq!(first, "missing");
+/// # Ok::<(), galoxumi::Refusal>(())
+/// ```
+#[derive(Copy, Clone, PartialEq, Eq)]
+pub struct Words {
+    length: usize,
+    /// The text, and zeros after it, so that two texts are equal where all of these bytes are.
+    bytes: [u8; 43],
+}
+
+impl Words {
+    /// The text.
+    pub fn as_str(&self) -> &str {
+        // All texts of the library are within 43 bytes, and ASCII: crates/decoder_words/specs/Words.antt spells them.
+        core::str::from_utf8(&self.bytes[..self.length]).expect("the library's words are ASCII")
+    }
+}
+
+impl core::ops::Deref for Words {
+    type Target = str;
+
+    fn deref(&self) -> &str {
+        self.as_str()
+    }
+}
+
+impl AsRef<str> for Words {
+    fn as_ref(&self) -> &str {
+        self
+    }
+}
+
+impl PartialEq<str> for Words {
+    fn eq(&self, other: &str) -> bool {
+        **self == *other
+    }
+}
+
+impl PartialEq<&str> for Words {
+    fn eq(&self, other: &&str) -> bool {
+        **self == **other
+    }
+}
+
+impl core::fmt::Display for Words {
+    fn fmt(&self, f: &mut core::fmt::Formatter<'_>) -> core::fmt::Result {
+        core::fmt::Display::fmt(&**self, f)
+    }
+}
+
+/// As a `str`: `"letters"`.
+impl core::fmt::Debug for Words {
+    fn fmt(&self, f: &mut core::fmt::Formatter<'_>) -> core::fmt::Result {
+        core::fmt::Debug::fmt(&**self, f)
+    }
+}
 
 /// What was expected at the place of an error.
 #[derive(Copy, Clone, PartialEq, Eq, Debug)]
 pub enum Expected {
     /// This text.
-    Literal(&'static str),
+    Literal(Words),
     /// Something of this kind.
-    Description(&'static str),
+    Description(Words),
 }
 
 /// An error of a text, and where it stands. Places are counted from the start of the text that was given: of the document,
@@ -37,6 +105,11 @@ impl ParseError {
         self.number
     }
 
+    /// The edition of TOML that the text was read as.
+    pub const fn edition(&self) -> Edition {
+        self.edition
+    }
+
     /// What was being decoded: the whole text.
     pub const fn context(&self) -> Span {
         self.context
@@ -53,15 +126,47 @@ impl ParseError {
         position(doc, self.unexpected.start())
     }
 
-    /// What is wrong.
-    pub const fn description(&self) -> &'static str {
-        words(self.number, self.edition).0
+    /// What is wrong, in the words of toml_parser.
+    pub fn description(&self) -> Words {
+        self.read(0).words()
     }
 
-    /// What was expected there. The list of escapes has no `t`, though `\t` is accepted: it is
-    /// toml_parser's list, to which TOML 1.1 adds its own two.
-    pub const fn expected(&self) -> &'static [Expected] {
-        words(self.number, self.edition).1
+    /// What was expected there, one thing after the other, each read from the library as it is asked for. The list of
+    /// escapes has no `t`, though `\t` is accepted: it is toml_parser's list, to which TOML 1.1 adds its own two.
+    ///
+    /// ```
+    /// use galoxumi::{decode_key_into, Expected};
+    ///
+    /// let mut errors = [[0usize; 3]; 2];
+    /// let error = decode_key_into(b"", &mut [], &mut errors)?.value().unwrap_err();
+    /// assert_eq!(error.expected().len(), 4);
+    /// assert!(matches!(error.expected().last(), Some(Expected::Literal(mark)) if mark == "_"));
+    /// # Ok::<(), galoxumi::Refusal>(())
+    /// ```
+    pub fn expected(&self) -> impl ExactSizeIterator<Item = Expected> {
+        let error = *self;
+        (0..self.read(0).expected).map(move |before| error.read(before + 1).thing())
+    }
+
+    /// What the library says: text number 0 is the description, and those after it are what was expected.
+    fn read(&self, which: usize) -> ffi::ErrorWords {
+        let read = ffi::error_words(self.number, self.edition.number(), which);
+        debug_assert_eq!(read.answer.refusal, 0, "every error that a decode writes has its words");
+        read
+    }
+}
+
+impl ffi::ErrorWords {
+    fn words(&self) -> Words {
+        Words { length: self.length, bytes: self.bytes }
+    }
+
+    /// It as something that is expected: a literal is 2 in the library's numbers, and a description 3.
+    fn thing(&self) -> Expected {
+        match self.said {
+            2 => Expected::Literal(self.words()),
+            _ => Expected::Description(self.words()),
+        }
     }
 }
 
@@ -73,78 +178,24 @@ impl core::fmt::Display for ParseError {
 
 impl core::error::Error for ParseError {}
 
-/// What is wrong, and what was expected, by an error's number.
-const fn words(number: usize, edition: Edition) -> (&'static str, &'static [Expected]) {
-    use Expected::{Description, Literal};
-    const KEY: &[Expected] = &[Description("letters"), Description("numbers"), Literal("-"), Literal("_")];
-    const HEX: &[Expected] = &[Description("unicode hexadecimal value")];
-    match number {
-        1 => ("invalid literal string", &[Literal("'")]),
-        2 => ("invalid literal string", &[Description("non-single-quote visible characters")]),
-        3 => ("invalid multi-line literal string", &[Literal("'")]),
-        4 => ("carriage return must be followed by newline", &[Literal("\n")]),
-        5 => ("invalid multi-line literal string", &[Description("non-single-quote characters")]),
-        6 => ("invalid basic string", &[Literal("\"")]),
-        7 => ("invalid basic string", &[Description("non-double-quote visible characters"), Literal("\\")]),
-        8 => ("missing escaped value", escapes(edition)),
-        9 => ("too few unicode value digits", HEX),
-        10 => ("invalid value", HEX),
-        11 => ("invalid multi-line basic string", &[Literal("\"")]),
-        12 => ("invalid multi-line basic string", &[Literal("\\"), Description("characters")]),
-        13 => ("invalid multi-line basic string", &[Literal("\n")]),
-        14 => ("unquoted keys cannot be empty", KEY),
-        // 15: a record has no other number
-        _ => ("invalid unquoted key", KEY),
-    }
-}
-
-const fn escapes(edition: Edition) -> &'static [Expected] {
-    use Expected::Literal;
-    const ALL: &[Expected] = &[
-        Literal("b"),
-        Literal("f"),
-        Literal("n"),
-        Literal("r"),
-        Literal("\\"),
-        Literal("\""),
-        Literal("u"),
-        Literal("U"),
-        Literal("e"),
-        Literal("x"),
-    ];
-    match edition {
-        Edition::Toml10 => ALL.split_at(8).0,
-        Edition::Toml11 => ALL,
-    }
-}
-
 #[cfg(test)]
 mod tests {
     use super::*;
-    use crate::ffi;
 
-    fn text(words: &ffi::ErrorWords) -> &str {
-        core::str::from_utf8(&words.bytes[..words.length]).expect("the library's words are ASCII")
-    }
-
-    /// Each text of each error in each edition is the library's, and the library has no other error.
+    /// Text 0 of each error is its message (1), those that are counted are literals (2) or descriptions (3), and there is
+    /// none (0) after them. No other number has words.
     #[test]
-    fn words_are_the_library_s() {
+    fn texts_are_what_they_are_taken_for() {
         for edition in [Edition::Toml10, Edition::Toml11] {
             for number in 1..=15 {
-                let (description, expected) = words(number, edition);
-                let message = ffi::error_words(number, edition.number(), 0);
-                assert_eq!((text(&message), message.said, message.expected), (description, 1, expected.len()));
-                for (which, expected) in expected.iter().enumerate() {
-                    let said = ffi::error_words(number, edition.number(), which + 1);
-                    match expected {
-                        Expected::Literal(literal) => assert_eq!((text(&said), said.said), (*literal, 2)),
-                        Expected::Description(words) => assert_eq!((text(&said), said.said), (*words, 3)),
-                    }
-                }
+                let said = |which| ffi::error_words(number, edition.number(), which).said;
+                let count = ParseError::from_record([number, 0, 0], Span::new(0, 0), edition).expected().len();
+                assert_eq!((said(0), said(count + 1)), (1, 0));
+                assert!((1..=count).all(|which| [2, 3].contains(&said(which))));
             }
-            assert_eq!(ffi::error_words(0, edition.number(), 0).answer.refusal, 7);
-            assert_eq!(ffi::error_words(16, edition.number(), 0).answer.refusal, 7);
+            for number in [0, 16] {
+                assert_eq!(ffi::error_words(number, edition.number(), 0).answer.refusal, 7);
+            }
         }
     }
 }

@@ -78,7 +78,6 @@ pub(crate) struct Encoded {
     pub encoding: usize,
 }
 
-#[cfg(test)]
 #[repr(C)]
 pub(crate) struct ErrorWords {
     pub answer: Answer,
@@ -114,7 +113,6 @@ mod archive {
         pub fn galoxumi_description(kind: usize) -> Described;
         #[cfg(test)]
         pub fn galoxumi_encoding(kind: usize) -> Encoded;
-        #[cfg(test)]
         pub fn galoxumi_error_words(error: usize, edition: usize, which: usize) -> ErrorWords;
         pub fn galoxumi_tick(
             records: *const [usize; 4],
@@ -214,7 +212,6 @@ pub(crate) fn encoding(kind: usize) -> Encoded {
     unsafe { archive::galoxumi_encoding(kind) }
 }
 
-#[cfg(test)]
 pub(crate) fn error_words(error: usize, edition: usize, which: usize) -> ErrorWords {
     unsafe { archive::galoxumi_error_words(error, edition, which) }
 }

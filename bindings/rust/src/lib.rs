@@ -43,7 +43,7 @@ mod writing;
 #[cfg(feature = "alloc")]
 pub use decode::{decode, decode_in, decode_key, Decoded};
 pub use decode::{decode_into, decode_key_into, Lent};
-pub use error::{ErrorRecord, Expected, ParseError};
+pub use error::{ErrorRecord, Expected, ParseError, Words};
 #[cfg(feature = "alloc")]
 pub use lexing::lex;
 pub use lexing::{lex_into, Lexer};

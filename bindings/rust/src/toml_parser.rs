@@ -21,7 +21,9 @@ use alloc::borrow::Cow;
 use alloc::string::{String, ToString};
 use alloc::vec::Vec;
 
-pub use crate::{Expected, Span};
+pub use crate::Span;
+
+mod kept;
 
 /// Lexing.
 pub mod lexer {
@@ -361,6 +363,16 @@ impl ErrorSink for Vec<ParseError> {
     }
 }
 
+/// What was expected at the place of an error.
+#[derive(Copy, Clone, PartialEq, Eq, Debug)]
+#[non_exhaustive]
+pub enum Expected {
+    /// This text.
+    Literal(&'static str),
+    /// Something of this kind.
+    Description(&'static str),
+}
+
 /// An error, with whatever is known of it.
 #[derive(Clone, PartialEq, Eq, Debug)]
 #[non_exhaustive]
@@ -423,12 +435,13 @@ impl ParseError {
     }
 }
 
-/// All is known of an error of the proved decoders.
+/// All is known of an error of the proved decoders. Its words are the library's, which are read once and kept.
 impl From<crate::ParseError> for ParseError {
     fn from(error: crate::ParseError) -> Self {
-        Self::new(error.description())
+        let words = kept::words_of(&error);
+        Self::new(words.description())
             .with_context(error.context())
-            .with_expected(error.expected())
+            .with_expected(words.expected())
             .with_unexpected(error.unexpected())
     }
 }

@@ -2,6 +2,7 @@
 //! library answers has its own tests.
 
 use core::num::NonZeroUsize;
+use galoxumi::toml_parser::Expected as Written;
 use galoxumi::*;
 
 fn records(doc: &[u8]) -> Vec<(usize, usize, usize)> {
@@ -92,19 +93,36 @@ fn errors_have_their_places() {
 }
 
 /// A text, how it is read, its first error's number, that error's words and what was expected.
-type Case<'a> = (&'a [u8], Encoding, usize, &'a str, &'a [Expected]);
+type Case<'a> = (&'a [u8], Encoding, usize, &'a str, &'a [Written]);
 
 /// The first error of a text.
 fn error_in(text: &[u8], encoding: Encoding, edition: Edition) -> ParseError {
     decode_in(text, encoding, edition).expect("decoded").errors[0]
 }
 
+/// An error says these words, and expects these things in this order. So does what a caller of toml_parser is given for it.
+fn says(error: ParseError, number: usize, description: &str, expected: &[Written]) {
+    assert_eq!((error.number(), &*error.description()), (number, description));
+    assert_eq!(error.expected().len(), expected.len());
+    for (thing, written) in error.expected().zip(expected) {
+        match (thing, written) {
+            (Expected::Literal(text), Written::Literal(written)) => assert_eq!(text, *written),
+            (Expected::Description(words), Written::Description(written)) => assert_eq!(words, *written),
+            (thing, written) => panic!("error {number} expects {thing:?}, and not {written:?}"),
+        }
+    }
+    let swapped = toml_parser::ParseError::from(error);
+    assert_eq!((swapped.description(), swapped.expected()), (description, Some(expected)));
+}
+
+/// The words are those of toml_parser, written out by hand.
 #[test]
 fn errors_have_their_words() {
     use Encoding::*;
-    use Expected::{Description, Literal};
+    use Written::{Description, Literal};
     let key = [Description("letters"), Description("numbers"), Literal("-"), Literal("_")];
-    let escapes = ["b", "f", "n", "r", "\\", "\"", "u", "U"].map(Literal);
+    // TOML 1.1 has the last two besides.
+    let escapes = ["b", "f", "n", "r", "\\", "\"", "u", "U", "e", "x"].map(Literal);
     let hex = [Description("unicode hexadecimal value")];
     let visible = [Description("non-double-quote visible characters"), Literal("\\")];
     let cases: [Case; 13] = [
@@ -121,7 +139,7 @@ fn errors_have_their_words() {
         ),
         (b"\"", BasicString, 6, "invalid basic string", &[Literal("\"")]),
         (b"\"\0\"", BasicString, 7, "invalid basic string", &visible),
-        (br#""\q""#, BasicString, 8, "missing escaped value", &escapes),
+        (br#""\q""#, BasicString, 8, "missing escaped value", &escapes[..8]),
         (br#""\u""#, BasicString, 9, "too few unicode value digits", &hex),
         (br#""\uD800""#, BasicString, 10, "invalid value", &hex),
         (b"\"\"\"", MlBasicString, 11, "invalid multi-line basic string", &[Literal("\"")]),
@@ -135,19 +153,28 @@ fn errors_have_their_words() {
         (b"\"\"\"\\ a\"\"\"", MlBasicString, 13, "invalid multi-line basic string", &[Literal("\n")]),
     ];
     for (text, encoding, number, description, expected) in cases {
-        let error = error_in(text, encoding, Edition::Toml10);
-        assert_eq!((error.number(), error.description(), error.expected()), (number, description, expected));
-        // TOML 1.1 has the same words, and of escapes two more.
-        let later = error_in(text, encoding, Edition::Toml11);
-        assert_eq!((later.number(), later.description()), (number, description));
-        assert_eq!(later.expected()[..expected.len()], *expected);
-        assert_eq!(later.expected().len(), if number == 8 { 10 } else { expected.len() });
+        says(error_in(text, encoding, Edition::Toml10), number, description, expected);
+        let later = if number == 8 { &escapes } else { expected };
+        says(error_in(text, encoding, Edition::Toml11), number, description, later);
     }
     let keys = [(&b""[..], 14, "unquoted keys cannot be empty"), (b".", 15, "invalid unquoted key")];
     for (text, number, description) in keys {
-        let error = decode_key(text).expect("decoded").errors[0];
-        assert_eq!((error.number(), error.description(), error.expected()), (number, description, &key[..]));
+        says(decode_key(text).expect("decoded").errors[0], number, description, &key);
     }
+}
+
+/// A text by value is a `str` wherever one is asked for.
+#[test]
+fn words_are_texts() {
+    let words: Words = error_in(b"'", Encoding::LiteralString, Edition::Toml10).description();
+    let copy = words;
+    assert_eq!((copy, words.len(), words.starts_with("invalid ")), (words, 22, true));
+    assert_eq!(words, "invalid literal string");
+    assert_eq!(words, *"invalid literal string");
+    assert_ne!(words, "invalid literal strin");
+    assert_ne!(words, error_in(b"\"", Encoding::BasicString, Edition::Toml10).description());
+    assert_eq!((words.as_str(), words.as_ref()), ("invalid literal string", "invalid literal string"));
+    assert_eq!(format!("{words:>24}, {words:?}"), "  invalid literal string, \"invalid literal string\"");
 }
 
 #[test]
@@ -178,8 +205,6 @@ fn toml_11_has_two_more_escapes() {
     assert_eq!(decoded.value(), Ok("\u{1B}\u{E9}\t".to_string()));
     let decoded = decode(text, Encoding::BasicString).expect("decoded");
     assert_eq!(decoded.errors.iter().map(|e| (e.number(), e.unexpected().start())).collect::<Vec<_>>(), [(8, 2), (8, 4)]);
-    let error = error_in(br#""\q""#, Encoding::BasicString, Edition::Toml11);
-    assert_eq!(error.expected()[8..], [Expected::Literal("e"), Expected::Literal("x")]);
     let error = error_in(br#""\x4""#, Encoding::BasicString, Edition::Toml11);
     assert_eq!((error.number(), error.unexpected()), (9, Span::new(4, 4)));
 }

@@ -118,6 +118,25 @@ fn errors_stand_in_the_document() {
     assert_eq!(seen, 2);
 }
 
+/// The words of an error are kept once: ten thousand errors of one number, which four threads report, share a text and a list.
+#[test]
+fn words_are_kept_once() {
+    let doc = format!("\"{}\"", "\\q".repeat(2500));
+    let report = || {
+        let mut errors = Vec::<ParseError>::new();
+        assert!(raw(&doc, TokenKind::BasicString).decode_string(&mut (), &mut errors));
+        errors
+    };
+    let errors: Vec<ParseError> = std::thread::scope(|threads| {
+        let started: Vec<_> = (0..4).map(|_| threads.spawn(report)).collect();
+        started.into_iter().flat_map(|thread| thread.join().unwrap()).collect()
+    });
+    assert_eq!(errors.len(), 10_000);
+    let (text, list) = (errors[0].description(), errors[0].expected().unwrap());
+    assert!(errors.iter().all(|error| std::ptr::eq(error.description(), text)));
+    assert!(errors.iter().all(|error| std::ptr::eq(error.expected().unwrap(), list)));
+}
+
 /// From toml_parser's words for keys.
 #[test]
 fn keys_are_decoded() {
