@@ -33,6 +33,9 @@ extern "C" {
 /* The most bytes that a document, a text to decode or a value to write may have. */
 #define GALOXUMI_LIMIT ((size_t)16777216)
 
+/* The most brackets of a value that may be open at once. */
+#define GALOXUMI_DEPTH 64
+
 /* How much to lend, by the bytes of what is read, so that no call finds it too little, and none counts first: tokens to
  * galoxumi_lex; output and errors to a decode; output to galoxumi_write_value. */
 #define GALOXUMI_MOST_TOKENS(doc_len) ((doc_len) + 1)
@@ -50,10 +53,11 @@ enum galoxumi_refusal {
     GALOXUMI_FEW_ERRORS = 5,   /* fewer errors are lent than there are; the errors needed */
     /* A place beyond the document; for a cursor also a line past its place plus 1; for a span also a start after the end, or
      * an end at a byte 80 to BF; the document's length. In the calls on marks: a token number not below the number of
-     * tokens; the number of tokens. */
+     * tokens; in those on values: a run that passes the tokens or starts after its end; the number of tokens. */
     GALOXUMI_OUT_OF_PLACE = 6,
     GALOXUMI_NO_KIND = 7,      /* a number that is no kind that the call knows, or the number of no error; that number */
     GALOXUMI_NO_EDITION = 9,   /* a number that is no edition of TOML; that number */
+    GALOXUMI_TOO_DEEP = 10,    /* more than GALOXUMI_DEPTH brackets are open at once; GALOXUMI_DEPTH */
     GALOXUMI_NO_REVIEWER = 11, /* a number that is no reviewer's: neither 0 nor 1; that number */
     GALOXUMI_FEW_MARKS = 12    /* the table of marks is shorter than the tokens; the number of tokens */
 };
@@ -268,6 +272,17 @@ galoxumi_answer galoxumi_is_ticked(const galoxumi_token *tokens, size_t tokens_l
  * Refusals 11, 12. */
 galoxumi_answer galoxumi_ticks(const galoxumi_token *tokens, size_t tokens_len, const uint8_t *marks, size_t marks_len,
                                size_t reviewer);
+
+/* Whether the tokens from start up to end, which is not included, are one value, by their kinds alone: a string token; a run
+ * of GALOXUMI_ATOM and GALOXUMI_DOT tokens, which is not judged; an array; or an inline table, by TOML's rules for nesting,
+ * commas, comments and newlines. value is 1 where they are, and 0 where they are not: also where anything stands before or
+ * after the value. Each newline token is a newline, and a comment counts only with one after it. A date and a time with a
+ * space between are no value here, and errors of strings do not matter. galoxumi_is_value reads TOML 1.0;
+ * galoxumi_is_value_in takes an edition: in TOML 1.1 an inline table may hold newlines, comments and a last comma.
+ * Refusals 6, 9 (only galoxumi_is_value_in), 10: the last exactly where in some first part of the run the opening brackets
+ * pass the closing ones by more than GALOXUMI_DEPTH. */
+galoxumi_answer galoxumi_is_value(const galoxumi_token *tokens, size_t tokens_len, size_t start, size_t end);
+galoxumi_answer galoxumi_is_value_in(const galoxumi_token *tokens, size_t tokens_len, size_t edition, size_t start, size_t end);
 
 #ifdef __cplusplus
 }

@@ -301,6 +301,84 @@ def reviewers():
     return by_reference(*every, *places, *counts, *large)
 
 
+def kinds_of(text):
+    """The kinds of a text's tokens, without Eof, a byte each."""
+    return bytes(kind for kind, _, _ in reference.tokens(text))[:-1]
+
+
+def bracketed(kinds):
+    """Start and end of each array and inline table of a document's tokens. Outside of brackets a value follows an equals sign."""
+    out, opened, valued = [], [], False
+    for at, kind in enumerate(kinds):
+        if kind == 61 and not opened:
+            valued = True
+        elif kind == 10 and not opened:
+            valued = False
+        elif kind in b'[{' and valued:
+            opened.append(at)
+        elif kind in b']}' and valued:
+            out.append((opened.pop(), at + 1))
+    return out
+
+
+# Texts that are a value, by the edition from which on they are one; then texts that are none.
+BRACKETED = {
+    10: [b'1', b'1.5', b'a.b', b'.', b'"s"', b"'s'", b'"\\q"', b'"open', b"'''m'''", b'[]', b'[ ]', b'[\n]', b'[\r]', b'[#c\n]', b'[1]', b'[1,]', b'[ 1 , 2 ]',
+         b'[\n1 #c\n,#d\n 2\n,\n]', b'[[],[[1]],{}]', b'["-O2", "-g",]', b'{}', b'{ }', b'{a=1}', b'{ a = 1 , b.c = [\n2] }', b'{"a" . \'b\'.c="x"}',
+         b'{a={b={c=[{d=1}]}}}', b'[1.2.3,.,]'],
+    11: [b'{a=1,}', b'{\n}', b'{ # c\n a = 1 # d\n , # e\n b = 2 , # f\n}', b'{a=1\n,b=2}', b'{\na=[{\nb=1,\n},],\n}'],
+    12: [b'', b' ', b' 1', b'1 ', b'1\n', b'1 2', b'1979-05-27 07:32:00', b'a=1', b'#c', b'[', b']', b'[[]', b'[]]', b'[1', b'[,]', b'[1,,2]', b'[1 2]', b'[#c]', b'[1#c',
+         b'[}', b'{]', b'{', b'{a}', b'{a=}', b'{=1}', b'{a=1 b=2}', b'{a=1,,b=2}', b'{,}', b'{,a=1}', b'{a.=1}', b'{.a=1}', b'{a..b=1}', b'{a b=1}', b'{a\n=1}', b'{a=\n1}',
+         b"{'''m'''=1}", b'{a=1#c}', b'{a=1#c\n', b'{[]=1}', b'["a" "b"]', b'[1]\n', b'[=]', b'{a==1}', b'[1=2]'],
+}
+
+
+def runs():
+    """Runs of tokens that are a value or none: the suite's arrays and inline tables, worked ones, all short ones, depths, refusals."""
+    suite = []
+    for case in cases():
+        if case['valid'] and case['toml10']:
+            kinds = kinds_of(bytes.fromhex(case['hex']))
+            suite += [(call('value', start, end, kinds), b'0 0 1') for start, end in bracketed(kinds)]
+    if not suite:
+        sys.exit('the suite has no array')
+    worked = [(call('valuein', edition, 0, len(kinds_of(text)), kinds_of(text)), b'0 0 %d' % (edition >= since))
+              for since, texts in BRACKETED.items() for text in texts for edition in (10, 11)]
+    cut = [call('value', start, end, kinds_of(text)) for text in (b'[1,{a=2}]', b'{a=[1]}', b'x=[]') for start in range(len(kinds_of(text)) + 2)
+           for end in range(len(kinds_of(text)) + 2)]
+    less = [call('valuein', edition, 0, len(kinds) - 1, kinds[:at] + kinds[at + 1:])
+            for since, texts in BRACKETED.items() for text in texts if since < 12
+            for kinds in [kinds_of(text)] for at in range(len(kinds)) for edition in (10, 11)]
+    return agreed(suite + worked) + by_reference(*cut, *less, *short_runs(), *depths(), *run_refusals())
+
+
+def short_runs():
+    """All runs of up to three kinds; up to four between square brackets and between curly ones, and after a keyval."""
+    every = sorted(reference.KINDS) + [0, 5]
+    whole = [bytes(run) for n in range(4) for run in itertools.product([k for k in every if k not in (1, 5, 4)], repeat=n)]
+    inside = [[bytes(run) for n in range(most + 1) for run in itertools.product(kinds, repeat=n)]
+              for most, kinds in ((4, b' #\n,\x03'), (4, b'\x03=. '), (4, b' \n,#'), (3, b',\x03= \n'))]
+    around = (b'[%s]', b'{%s}', b'{\x03=\x03%s}', b'{\x03=\x03,%s}')
+    shut = [mark.replace(b'%s', run) for mark, runs in zip(around, inside) for run in runs]
+    return ([call('value', 0, len(run), run) for run in whole] + [call('value', 0, 1, bytes([kind])) for kind in every]
+            + [call('valuein', edition, 0, len(run), run) for run in shut for edition in (10, 11)])
+
+
+def depths():
+    nested = [opening * n + inner + closing * n for n in (1, 2, 63, 64, 65, 66, 1000) for opening, inner, closing in
+              ((b'[', b'', b']'), (b'[', b'\x03', b']'), (b'{\x03=', b'\x03', b'}'), (b'[{\x03=', b'\x03', b'}]'))]
+    odd = [before + b'[' * n + after for before in (b']', b'}}', b'[]', b'[\x03]', b'\x00') for n in (64, 65, 66, 67) for after in (b'', b']' * n)]
+    long = [b'[' + b'\x03,' * 32767 + b']', b'[' + b' ' * 65534 + b']', b'[' * 32768 + b']' * 32768, b']' * 65471 + b'[' * 65]
+    return [call('valuein', edition, 0, len(run), run) for run in nested + odd for edition in (10, 11)] + [call('value', 0, len(run), run) for run in long]
+
+
+def run_refusals():
+    """Each refusal alone, and each pair in its order: 6, 9, 10."""
+    deep, flat = b'[' * 65, b'[]'
+    return [call('valuein', edition, start, end, run) for run in (deep, flat, b'') for edition in (0, 1, 9, 10, 11, 12, 110, MAX)
+            for start, end in ((0, len(run)), (0, len(run) + 1), (len(run), 0), (1, len(run)), (MAX, MAX), (0, MAX), (MAX, 0), (len(run), len(run)))]
+
+
 def every_byte():
     """Each byte as a whole document, and between the marks of each kind."""
     marks = {39: b"'", 34: b'"', 1: b"'''", 2: b'"""', 3: b'a'}
@@ -334,11 +412,13 @@ def wrong_lines():
         b'tick 0 0 -', b'tick 0 0 1', b'tick x 0 0 -', b'ticking 0 0 0 -', b'tick 0 0 65539 -', b'tick 0 0 65540 -', b'untick 0 0 65540 -',
         b'ticked 0 0 65540 -', b'ticked 0 0 0 6', b'ticks 0 -', b'ticks 0 65540 -', b'ticks 18446744073709551616 0 -',
         b'deccap 39 98305 65539 -', b'deccap 39 98306 0 -', b'deccap 39 0 65540 -', b'deccap 5 98306 65540 ff',
+        b'value', b'value 0 -', b'value 0 0', b'value 0 0 0 -', b'value x 0 -', b'value 0 0 5', b'value 0 0 5B', b'values 0 0 -', b'valuein 0 0 -',
+        b'valuein 10 0 0', b'valuein 10 0 x -', b'valuein 18446744073709551616 0 0 -', b'valueins 10 0 0 -',
         over, over + b'0', b'lex 6', b'lex ' + over, b'desc 4')
 
 
 SECTIONS = [scope, valid_cases, left_out_cases, later_cases, invalid_utf8, invalid_strings, vectors, lent_records, lent_output, sizes, cursors, lines, spans,
-            positions, kinds, editions, faults, joined, values, reviewers, every_byte, short_texts, wrong_lines]
+            positions, kinds, editions, faults, joined, values, reviewers, runs, every_byte, short_texts, wrong_lines]
 
 
 def main():

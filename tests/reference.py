@@ -9,6 +9,7 @@ with the proved code (no pieces, no blocks, no tables), so that the two do not s
     tests/reference.py < calls > answers
 """
 import itertools
+import re
 import sys
 
 LIMIT = 16777216
@@ -447,13 +448,63 @@ def ticks(reviewer, lent, marks):
     return '%d %d %d' % (*(refusal or (0, 0)), 0 if refusal else sum(mark >> reviewer & 1 for mark in marks[:lent]))
 
 
+# ---- bracketed values
+
+# A letter for each kind: s a string on one line, m another, a an atom, n a newline; a kind that has none is `?`.
+LETTERS = {46: '.', 61: '=', 44: ',', 91: '[', 93: ']', 123: '{', 125: '}', 32: ' ', 35: '#', 10: 'n', 39: 's', 34: 's', 1: 'm', 2: 'm', 3: 'a'}
+WS, LINES = ' *', '(?: |#?n)*'
+VAL = '(?:[smv]|[a.]+)'
+KEYVAL = '[as](?: *[.] *[as])* *= *' + VAL
+SPACED = LINES + '%s' + LINES
+
+
+def items(opening, item, closing):
+    """Items between brackets, with commas between them and perhaps one after the last."""
+    item = SPACED % item
+    return opening + '(?:' + item + '(?:,' + item + ')*,?)?' + LINES + closing
+
+
+# A bracketed value whose items have no brackets of their own, by edition.
+ARRAY = items(r'\[', VAL, r'\]')
+INNERMOST = {10: re.compile(ARRAY + '|' + r'\{ *(?:' + KEYVAL + '(?: *, *' + KEYVAL + r')*)? *\}'),
+             11: re.compile(ARRAY + '|' + items(r'\{', KEYVAL, r'\}'))}
+
+
+def is_value(edition, kinds):
+    """Bracketed values are put together to the letter v from the inside out, until none is left."""
+    run, before = ''.join(LETTERS.get(kind, '?') for kind in kinds), None
+    while run != before:
+        run, before = INNERMOST[edition].sub('v', run), run
+    return bool(re.fullmatch(VAL, run))
+
+
+def too_deep(kinds):
+    return any(depth > 64 for depth in itertools.accumulate((kind in b'[{') - (kind in b']}') for kind in kinds))
+
+
+def valuein(edition, first, last, kinds):
+    run = kinds[first:last]
+    if last > len(kinds) or first > last:
+        return '6 %d 0' % len(kinds)
+    if edition not in INNERMOST:
+        return '9 %d 0' % edition
+    if too_deep(run):
+        return '10 64 0'
+    return '0 0 %d' % is_value(edition, run)
+
+
+def value(first, last, kinds):
+    return valuein(10, first, last, kinds)
+
+
 # For each name its function and the words after it: n a number, b a flag, r records lent, o output lent, w output lent for a text that is written, x bytes in hex.
 CALLS = {b'lex': (lex, 'x'), b'lexline': (lexline, 'x'), b'lexcap': (lexcap, 'rx'), b'dec': (dec, 'nx'), b'deccap': (deccap, 'norx'),
          b'decin': (decin, 'nnx'), b'utf8': (utf8, 'x'), b'fault': (fault, 'x'),
          b'start': (start, 'x'), b'step': (step, 'nbx'), b'stepline': (stepline, 'nbnx'), b'span': (span, 'nnx'), b'text': (text, 'nnx'), b'pos': (pos, 'nx'),
          b'desc': (desc, 'n'),
          b'write': (write, 'x'), b'writecap': (writecap, 'wx'),
-         b'tick': (tick, 'nnrx'), b'untick': (untick, 'nnrx'), b'ticked': (ticked, 'nnrx'), b'ticks': (ticks, 'nrx')}
+         b'tick': (tick, 'nnrx'), b'untick': (untick, 'nnrx'), b'ticked': (ticked, 'nnrx'), b'ticks': (ticks, 'nrx'),
+         b'value': (value, 'nnx'), b'valuein': (valuein, 'nnnx')}
 
 # The most that the program takes: bytes of a line, of a document, of output, of a text that is written; records.
 LINE, DOCUMENT, OUTPUT, WRITTEN, RECORDS = 131200, 65536, 98305, 393219, 65539

@@ -225,6 +225,29 @@ static void ticks(struct call c)
     free(t);
 }
 
+/* Tokens whose kinds are the bytes of the line. */
+static galoxumi_token *of_kinds(struct call c)
+{
+    galoxumi_token *t = lent(c.len, sizeof *t);
+    for (size_t i = 0; i < c.len; i++)
+        t[i].kind = c.doc[i];
+    return t;
+}
+
+static void value(struct call c)
+{
+    galoxumi_token *t = of_kinds(c);
+    asked(c.to, galoxumi_is_value(t, c.len, c.n[0], c.n[1]));
+    free(t);
+}
+
+static void valuein(struct call c)
+{
+    galoxumi_token *t = of_kinds(c);
+    asked(c.to, galoxumi_is_value_in(t, c.len, c.n[0], c.n[1], c.n[2]));
+    free(t);
+}
+
 /* Each call: its name, how many numbers it has, and whether bytes follow them. */
 static struct {
     const char *name;
@@ -236,7 +259,7 @@ static struct {
     {"start", 0, 1, start},   {"step", 2, 1, step},         {"stepline", 3, 1, stepline}, {"span", 2, 1, span},
     {"text", 2, 1, text},     {"pos", 1, 1, pos},           {"write", 0, 1, write_value}, {"writecap", 1, 1, writecap},
     {"desc", 1, 0, desc},     {"tick", 3, 1, tick},         {"untick", 3, 1, untick}, {"ticked", 3, 1, ticked},
-    {"ticks", 2, 1, ticks},
+    {"ticks", 2, 1, ticks},   {"value", 2, 1, value},       {"valuein", 3, 1, valuein},
 };
 enum { KNOWN = sizeof CALLS / sizeof *CALLS };
 

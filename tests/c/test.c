@@ -612,6 +612,60 @@ static void reviewers_refused(void)
     EXPECT(answers(galoxumi_ticks(SEVEN, 1, none, 0, 1), 12, 1));
 }
 
+/* ---- values */
+
+/* What the tokens of a text, without Eof, are answered in an edition; 0 for the call that takes none. */
+static galoxumi_answer judged(const char *text, size_t edition)
+{
+    galoxumi_token tokens[64];
+    galoxumi_answer lexed = galoxumi_lex((const uint8_t *)text, strlen(text), tokens, 64);
+    if (lexed.refusal != 0) {
+        return lexed;
+    }
+    return edition == 0 ? galoxumi_is_value(tokens, lexed.value, 0, lexed.value - 1)
+                        : galoxumi_is_value_in(tokens, lexed.value, edition, 0, lexed.value - 1);
+}
+
+/* The answer is 1 or 0 by TOML 1.0, with and without a named edition, and by TOML 1.1. */
+static int is_judged(const char *text, size_t ten, size_t eleven)
+{
+    return answers(judged(text, 0), 0, ten) && answers(judged(text, 10), 0, ten) && answers(judged(text, 11), 0, eleven);
+}
+
+static void values(void)
+{
+    FROM("crates/built_values/specs/Values.antt: the rules of TOML 1.0.0 for arrays, and the scalar that is not judged");
+    EXPECT(is_judged("[]", 1, 1) && is_judged("[\"-O2\", '-g',]", 1, 1) && is_judged("[ 1.5 , # c\n [\n] ]", 1, 1));
+    EXPECT(is_judged("a.b", 1, 1) && is_judged("\"\\q\"", 1, 1) && is_judged("\"\"\"m\"\"\"", 1, 1));
+    EXPECT(is_judged("[", 0, 0) && is_judged("[,]", 0, 0) && is_judged("[1 2]", 0, 0) && is_judged("[# c]", 0, 0));
+    EXPECT(is_judged("", 0, 0) && is_judged(" 1", 0, 0) && is_judged("1\n", 0, 0) && is_judged("1979-05-27 07:32:00", 0, 0));
+    FROM("the same: inline tables, whose rules differ");
+    EXPECT(is_judged("{}", 1, 1) && is_judged("{ a . \"b\" = [\n1] , c = {} }", 1, 1));
+    EXPECT(is_judged("{a=1,}", 0, 1) && is_judged("{\n}", 0, 1) && is_judged("{a=1 # c\n,b=2}", 0, 1));
+    EXPECT(is_judged("{a}", 0, 0) && is_judged("{a=1 b=2}", 0, 0) && is_judged("{,}", 0, 0) && is_judged("{\"\"\"a\"\"\"=1}", 0, 0));
+    FROM("crates/built_values/specs/Answers.antt: a run of the records, whatever stands around it");
+    galoxumi_token tokens[9];
+    EXPECT(answers(galoxumi_lex(BYTES("a = [1]\n"), tokens, 9), 0, 9));
+    EXPECT(answers(galoxumi_is_value(tokens, 9, 4, 7), 0, 1) && answers(galoxumi_is_value(tokens, 9, 3, 7), 0, 0));
+    EXPECT(answers(galoxumi_is_value(tokens, 9, 5, 6), 0, 1) && answers(galoxumi_is_value(tokens, 7, 4, 7), 0, 1));
+}
+
+static void values_refused(void)
+{
+    static galoxumi_token deep[130];
+    for (size_t i = 0; i < 130; i++) {
+        deep[i].kind = i < 65 ? GALOXUMI_LEFT_SQUARE_BRACKET : GALOXUMI_RIGHT_SQUARE_BRACKET;
+    }
+    FROM("docs/RULES.md, the refusals: 6 with the number of records, then 9 with the edition's, then 10 with 64");
+    EXPECT(answers(galoxumi_is_value(deep, 130, 0, 131), 6, 130) && answers(galoxumi_is_value(deep, 130, 2, 1), 6, 130));
+    EXPECT(answers(galoxumi_is_value_in(deep, 130, 12, SIZE_MAX, SIZE_MAX), 6, 130));
+    EXPECT(answers(galoxumi_is_value_in(deep, 130, 12, 0, 130), 9, 12) && answers(galoxumi_is_value_in(deep, 130, 0, 1, 1), 9, 0));
+    EXPECT(answers(galoxumi_is_value(deep, 130, 0, 130), GALOXUMI_TOO_DEEP, GALOXUMI_DEPTH));
+    EXPECT(answers(galoxumi_is_value_in(deep, 130, 11, 0, 65), 10, 64));
+    EXPECT(answers(galoxumi_is_value(deep, 130, 1, 129), 0, 1) && answers(galoxumi_is_value(deep, 130, 1, 130), 0, 0));
+    EXPECT(answers(galoxumi_is_value(NULL, 0, 0, 0), 0, 0) && answers(galoxumi_is_value(NULL, 0, 0, 1), 6, 0));
+}
+
 /* NULL stands for memory of no bytes, tokens, errors or marks, read or lent. */
 static void nulls(void)
 {
@@ -688,6 +742,8 @@ int main(void)
     RUN(longest_text);
     RUN(reviewers);
     RUN(reviewers_refused);
+    RUN(values);
+    RUN(values_refused);
     RUN(long_documents);
     printf("C: %d expectations held\n", held);
     printf("C: %d passed, %d failed\n", passed, failed);

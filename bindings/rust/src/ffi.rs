@@ -145,6 +145,13 @@ mod archive {
             marks_len: usize,
             reviewer: usize,
         ) -> Answer;
+        pub fn galoxumi_is_value_in(
+            records: *const [usize; 4],
+            records_len: usize,
+            edition: usize,
+            start: usize,
+            end: usize,
+        ) -> Answer;
     }
 }
 
@@ -220,7 +227,7 @@ pub(crate) fn error_words(error: usize, edition: usize, which: usize) -> ErrorWo
 const _: () = assert!(core::mem::size_of::<crate::Token>() == core::mem::size_of::<[usize; 4]>());
 const _: () = assert!(core::mem::align_of::<crate::Token>() == core::mem::align_of::<[usize; 4]>());
 
-/// The records that a call on marks is lent. It takes only their number.
+/// The tokens as records of four numbers, as which they lie in memory.
 fn records_of(tokens: &[crate::Token]) -> *const [usize; 4] {
     tokens.as_ptr().cast()
 }
@@ -239,4 +246,8 @@ pub(crate) fn is_ticked(tokens: &[crate::Token], marks: &[u8], reviewer: usize, 
 
 pub(crate) fn ticks(tokens: &[crate::Token], marks: &[u8], reviewer: usize) -> Answer {
     unsafe { archive::galoxumi_ticks(records_of(tokens), tokens.len(), marks.as_ptr(), marks.len(), reviewer) }
+}
+
+pub(crate) fn is_value_in(tokens: &[crate::Token], edition: usize, start: usize, end: usize) -> Answer {
+    unsafe { archive::galoxumi_is_value_in(records_of(tokens), tokens.len(), edition, start, end) }
 }

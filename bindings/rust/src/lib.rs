@@ -38,6 +38,7 @@ mod review;
 mod token;
 #[cfg(feature = "alloc")]
 pub mod toml_parser;
+mod value;
 mod writing;
 
 #[cfg(feature = "alloc")]
@@ -51,6 +52,7 @@ pub use place::{check_span, position, text, Places, Position};
 pub use refusal::{Refusal, Sought};
 pub use review::{is_ticked, tick, ticks, untick, Reviewer};
 pub use token::{Edition, Encoding, Span, Token, TokenKind};
+pub use value::{is_value, is_value_in};
 #[cfg(feature = "alloc")]
 pub use writing::write_value;
 pub use writing::write_value_into;

@@ -34,7 +34,7 @@ pub enum Refusal {
     OutOfPlace {
         /// What was to be found.
         what: Sought,
-        /// The document's length; where a token is sought by its number, the number of tokens.
+        /// The document's length; where a token or a run of tokens is sought by number, the number of tokens.
         length: usize,
     },
     /// 7: a number that is no kind.
@@ -81,6 +81,8 @@ pub enum Sought {
     Cursor,
     /// A token by its number, which is not below the number of tokens.
     Token,
+    /// A run of tokens, which passes them or starts after its end.
+    Run,
 }
 
 impl Refusal {
@@ -157,6 +159,7 @@ impl core::fmt::Display for Refusal {
                     )
                 }
                 Sought::Token => write!(f, "the token's number is not below {length}, the number of tokens"),
+                Sought::Run => write!(f, "the run passes the {length} tokens, or starts after its end"),
             },
             Self::NoKind { number } => write!(f, "{number} is no kind"),
             Self::AfterEnd => write!(f, "a part, or the closing word, after the end"),

@@ -296,6 +296,36 @@ fn marks_are_refused() {
     assert_eq!(marks, [0xA5; 5]);
 }
 
+/// From crates/built_values/specs/Values.antt: a last comma in an inline table is TOML 1.1's.
+#[test]
+fn runs_of_tokens_are_values() {
+    let tokens = lex(b"a = [1, {b = 2,}]\n").expect("lexed");
+    let end = tokens.len() - 2;
+    assert_eq!(is_value(&tokens, 4..end), Ok(false));
+    assert_eq!(is_value_in(&tokens, Edition::Toml11, 4..end), Ok(true));
+    assert_eq!(is_value(&tokens, 5..6), Ok(true));
+    assert_eq!(is_value(&tokens, 4..end - 1), Ok(false));
+    assert_eq!(is_value(&tokens, 3..end), Ok(false));
+    assert_eq!(is_value(&tokens, 4..4), Ok(false));
+}
+
+/// Arrays nested 64 deep are answered, and 65 deep refused.
+#[test]
+fn runs_of_tokens_are_refused() {
+    let nested = |n| lex(format!("{}{}", "[".repeat(n), "]".repeat(n)).as_bytes()).expect("lexed");
+    let (tokens, deep) = (nested(64), nested(65));
+    let beyond = |length| Refusal::OutOfPlace { what: Sought::Run, length };
+    assert_eq!(is_value(&tokens, 0..128), Ok(true));
+    assert_eq!(is_value(&deep, 0..130), Err(Refusal::TooDeep { depth: 64 }));
+    assert_eq!(is_value(&deep, 1..129), Ok(true));
+    assert_eq!(is_value(&tokens, 0..130), Err(beyond(129)));
+    #[allow(clippy::reversed_empty_ranges)]
+    let reversed = 2..1;
+    assert_eq!(is_value_in(&tokens, Edition::Toml11, reversed), Err(beyond(129)));
+    assert_eq!(is_value(&[], 0..0), Ok(false));
+    assert_eq!(beyond(5).to_string(), "refused 6: the run passes the 5 tokens, or starts after its end");
+}
+
 /// From docs/RULES.md: error 8 stands after its backslash. The string opens at byte 4 of the document, on line 2.
 #[test]
 fn errors_of_a_token_stand_in_the_document() {

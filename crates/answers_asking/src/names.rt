@@ -44,6 +44,8 @@ pub enum BuiltCall {
     Untick,
     Ticked,
     Ticks,
+    Value,
+    ValueIn,
 }
 
 pub enum Call {
@@ -100,6 +102,8 @@ fn built_line(key: usize) -> Line {
         0x75_6E_74_69_63_6B => limited(built(BuiltCall::Untick, 3), [ANY, ANY, RECORDS]),
         0x74_69_63_6B_65_64 => limited(built(BuiltCall::Ticked, 3), [ANY, ANY, RECORDS]),
         0x74_69_63_6B_73 => limited(built(BuiltCall::Ticks, 2), [ANY, RECORDS, ANY]),
+        0x76_61_6C_75_65 => built(BuiltCall::Value, 2),
+        0x76_61_6C_75_65_69_6E => built(BuiltCall::ValueIn, 3),
         _ => plain(Call::Unknown, 0),
     }
 }

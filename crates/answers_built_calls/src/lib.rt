@@ -18,6 +18,7 @@ pub fn built_reply(
 ) -> Reply {
     match call {
         BuiltCall::Write | BuiltCall::WriteCap => writing(call, numbers, doc, bytes),
+        BuiltCall::Value | BuiltCall::ValueIn => values(call, numbers, doc, tokens),
         _ => review(call, numbers, doc, bytes, tokens),
     }
 }
@@ -41,6 +42,15 @@ fn review(
         BuiltCall::Untick => untick(numbers, doc, bytes, tokens),
         BuiltCall::Ticked => ticked(numbers, doc, tokens),
         _ => ticks(numbers, doc, tokens),
+    }
+}
+
+fn values(call: BuiltCall, numbers: [usize; 3], doc: &[u8], tokens: &mut [[usize; 4]]) -> Reply {
+    let count = put_kinds(doc, tokens);
+    let records = front(tokens, count);
+    match call {
+        BuiltCall::ValueIn => valuein(numbers, records),
+        _ => value(numbers, records),
     }
 }
 
@@ -80,4 +90,27 @@ fn ticked(numbers: [usize; 3], marks: &[u8], tokens: &[[usize; 4]]) -> Reply {
 fn ticks(numbers: [usize; 3], marks: &[u8], tokens: &[[usize; 4]]) -> Reply {
     let records = front(tokens, numbers[1]);
     answers_built_forms::tick_count(built_review::ticks(records, marks, numbers[0]))
+}
+
+// Token records whose kinds are the bytes of the document; answers how many they are. Nothing else of a record matters to
+// the calls on values.
+fn put_kinds(kinds: &[u8], tokens: &mut [[usize; 4]]) -> usize {
+    let count = least(kinds.len(), tokens.len());
+    let mut i = 0;
+    while i < count {
+        tokens[i] = [kinds[i] as usize, 0, 0, 0];
+        i += 1;
+    }
+    count
+}
+
+// The numbers are the start and the end of the run.
+fn value(numbers: [usize; 3], records: &[[usize; 4]]) -> Reply {
+    answers_built_forms::value_checked(built_values::is_value(records, numbers[0], numbers[1]))
+}
+
+// The numbers are the edition, and the start and the end of the run.
+fn valuein(numbers: [usize; 3], records: &[[usize; 4]]) -> Reply {
+    let check = built_values::is_value_in(records, numbers[0], numbers[1], numbers[2]);
+    answers_built_forms::value_checked(check)
 }

@@ -19,3 +19,6 @@ tick-read κs a x y s t p q = p ∙ sym q
 
 pub tick-count : OneAnswer promised.tick_count.Reads.Learnt
 tick-count κs a x y s t p q = p ∙ sym q
+
+pub value-checked : OneAnswer promised.value_checked.Reads.Learnt
+value-checked κs a x y s t p q = p ∙ sym q

@@ -9,6 +9,8 @@ use Rattle.built_review.specs.declared.TickRead.{TickRead}
 use Rattle.built_review.specs.declared.TickRead.the-variants.{Ticked, Unticked, Refused as Unread}
 use Rattle.built_review.specs.declared.TickCount.{TickCount}
 use Rattle.built_review.specs.declared.TickCount.the-variants.{Ticks, Refused as Uncounted}
+use Rattle.built_values.specs.declared.ValueCheck.{ValueCheck}
+use Rattle.built_values.specs.declared.ValueCheck.the-variants.{Value, NoValue, Refused as Unjudged}
 use Rattle.built_writing.specs.declared.Wrote.{Wrote}
 use Rattle.built_writing.specs.declared.Wrote.the-variants.{Text, Refused as Unwritten}
 use Rattle.answers_spelling.specs.declared.Reply.{Reply}
@@ -38,3 +40,9 @@ tickReadAs (Unread r) = refusedAs form.Three r
 abbrev pub tickCountAs : TickCount → Reply
 tickCountAs (Ticks n) = threeBy form.Three 0 0 n
 tickCountAs (Uncounted r) = refusedAs form.Three r
+
+-- value, valuein: 1 for a run that is a value, else 0
+abbrev pub valueAs : ValueCheck → Reply
+valueAs Value = threeBy form.Three 0 0 1
+valueAs NoValue = threeBy form.Three 0 0 0
+valueAs (Unjudged r) = refusedAs form.Three r

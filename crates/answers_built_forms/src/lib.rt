@@ -1,7 +1,7 @@
 // The replies to lines of the calls that requests added: answers_forms has those of the reader.
 // Definitions: specs/Answers.antt.
 ghost use mathlib.Core.Path.{_≡_};
-ghost use Rattle.answers_built_forms.specs.Answers.{wroteAs, wroteCountAs, markedAs, tickReadAs, tickCountAs};
+ghost use Rattle.answers_built_forms.specs.Answers.{wroteAs, wroteCountAs, markedAs, tickReadAs, tickCountAs, valueAs};
 use answers_forms::filled;
 use answers_forms::refused;
 use answers_forms::refused_whole;
@@ -11,6 +11,7 @@ use answers_spelling::Reply;
 use built_review::Marking;
 use built_review::TickCount;
 use built_review::TickRead;
+use built_values::ValueCheck;
 use built_writing::Wrote;
 
 pub fn wrote(result: Wrote) -> Reply
@@ -58,5 +59,15 @@ pub fn tick_count(count: TickCount) -> Reply
     match count {
         TickCount::Ticks(n) => three(Form::Three, 0, 0, n),
         TickCount::Refused(why) => refused(Form::Three, why),
+    }
+}
+
+pub fn value_checked(check: ValueCheck) -> Reply
+    ensures { λ r. ⌜ r ≡ valueAs check ⌝ }
+{
+    match check {
+        ValueCheck::Value => three(Form::Three, 0, 0, 1),
+        ValueCheck::NoValue => three(Form::Three, 0, 0, 0),
+        ValueCheck::Refused(why) => refused(Form::Three, why),
     }
 }

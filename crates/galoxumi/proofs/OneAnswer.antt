@@ -1,9 +1,11 @@
 -- Each promise of this crate admits one answer only, and one content of each lent memory. A theorem bears its function's
 -- name, and is about the function's own contract: what a caller learns of its `ensures`.
 -- Assumes nothing.
-use mathlib.Core.Path.{sym, _∙_}
+use mathlib.Core.Path.{sym, ap, _∙_}
 use denote.Ref.{now}
 use Rattle.text_classes.proofs.OneAnswer.{OneAnswer, OneOutcome, _and_, both}
+use Rattle.built_values.proofs.NumberLaws.{one-answer}
+use Rattle.library_built.specs.Numbers.{valueNumbers}
 use Rattle.galoxumi.proofs as promised
 
 pub galoxumi-check-utf8 : OneAnswer promised.galoxumi_check_utf8.Reads.Learnt
@@ -63,3 +65,10 @@ galoxumi-is-ticked κs a x y s t p q = p ∙ sym q
 
 pub galoxumi-ticks : OneAnswer promised.galoxumi_ticks.Reads.Learnt
 galoxumi-ticks κs a x y s t p q = p ∙ sym q
+
+-- the numbers of one answer, which the rule admits
+pub galoxumi-is-value : OneAnswer promised.galoxumi_is_value.Reads.Learnt
+galoxumi-is-value κs a x y s t p q = p .2 ∙ ap valueNumbers (one-answer (p .1) (q .1)) ∙ sym (q .2)
+
+pub galoxumi-is-value-in : OneAnswer promised.galoxumi_is_value_in.Reads.Learnt
+galoxumi-is-value-in κs a x y s t p q = p .2 ∙ ap valueNumbers (one-answer (p .1) (q .1)) ∙ sym (q .2)

@@ -18,7 +18,7 @@ ghost use Rattle.built_writing.specs.Writing.{writeAnswer};
 ghost use Rattle.library_numbers.specs.Numbers.{flag, checkNumbers, startNumbers, stepNumbers, lexNumbers, spanNumbers, partOf, partText};
 ghost use Rattle.library_numbers.specs.Numbers.{positionNumbers, decodeAnswer, outputAfter, errorsAfter};
 ghost use Rattle.library_numbers.specs.Numbers.{describedNumbers, encodedNumbers, wordsNumbers};
-ghost use Rattle.library_built.specs.Numbers.{writeNumbers, writtenBytes, markNumbers, readNumbers, countNumbers};
+ghost use Rattle.library_built.specs.Numbers.{writeNumbers, writtenBytes, markNumbers, readNumbers, countNumbers, ValueTold};
 use lexer::Cursor;
 use lexer_token::Span;
 use lexer_token::TokenKind;
@@ -208,4 +208,29 @@ pub extern "C" fn galoxumi_ticks(
     ensures { λ r. ⌜ r ≡ countNumbers (countAnswer (length (now (records .entry))) (now (marks .entry)) reviewer) ⌝ }
 {
     library_built::tick_count(built_review::ticks(records, marks, reviewer))
+}
+
+// `value` is 1 where the records from `start` up to `end`, which is not included, are one value by TOML 1.0.
+#[no_mangle]
+pub extern "C" fn galoxumi_is_value(
+    records: &[[usize; 4]],
+    start: usize,
+    end: usize,
+) -> AnswerNumbers
+    ensures { λ r. ⌜ ValueTold (now (records .entry)) 10 start end r ⌝ }
+{
+    library_built::value_checked(built_values::is_value(records, start, end))
+}
+
+// The same by the edition of TOML that `edition` names: 10 for TOML 1.0, 11 for TOML 1.1.
+#[no_mangle]
+pub extern "C" fn galoxumi_is_value_in(
+    records: &[[usize; 4]],
+    edition: usize,
+    start: usize,
+    end: usize,
+) -> AnswerNumbers
+    ensures { λ r. ⌜ ValueTold (now (records .entry)) edition start end r ⌝ }
+{
+    library_built::value_checked(built_values::is_value_in(records, edition, start, end))
 }

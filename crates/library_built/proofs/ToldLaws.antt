@@ -1,6 +1,8 @@
 -- The exported numbers are the numbers of the answers as Told.antt of each crate defines them: each field is the one of its name.
 -- Assumes nothing.
+use Prim.Native.Nat.{_+_}
 use mathlib.Core.Path.{_≡_, refl}
+use native.Mathlib.Omega.{arith}
 use Rattle.built_review.specs.Told.{markNumber, markValue, readNumber, readValue, countNumber, countValue}
 use Rattle.built_review.specs.declared.Marking.{Marking}
 use Rattle.built_review.specs.declared.Marking.the-variants.{Done, Refused as Unmarked}
@@ -8,10 +10,13 @@ use Rattle.built_review.specs.declared.TickRead.{TickRead}
 use Rattle.built_review.specs.declared.TickRead.the-variants.{Ticked, Unticked, Refused as Unread}
 use Rattle.built_review.specs.declared.TickCount.{TickCount}
 use Rattle.built_review.specs.declared.TickCount.the-variants.{Ticks, Refused as Uncounted}
+use Rattle.built_values.specs.Told.{valueNumber, valueValue, valueYes}
+use Rattle.built_values.specs.declared.ValueCheck.{ValueCheck}
+use Rattle.built_values.specs.declared.ValueCheck.the-variants.{Value, NoValue, Refused as Unjudged}
 use Rattle.built_writing.specs.Told.{wroteNumber, wroteValue, wroteLength}
 use Rattle.built_writing.specs.declared.Wrote.{Wrote}
 use Rattle.built_writing.specs.declared.Wrote.the-variants.{Text, Refused as Unwritten}
-use Rattle.library_built.specs.Numbers.{writeNumbers, markNumbers, readNumbers, countNumbers}
+use Rattle.library_built.specs.Numbers.{writeNumbers, markNumbers, readNumbers, countNumbers, valueNumbers}
 
 pub write-told : (r : Wrote) → writeNumbers r ≡ record { refusal = wroteNumber r; value = wroteValue r; length = wroteLength r }
 unfolding writeNumbers
@@ -33,3 +38,10 @@ pub count-told : (t : TickCount) → (countNumbers t .refusal ≡ countNumber t)
 unfolding countNumbers
 count-told (Ticks n) = (refl, refl)
 count-told (Uncounted r) = (refl, refl)
+
+-- the number returned, or 1 for a value
+pub value-told : (c : ValueCheck) → (valueNumbers c .refusal ≡ valueNumber c) × (valueNumbers c .value ≡ valueValue c + valueYes c)
+unfolding valueNumbers
+value-told Value = (refl, refl)
+value-told NoValue = (refl, refl)
+value-told (Unjudged r) = (refl, omega arith)

@@ -2,13 +2,15 @@
 -- library_numbers. That each field is the number of that name of the answer is proved in proofs/ToldLaws.antt.
 -- Assumes nothing.
 use Prim.Native.Nat.{ℕ}
-use mathlib.Core.{List.List}
+use mathlib.Core.{Path._≡_, List.List}
 use lib.{ListN.length}
 use Rattle.library_numbers.specs.{Numbers.answerOf, Numbers.refusedBy}
 use Rattle.library_numbers.specs.declared.{AnswerNumbers.AnswerNumbers}
 use Rattle.built_writing.specs.{Writing.written, Writing.writeAnswer, Writing.writtenAfter}
 use Rattle.built_writing.specs.declared.{Wrote.Wrote, Wrote.the-variants.Text, Wrote.the-variants.Refused as Unwritten}
 use Rattle.built_review.specs.declared.{Marking.Marking, Marking.the-variants.Done, Marking.the-variants.Refused as Unmarked, TickRead.TickRead, TickRead.the-variants.Ticked, TickRead.the-variants.Unticked, TickRead.the-variants.Refused as Unread, TickCount.TickCount, TickCount.the-variants.Ticks, TickCount.the-variants.Refused as Uncounted}
+use Rattle.built_values.specs.Answers.{ValueAnswer}
+use Rattle.built_values.specs.declared.{ValueCheck.ValueCheck, ValueCheck.the-variants.Value, ValueCheck.the-variants.NoValue, ValueCheck.the-variants.Refused as Unjudged}
 
 -- writing a value: the value of the answer is the count of bytes, and after it what an output holds that held `output`
 unfoldable pub writeNumbers : Wrote → AnswerNumbers
@@ -31,3 +33,14 @@ readNumbers (Unread r) = refusedBy r
 unfoldable pub countNumbers : TickCount → AnswerNumbers
 countNumbers (Ticks n) = answerOf n
 countNumbers (Uncounted r) = refusedBy r
+
+-- whether a run is a value: the value of the answer is 1 for one that is. Of the answer the rule says when it is given, and so
+-- `ValueTold` says of the numbers that they are those of an answer that is given
+unfoldable pub valueNumbers : ValueCheck → AnswerNumbers
+valueNumbers Value = answerOf 1
+valueNumbers NoValue = answerOf 0
+valueNumbers (Unjudged r) = refusedBy r
+
+abbrev pub ValueTold : List (List ℕ) → ℕ → ℕ → ℕ → AnswerNumbers → Type 0
+ValueTold records edition start end numbers =
+    (answer : ValueCheck) × ValueAnswer records edition start end answer × (numbers ≡ valueNumbers answer)

@@ -1,10 +1,11 @@
 // The answers of the calls that requests added, as numbers: library_numbers has the reader's.
 // Definitions: specs/Numbers.antt.
 ghost use mathlib.Core.Path.{_≡_};
-ghost use Rattle.library_built.specs.Numbers.{writeNumbers, markNumbers, readNumbers, countNumbers};
+ghost use Rattle.library_built.specs.Numbers.{writeNumbers, markNumbers, readNumbers, countNumbers, valueNumbers};
 use built_review::Marking;
 use built_review::TickCount;
 use built_review::TickRead;
+use built_values::ValueCheck;
 use built_writing::Wrote;
 use library_numbers::AnswerNumbers;
 use library_numbers::answer_of;
@@ -45,5 +46,16 @@ pub fn tick_count(count: TickCount) -> AnswerNumbers
     match count {
         TickCount::Ticks(n) => answer_of(n),
         TickCount::Refused(r) => refused(r),
+    }
+}
+
+// `value` is 1 for a run that is a value.
+pub fn value_checked(check: ValueCheck) -> AnswerNumbers
+    ensures { λ r. ⌜ r ≡ valueNumbers check ⌝ }
+{
+    match check {
+        ValueCheck::Value => answer_of(1),
+        ValueCheck::NoValue => answer_of(0),
+        ValueCheck::Refused(r) => refused(r),
     }
 }

@@ -1,0 +1,14 @@
+pub mod KindLaws
+pub mod RunLaws
+pub mod ValLaws
+pub mod CountLaws
+pub mod DepthLaws
+pub mod TailLaws
+pub mod ItemLaws
+pub mod KeyLaws
+pub mod LoopLaws
+pub mod ArrayLaws
+pub mod ValueLaws
+pub mod PlaceLaws
+pub mod NumberLaws
+pub mod OneAnswer

@@ -1,0 +1,5 @@
+pub mod Values
+pub mod Depth
+pub mod Answers
+pub mod Told
+pub mod Checkers

@@ -1,0 +1,4 @@
+pub mod TellLaws
+pub mod KindLaws
+pub mod EditionLaws
+pub mod NestLaws
