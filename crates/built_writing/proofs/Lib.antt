@@ -1,4 +1,5 @@
 pub mod SpellLaws
+pub mod WeighLaws
 pub mod TextLaws
 pub mod NumberLaws
 pub mod OneAnswer

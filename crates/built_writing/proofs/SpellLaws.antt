@@ -17,6 +17,7 @@ use Rattle.decoder_rules.proofs.StoreLaws.{Stored, sets-append}
 use Rattle.built_writing.specs.declared.spell.Spelling.{Spelling}
 use Rattle.built_writing.specs.declared.spell.Spelling.the-variants.{Short, Coded}
 use Rattle.built_writing.specs.Writing.{spellingOf, spelling, escapeOf, spell, spelt}
+use Rattle.built_writing.specs.Measured.{Counting}
 
 -- ---- one byte
 
@@ -80,10 +81,6 @@ module _ (s : List ℕ) (i : ℕ) (h : i < length s) where
       record { forward = omega arith; within = omega arith; said = said }
 
 -- ---- the loop that counts: n bytes are counted up to place i
-
-pub record Counting (s : List ℕ) (i n : ℕ) : Type 0 where
-  pub within : i ≤ length s
-  pub left : n + length (spelt (drop i s)) ≡ length (spelt s)
 
 pub counting-turn : {s w : List ℕ} {i j n m : ℕ} → Spells s i j w → m ≡ n + length w → Counting s i n → Counting s j m
 counting-turn {s} {w} {i} {j} t e c =

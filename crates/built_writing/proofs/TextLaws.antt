@@ -16,6 +16,8 @@ use Rattle.decoder_rules.proofs.StoreLaws.{Stored, sets-append, front-long, ove
 use Rattle.built_writing.specs.declared.Wrote.the-variants.{Text, Refused}
 use Rattle.built_writing.specs.Writing.{literalText, basicText, written, fitText, writeAnswer}
 use Rattle.built_writing.specs.WroteText.{WroteText}
+use Rattle.built_writing.specs.Measured.{Planned}
+use Rattle.built_writing.specs.declared.Plan.{Plan}
 
 -- ---- between two marks q
 
@@ -45,6 +47,9 @@ module _ (text old : List ℕ) (n : ℕ) where
       record { answer = rw (← e, le-ltb (length old) n h); output = overwritten s (omega arith) }
 
 module _ (value : List ℕ) where
+  pub by-plan : (room : ℕ) (r x : Plan) → Planned value room r → r ≡ x → Planned value room x
+  by-plan room r x p e = rw e at p
+
   pub as-literal : run literalChar value ≡ length value → written value ≡ literalText value
   unfolding written
   as-literal e = rw (eq-eqb (run literalChar value) (length value) e)

@@ -108,8 +108,8 @@ fn basic_run(s: &[u8]) -> usize
     plain_run(Encoding::BasicString(Edition::Toml10), s)
 }
 
-// How many bytes the body of s has.
-pub(crate) fn count(s: &[u8]) -> usize
+// How many bytes the body of s has, run by run.
+pub(crate) fn count_rest(s: &[u8]) -> usize
     requires { ⌜ length (now s) ≤ limit ⌝ }
     ensures { λ r. ⌜ (r ≡ length (spelt (now (s .entry)))) × (r ≤ 6 * length (now (s .entry))) ⌝ }
 {

@@ -1,4 +1,4 @@
--- `count` is right because what is counted, and what is left to be spelt, are always the whole.
+-- `count_rest` is right because what is counted, and what is left to be spelt, are always the whole.
 -- Assumes nothing.
 use Prim.Native.Nat.{ℕ, _+_, _-_, _≤_}
 use mathlib.Core.Path.{sym, ap, _∙_}
@@ -8,9 +8,10 @@ use lib.ListN.{length, take, getD}
 use lib.Seq.{length-take-le}
 use Rattle.decoder_rules.proofs.Fine.{rest}
 use Rattle.built_writing.specs.Writing.{escapeOf}
-use Rattle.built_writing.proofs.SpellLaws.{spelt-six, Spells, run-fits, run-turn, byte-turn, Counting, counting-turn, counting-end}
-use Rattle.built_writing.proofs.spell.count.Statement.{statement}
-use Rattle.built_writing.proofs.spell.count.Tie as tie
+use Rattle.built_writing.specs.Measured.{Counting}
+use Rattle.built_writing.proofs.SpellLaws.{spelt-six, Spells, run-fits, run-turn, byte-turn, counting-turn, counting-end}
+use Rattle.built_writing.proofs.spell.count_rest.Statement.{statement}
+use Rattle.built_writing.proofs.spell.count_rest.Tie as tie
 
 abbrev Inv-loop : tie.InvT-loop
 Inv-loop s i₀ n₀ i n = Counting s i n
@@ -125,8 +126,8 @@ returns c =
     let n = counting-end (c .loop-test .left) (l .inv) in
     (n, omega (arith, spelt-six (a .s .now)))
 
-pub count-spec : {M : Type 1} → statement M
-count-spec =
+pub count-rest-spec : {M : Type 1} → statement M
+count-rest-spec =
     tie.close
     (tie.spec
     Inv-loop
