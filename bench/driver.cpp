@@ -53,6 +53,7 @@ struct Work {
     size_t rust_check() { return rust_from_utf8(bytes(), doc.size()); }
     size_t check() { return galoxumi_check_utf8(bytes(), doc.size()).refusal; }
     size_t lex() { return galoxumi_lex(bytes(), doc.size(), tokens.data(), tokens.size()).value; }
+    size_t broken() { return galoxumi_first_broken(bytes(), doc.size()).found; }
     size_t position() { return galoxumi_position(bytes(), doc.size(), doc.size()).column; }
     size_t parse() { return toml::parse(std::string_view(doc)).size(); }
 
@@ -105,9 +106,10 @@ const std::vector<Phase> phases = {
     {"step", &Work::walk, &Work::doc_bytes},
     {"position", &Work::position, &Work::doc_bytes},
     {"decoding", &Work::decode, &Work::encoded_bytes},
+    {"first broken", &Work::broken, &Work::doc_bytes},
     {"toml++ parse", &Work::parse, &Work::parsed_bytes},
 };
-enum { MEMCPY, FROM_UTF8, CHECK, LEXING, STEP, POSITION, DECODING, PARSE };
+enum { MEMCPY, FROM_UTF8, CHECK, LEXING, STEP, POSITION, DECODING, BROKEN, PARSE };
 
 // Takes what a phase computes, so that the compiler does not leave the computation out.
 volatile size_t sink;

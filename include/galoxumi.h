@@ -212,6 +212,24 @@ galoxumi_decoded galoxumi_decode_in(const uint8_t *text, size_t text_len, size_t
  * and where so many are lent nothing is counted first, which saves a pass. Refusals 2, 1, 4; with 4 the text's length. */
 galoxumi_answer galoxumi_write_value(const uint8_t *value, size_t value_len, uint8_t *output, size_t output_len);
 
+/* The first string token of the document, of TOML 1.0, that decodes with an error, and the first of its errors, as a decode of the
+ * token's text gives them: opening mark, closing mark, then the body; the error's places are counted from the token's start.
+ * found is 1 with them. It is 0 where no string is broken; all fields after found are then 0. Nothing is lent. The tokens are gone
+ * over in turn, and no byte is read beyond the one after the token that decides: what is not UTF-8 after a broken token is not
+ * seen. Refusals 2; then 1 at the first token that is not UTF-8, unless a broken one comes before it, with the whole document's
+ * value and length. */
+typedef struct {
+    galoxumi_answer answer;
+    size_t found;
+    galoxumi_token token;
+    galoxumi_error error;
+} galoxumi_broken;
+
+galoxumi_broken galoxumi_first_broken(const uint8_t *doc, size_t doc_len);
+
+/* The same in the edition of TOML that a number names (enum galoxumi_edition). Refusals 2, 9, then 1 as above. */
+galoxumi_broken galoxumi_first_broken_in(const uint8_t *doc, size_t doc_len, size_t edition);
+
 /* The words for a kind: their length, and the words with zeros after them; all zero where refused. Refusal 7. */
 typedef struct {
     galoxumi_answer answer;

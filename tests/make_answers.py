@@ -379,6 +379,29 @@ def run_refusals():
             for start, end in ((0, len(run)), (0, len(run) + 1), (len(run), 0), (1, len(run)), (MAX, MAX), (0, MAX), (MAX, 0), (len(run), len(run)))]
 
 
+# a manifest without a fault, with each kind of token and of string
+MANIFEST = '# \u00e9\r\na."b\\"" = [\'c\', """\nd\\\n e""", {f = \'\'\'g\'\'\'}]\n'.encode()
+
+
+def broken_strings():
+    """The first broken string: by documents of one fault and of two, in either order; characters that a token's end cuts; refusals."""
+    faults = [b"'a", b'"\\q"', b"'''\x01", b'"""\r"""', b'"\x01" \'', b'\xff', b'# \xc3', b'"\xff\\q', b"'\xe2\x82'", b'"\xc3']
+    sound = [b'', b'a', b"'a'", b'"\xc3\xa9"', b'"""\\\n"""', b"'''\r\n'''", BOM, BOM + b"''", b'# \xc3\xa9', b'\r', b'\r\n', MANIFEST]
+    pairs = [first + between + second for first in faults + sound for second in faults + sound for between in (b'\n', b' ')]
+    # a character that is cut, or wrong, before what ends a token of each kind
+    cuts = [before + bytes([lead]) + tail + after for lead in (0x80, 0xC1, 0xC3, 0xE0, 0xE2, 0xED, 0xF0, 0xF4, 0xF5, 0xFF)
+            for tail in (b'', b'\x80', b'\x90', b'\xa0', b'\x80\x80', b'\x90\x80', b'\xa0\x80', b'\x90\x80\x80')
+            for before, after in ((b'', b''), (b'a', b'='), (b'# ', b'\n\xff'), (b"'", b"'"), (b"'", b'\n'), (b"'''", b"'''\xff"), (b'"""', b''), (b'ok = "', b'"\\'))]
+    short = [bytes(t) for n in range(5) for t in itertools.product(b'\'"\\\n\xc3\xa9', repeat=n)]
+    short += [bytes(t) for n in range(4) for t in itertools.product(b'\'"\\\n\r au#.', repeat=n)]
+    damaged = [MANIFEST[:i] + byte + MANIFEST[i + 1:] for i in range(len(MANIFEST)) for byte in (b'', b'\xff', b'"', b"'", b'\\', b'\n')]
+    large = [b'"' + b'\xc3\xa9' * 32767 + b'"', b"'" * 65536, b'#' * 65535 + b'\xc3', b"''\n" * 21845 + b'"']
+    escapes = [b'a = ' + mark + b'\\' + bytes(t) + mark for mark in (b'"', b'"""') for n in range(3) for t in itertools.product(b'exuU4g\\', repeat=n)]
+    named = [call('brokenin', edition, doc) for edition in (0, 9, 10, 11, 12, MAX) for doc in (b'', b"'", b'\xff', b'"\\e"', b'"\\e" \xff')]
+    return by_reference(*[call('broken', doc) for doc in pairs + cuts + short + damaged + large],
+                        *[call('brokenin', edition, doc) for doc in escapes for edition in (10, 11)], *named)
+
+
 def every_byte():
     """Each byte as a whole document, and between the marks of each kind."""
     marks = {39: b"'", 34: b'"', 1: b"'''", 2: b'"""', 3: b'a'}
@@ -411,6 +434,7 @@ def wrong_lines():
         b'write', b'write - -', b'write 0 -', b'writes -', b'writecap -', b'writecap x -', b'writecap 393220 zz', b'writecap 393220 -',
         b'tick 0 0 -', b'tick 0 0 1', b'tick x 0 0 -', b'ticking 0 0 0 -', b'tick 0 0 65539 -', b'tick 0 0 65540 -', b'untick 0 0 65540 -',
         b'ticked 0 0 65540 -', b'ticked 0 0 0 6', b'ticks 0 -', b'ticks 0 65540 -', b'ticks 18446744073709551616 0 -',
+        b'broken', b'broken 10 -', b'broken 6', b'brokens -', b'brokenin -', b'brokenin x -', b'brokenin 10 6', b'brokenin 10 - -',
         b'deccap 39 98305 65539 -', b'deccap 39 98306 0 -', b'deccap 39 0 65540 -', b'deccap 5 98306 65540 ff',
         b'value', b'value 0 -', b'value 0 0', b'value 0 0 0 -', b'value x 0 -', b'value 0 0 5', b'value 0 0 5B', b'values 0 0 -', b'valuein 0 0 -',
         b'valuein 10 0 0', b'valuein 10 0 x -', b'valuein 18446744073709551616 0 0 -', b'valueins 10 0 0 -',
@@ -418,7 +442,7 @@ def wrong_lines():
 
 
 SECTIONS = [scope, valid_cases, left_out_cases, later_cases, invalid_utf8, invalid_strings, vectors, lent_records, lent_output, sizes, cursors, lines, spans,
-            positions, kinds, editions, faults, joined, values, reviewers, runs, every_byte, short_texts, wrong_lines]
+            positions, kinds, editions, faults, joined, values, reviewers, runs, broken_strings, every_byte, short_texts, wrong_lines]
 
 
 def main():

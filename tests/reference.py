@@ -497,6 +497,28 @@ def value(first, last, kinds):
     return valuein(10, first, last, kinds)
 
 
+# ---- the first broken string
+
+def broken_in(edition, doc):
+    """The tokens in turn. One that is not UTF-8 is refused, with what the check says of the whole document; a string that decodes
+    with an error is the answer."""
+    if len(doc) > LIMIT:
+        return refused((2, LIMIT))
+    if edition not in (10, 11):
+        return refused((9, edition))
+    for kind, first, last in tokens(doc):
+        if check(doc[first:last]):
+            return refused(check(doc), doc)
+        errors = decode(kind, doc[first:last], edition)[1] if kind in STRINGS else []
+        if errors:
+            return '%d %d %d %d | %d %d %d' % (kind, first, last, line_of(doc, first), *errors[0])
+    return '-'
+
+
+def broken(doc):
+    return broken_in(10, doc)
+
+
 # For each name its function and the words after it: n a number, b a flag, r records lent, o output lent, w output lent for a text that is written, x bytes in hex.
 CALLS = {b'lex': (lex, 'x'), b'lexline': (lexline, 'x'), b'lexcap': (lexcap, 'rx'), b'dec': (dec, 'nx'), b'deccap': (deccap, 'norx'),
          b'decin': (decin, 'nnx'), b'utf8': (utf8, 'x'), b'fault': (fault, 'x'),
@@ -504,7 +526,8 @@ CALLS = {b'lex': (lex, 'x'), b'lexline': (lexline, 'x'), b'lexcap': (lexcap, 'rx
          b'desc': (desc, 'n'),
          b'write': (write, 'x'), b'writecap': (writecap, 'wx'),
          b'tick': (tick, 'nnrx'), b'untick': (untick, 'nnrx'), b'ticked': (ticked, 'nnrx'), b'ticks': (ticks, 'nrx'),
-         b'value': (value, 'nnx'), b'valuein': (valuein, 'nnnx')}
+         b'value': (value, 'nnx'), b'valuein': (valuein, 'nnnx'),
+         b'broken': (broken, 'x'), b'brokenin': (broken_in, 'nx')}
 
 # The most that the program takes: bytes of a line, of a document, of output, of a text that is written; records.
 LINE, DOCUMENT, OUTPUT, WRITTEN, RECORDS = 131200, 65536, 98305, 393219, 65539

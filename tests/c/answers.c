@@ -248,6 +248,21 @@ static void valuein(struct call c)
     free(t);
 }
 
+/* `kind start end line | no start end`, or `-` for none. */
+static void broke(FILE *to, galoxumi_broken b)
+{
+    if (refused(to, b.answer))
+        return;
+    if (b.found)
+        fprintf(to, "%zu %zu %zu %zu | %zu %zu %zu", b.token.kind, b.token.start, b.token.end, b.token.line, b.error.number,
+                b.error.start, b.error.end);
+    else
+        fputc('-', to);
+}
+
+static void broken(struct call c) { broke(c.to, galoxumi_first_broken(c.doc, c.len)); }
+static void brokenin(struct call c) { broke(c.to, galoxumi_first_broken_in(c.doc, c.len, c.n[0])); }
+
 /* Each call: its name, how many numbers it has, and whether bytes follow them. */
 static struct {
     const char *name;
@@ -260,6 +275,7 @@ static struct {
     {"text", 2, 1, text},     {"pos", 1, 1, pos},           {"write", 0, 1, write_value}, {"writecap", 1, 1, writecap},
     {"desc", 1, 0, desc},     {"tick", 3, 1, tick},         {"untick", 3, 1, untick}, {"ticked", 3, 1, ticked},
     {"ticks", 2, 1, ticks},   {"value", 2, 1, value},       {"valuein", 3, 1, valuein},
+    {"broken", 0, 1, broken}, {"brokenin", 1, 1, brokenin},
 };
 enum { KNOWN = sizeof CALLS / sizeof *CALLS };
 

@@ -327,6 +327,22 @@ static void kinds(void)
  * together, and this then says so. */
 static const size_t LIMIT = 16777216;
 
+/* ---- the first broken string */
+
+static int breaks(galoxumi_broken b, galoxumi_token token, galoxumi_error error)
+{
+    return answers(b.answer, 0, 0) && b.answer.length == 0 && b.found == 1 && memcmp(&b.token, &token, sizeof token) == 0
+           && memcmp(&b.error, &error, sizeof error) == 0;
+}
+
+static int breaks_nowhere(galoxumi_broken b, size_t refusal, size_t value, size_t length)
+{
+    static const galoxumi_broken nothing;
+    galoxumi_broken expected = nothing;
+    expected.answer = (galoxumi_answer){refusal, value, length};
+    return memcmp(&b, &expected, sizeof b) == 0;
+}
+
 struct memory {
     uint8_t *doc, *out;
     galoxumi_error *errors;
@@ -365,10 +381,12 @@ static void at_the_limit(struct memory m, size_t len)
     FROM("crates/built_writing/specs/Writing.antt: a text is written where it fits, and may be longer than the limit");
     EXPECT(answers(galoxumi_write_value(m.doc, len, m.out, len + 2), 0, len + 2) && m.out[0] == '\'' && m.out[len + 1] == '\'');
     EXPECT(answers(galoxumi_write_value(m.doc, len, m.out, len + 1), 4, len + 2));
+    EXPECT(breaks_nowhere(galoxumi_first_broken(m.doc, len), 0, 0, 0));
     FROM("docs/RULES.md, the refusals: 1 at the last byte");
     m.doc[len - 1] = 0xC3;
     EXPECT(answers(galoxumi_check_utf8(m.doc, len), 1, len - 1));
     EXPECT(answers(galoxumi_lex(m.doc, len, m.tokens, 0), 1, len - 1));
+    EXPECT(breaks_nowhere(galoxumi_first_broken(m.doc, len), 1, len - 1, 0));
     EXPECT(answers(galoxumi_decode(m.doc, len, 5, m.out, 0, m.errors, 0).answer, 1, len - 1));
 }
 
@@ -397,6 +415,7 @@ static void past_the_limit(struct memory m, size_t len)
     EXPECT(answers(galoxumi_write_value(m.doc, len, m.out, LIMIT), 2, LIMIT));
     d = galoxumi_decode_in(m.doc, len, 12, 34, m.out, LIMIT, m.errors, LIMIT);
     EXPECT(answers(d.answer, 2, LIMIT) && d.errors == 0);
+    EXPECT(breaks_nowhere(galoxumi_first_broken_in(m.doc, len, 12), 2, LIMIT, 0));
     EXPECT(m.out[0] == 0xA5 && m.errors[0].number == 7 && m.tokens[0].kind == 7);
 }
 
@@ -666,6 +685,24 @@ static void values_refused(void)
     EXPECT(answers(galoxumi_is_value(NULL, 0, 0, 0), 0, 0) && answers(galoxumi_is_value(NULL, 0, 0, 1), 6, 0));
 }
 
+static void first_broken(void)
+{
+    FROM("crates/built_broken/specs/Broken.antt: the first token with an error, and its first error, as a decode has it");
+    EXPECT(breaks_nowhere(galoxumi_first_broken(BYTES("a = \"b\" # \xC3\xA9\n")), 0, 0, 0));
+    EXPECT(breaks(galoxumi_first_broken(BYTES("a = 'b'\nc = \"\\q\" 'd")), (galoxumi_token)T(34, 12, 16, 2), (galoxumi_error)R(8, 2, 2)));
+    EXPECT(breaks(galoxumi_first_broken(BYTES("\"\x01")), (galoxumi_token)T(34, 0, 2, 1), (galoxumi_error)R(6, 2, 2)));
+    EXPECT(breaks(galoxumi_first_broken(BYTES("\xEF\xBB\xBF'''a\r'''")), (galoxumi_token)T(1, 3, 11, 1), (galoxumi_error)R(4, 5, 5)));
+    FROM("docs/RULES.md, the refusals: 1 at the first token that is not UTF-8, unless a broken one comes before it");
+    EXPECT(breaks_nowhere(galoxumi_first_broken(BYTES("a = \"\xE2\x82\"")), 1, 5, 2));
+    EXPECT(breaks_nowhere(galoxumi_first_broken(BYTES("# \xE2\x82\n'")), 1, 2, 2));
+    EXPECT(breaks_nowhere(galoxumi_first_broken(BYTES("# \xE2\x82")), 1, 2, 0));
+    EXPECT(breaks(galoxumi_first_broken(BYTES("' \n\xFF")), (galoxumi_token)T(39, 0, 2, 1), (galoxumi_error)R(1, 2, 2)));
+    FROM("docs/RULES.md, the refusals: 9 before 1, and the editions");
+    EXPECT(breaks_nowhere(galoxumi_first_broken_in(BYTES("\xFF"), 12), 9, 12, 0));
+    EXPECT(breaks_nowhere(galoxumi_first_broken_in(BYTES("\"\\e\""), 11), 0, 0, 0));
+    EXPECT(breaks(galoxumi_first_broken_in(BYTES("\"\\e\""), 10), (galoxumi_token)T(34, 0, 4, 1), (galoxumi_error)R(8, 2, 2)));
+}
+
 /* NULL stands for memory of no bytes, tokens, errors or marks, read or lent. */
 static void nulls(void)
 {
@@ -682,6 +719,7 @@ static void nulls(void)
     EXPECT(answers(galoxumi_decode_in(BYTES("''"), 10, 39, NULL, 0, NULL, 0).answer, 0, 0));
     EXPECT(answers(galoxumi_decode(BYTES("'a'"), 39, NULL, 0, NULL, 0).answer, 4, 1));
     EXPECT(answers(galoxumi_write_value(NULL, 0, NULL, 0), 4, 2));
+    EXPECT(breaks_nowhere(galoxumi_first_broken(NULL, 0), 0, 0, 0));
     EXPECT(answers(galoxumi_tick(NULL, 0, NULL, 0, 0, 0), 6, 0) && answers(galoxumi_untick(NULL, 0, NULL, 0, 0, 0), 6, 0));
     EXPECT(answers(galoxumi_is_ticked(NULL, 0, NULL, 0, 0, 0), 6, 0) && answers(galoxumi_ticks(NULL, 0, NULL, 0, 0), 0, 0));
 }
@@ -744,6 +782,7 @@ int main(void)
     RUN(reviewers_refused);
     RUN(values);
     RUN(values_refused);
+    RUN(first_broken);
     RUN(long_documents);
     printf("C: %d expectations held\n", held);
     printf("C: %d passed, %d failed\n", passed, failed);

@@ -87,6 +87,14 @@ pub(crate) struct ErrorWords {
     pub bytes: [u8; 43],
 }
 
+#[repr(C)]
+pub(crate) struct Broken {
+    pub answer: Answer,
+    pub found: usize,
+    pub token: Token,
+    pub error: [usize; 3],
+}
+
 mod archive {
     use super::*;
 
@@ -109,6 +117,7 @@ mod archive {
             errors_len: usize,
         ) -> Decoded;
         pub fn galoxumi_write_value(value: *const u8, len: usize, output: *mut u8, output_len: usize) -> Answer;
+        pub fn galoxumi_first_broken_in(doc: *const u8, len: usize, edition: usize) -> Broken;
         #[cfg(test)]
         pub fn galoxumi_description(kind: usize) -> Described;
         #[cfg(test)]
@@ -206,6 +215,10 @@ pub(crate) fn decode_in(text: &[u8], edition: usize, kind: usize, output: &mut [
 
 pub(crate) fn write_value(value: &[u8], output: &mut [u8]) -> Answer {
     unsafe { archive::galoxumi_write_value(value.as_ptr(), value.len(), output.as_mut_ptr(), output.len()) }
+}
+
+pub(crate) fn first_broken_in(doc: &[u8], edition: usize) -> Broken {
+    unsafe { archive::galoxumi_first_broken_in(doc.as_ptr(), doc.len(), edition) }
 }
 
 /// The crate has the words of kinds as constants, which a test holds to these.

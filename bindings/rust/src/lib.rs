@@ -28,6 +28,7 @@ extern crate alloc;
 #[cfg(test)]
 extern crate std;
 
+mod broken;
 mod decode;
 mod error;
 mod ffi;
@@ -41,6 +42,7 @@ pub mod toml_parser;
 mod value;
 mod writing;
 
+pub use broken::{first_broken, first_broken_in, Broken};
 #[cfg(feature = "alloc")]
 pub use decode::{decode, decode_in, decode_key, Decoded};
 pub use decode::{decode_into, decode_key_into, Lent};

@@ -427,3 +427,24 @@ fn refusals_say_which_case_they_are() {
         assert_eq!(refusal.to_string(), words);
     }
 }
+
+/// The first token that decodes with an error, with the error that decoding it alone reports first.
+#[test]
+fn the_first_broken_string_is_found() {
+    let docs: [&[u8]; 7] =
+        [b"", b"a = 'b'\n", b"a = 'b' \"\\q\" 'c", b"\"\x01", "\u{FEFF}'''\r'''".as_bytes(), b"\"\\e\"", b"''' \xFF"];
+    for doc in docs {
+        for edition in [Edition::Toml10, Edition::Toml11] {
+            let expected = lex(doc).map(|tokens| {
+                tokens.iter().find_map(|token| {
+                    let decoded = token.decode_in(doc, edition)?.expect("a token of UTF-8 is UTF-8");
+                    decoded.errors.first().map(|&error| Broken { token: *token, error })
+                })
+            });
+            assert_eq!(first_broken_in(doc, edition), expected);
+        }
+    }
+    assert_eq!(first_broken(b"' \n\xFF").map(|broken| broken.map(|b| b.token.span())), Ok(Some(Span::new(0, 2))));
+    assert_eq!(first_broken(b"# \xE2\x82\n"), Err(check_utf8(b"# \xE2\x82\n").unwrap_err()));
+    assert_eq!(first_broken(&vec![b'#'; LIMIT + 1]), Err(Refusal::TooLong));
+}

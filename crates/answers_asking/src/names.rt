@@ -46,6 +46,8 @@ pub enum BuiltCall {
     Ticks,
     Value,
     ValueIn,
+    Broken,
+    BrokenIn,
 }
 
 pub enum Call {
@@ -104,6 +106,8 @@ fn built_line(key: usize) -> Line {
         0x74_69_63_6B_73 => limited(built(BuiltCall::Ticks, 2), [ANY, RECORDS, ANY]),
         0x76_61_6C_75_65 => built(BuiltCall::Value, 2),
         0x76_61_6C_75_65_69_6E => built(BuiltCall::ValueIn, 3),
+        0x62_72_6F_6B_65_6E => built(BuiltCall::Broken, 0),
+        0x62_72_6F_6B_65_6E_69_6E => built(BuiltCall::BrokenIn, 1),
         _ => plain(Call::Unknown, 0),
     }
 }

@@ -18,6 +18,7 @@ pub fn built_reply(
 ) -> Reply {
     match call {
         BuiltCall::Write | BuiltCall::WriteCap => writing(call, numbers, doc, bytes),
+        BuiltCall::Broken | BuiltCall::BrokenIn => breaking(call, numbers, doc),
         BuiltCall::Value | BuiltCall::ValueIn => values(call, numbers, doc, tokens),
         _ => review(call, numbers, doc, bytes, tokens),
     }
@@ -113,4 +114,20 @@ fn value(numbers: [usize; 3], records: &[[usize; 4]]) -> Reply {
 fn valuein(numbers: [usize; 3], records: &[[usize; 4]]) -> Reply {
     let check = built_values::is_value_in(records, numbers[0], numbers[1], numbers[2]);
     answers_built_forms::value_checked(check)
+}
+
+fn breaking(call: BuiltCall, numbers: [usize; 3], doc: &[u8]) -> Reply {
+    match call {
+        BuiltCall::BrokenIn => broken_in(numbers, doc),
+        _ => broken(doc),
+    }
+}
+
+fn broken(doc: &[u8]) -> Reply {
+    answers_built_forms::broken(built_broken::first_broken(doc))
+}
+
+// The number is that of an edition.
+fn broken_in(numbers: [usize; 3], doc: &[u8]) -> Reply {
+    answers_built_forms::broken(built_broken::first_broken_in(doc, numbers[0]))
 }

@@ -2,7 +2,13 @@
 -- the form, as in answers_forms. The comments name the calls as a line does; tests/README.md lists them.
 -- Assumes nothing.
 use Prim.Native.Nat.{ℕ}
+use mathlib.Core.List.{[], _∷_, _++_}
 use Rattle.text_refusals.specs.Refusals.{refusalNumber, refusalValue}
+use Rattle.lexer_token.specs.Records.{recordOf}
+use Rattle.lexer_token.specs.declared.Token.{Token}
+use Rattle.built_broken.specs.declared.FirstBroken.{FirstBroken}
+use Rattle.built_broken.specs.declared.FirstBroken.the-variants.{Broken, Sound, Refused as Unsearched}
+use Rattle.built_broken.specs.declared.FirstError.{FirstError}
 use Rattle.built_review.specs.declared.Marking.{Marking}
 use Rattle.built_review.specs.declared.Marking.the-variants.{Done, Refused as Unmarked}
 use Rattle.built_review.specs.declared.TickRead.{TickRead}
@@ -46,3 +52,13 @@ abbrev pub valueAs : ValueCheck → Reply
 valueAs Value = threeBy form.Three 0 0 1
 valueAs NoValue = threeBy form.Three 0 0 0
 valueAs (Unjudged r) = refusedAs form.Three r
+
+-- broken, brokenin: the token with its line, and the error
+abbrev pub brokenAt : Token → FirstError → Reply
+brokenAt t e =
+    record { form = form.FirstBroken; numbers = recordOf t ++ (e .number ∷ e .start ∷ e .end ∷ 0 ∷ []) }
+
+abbrev pub brokenAs : FirstBroken → Reply
+brokenAs (Broken t e) = brokenAt t e
+brokenAs Sound = filledBy form.Sound 0 0
+brokenAs (Unsearched r) = refusedWhole r

@@ -2,17 +2,21 @@
 // Definitions: specs/Answers.antt.
 ghost use mathlib.Core.Path.{_≡_};
 ghost use Rattle.answers_built_forms.specs.Answers.{wroteAs, wroteCountAs, markedAs, tickReadAs, tickCountAs, valueAs};
+ghost use Rattle.answers_built_forms.specs.Answers.{brokenAs, brokenAt};
 use answers_forms::filled;
 use answers_forms::refused;
 use answers_forms::refused_whole;
 use answers_forms::three;
 use answers_spelling::Form;
 use answers_spelling::Reply;
+use built_broken::FirstBroken;
+use built_broken::FirstError;
 use built_review::Marking;
 use built_review::TickCount;
 use built_review::TickRead;
 use built_values::ValueCheck;
 use built_writing::Wrote;
+use lexer_token::Token;
 
 pub fn wrote(result: Wrote) -> Reply
     ensures { λ r. ⌜ r ≡ wroteAs result ⌝ }
@@ -69,5 +73,34 @@ pub fn value_checked(check: ValueCheck) -> Reply
         ValueCheck::Value => three(Form::Three, 0, 0, 1),
         ValueCheck::NoValue => three(Form::Three, 0, 0, 0),
         ValueCheck::Refused(why) => refused(Form::Three, why),
+    }
+}
+
+pub fn broken(result: FirstBroken) -> Reply
+    ensures { λ r. ⌜ r ≡ brokenAs result ⌝ }
+{
+    match result {
+        FirstBroken::Broken(token, error) => broken_at(token, error),
+        FirstBroken::Sound => filled(Form::Sound, 0, 0),
+        FirstBroken::Refused(why) => refused_whole(why),
+    }
+}
+
+fn broken_at(token: Token, error: FirstError) -> Reply
+    ensures { λ r. ⌜ r ≡ brokenAt token error ⌝ }
+{
+    let record = token.as_record();
+    Reply {
+        form: Form::FirstBroken,
+        numbers: [
+            record[0],
+            record[1],
+            record[2],
+            record[3],
+            error.number,
+            error.start,
+            error.end,
+            0,
+        ],
     }
 }

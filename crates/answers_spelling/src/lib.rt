@@ -20,6 +20,8 @@ pub enum Form {
     NoStep,
     Described,
     Marked,
+    FirstBroken,
+    Sound,
     // why a line is no call
     TooLong,
     UnknownCall,
@@ -73,6 +75,11 @@ const DESCRIBED: Text = *b"# # # $ #\n______________";
 
 const MARKED: Text = *b"# # | $\n________________";
 
+// a token with its line, and an error
+const FIRST_BROKEN: Text = *b"# # # # | # # #\n________";
+
+const SOUND: Text = *b"-\n______________________";
+
 const TOO_LONG: Text = *b"? too long\n_____________";
 
 const UNKNOWN_CALL: Text = *b"? unknown call\n_________";
@@ -119,6 +126,8 @@ fn text_of(form: Form) -> Text {
         Form::NoStep => NO_STEP,
         Form::Described => DESCRIBED,
         Form::Marked => MARKED,
+        Form::FirstBroken => FIRST_BROKEN,
+        Form::Sound => SOUND,
         Form::TooLong => TOO_LONG,
         Form::UnknownCall => UNKNOWN_CALL,
         Form::WordCount => WORD_COUNT,

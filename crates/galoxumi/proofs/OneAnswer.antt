@@ -72,3 +72,9 @@ galoxumi-is-value κs a x y s t p q = p .2 ∙ ap valueNumbers (one-answer (p .1
 
 pub galoxumi-is-value-in : OneAnswer promised.galoxumi_is_value_in.Reads.Learnt
 galoxumi-is-value-in κs a x y s t p q = p .2 ∙ ap valueNumbers (one-answer (p .1) (q .1)) ∙ sym (q .2)
+
+pub galoxumi-first-broken : OneAnswer promised.galoxumi_first_broken.Reads.Learnt
+galoxumi-first-broken κs a x y s t p q = p ∙ sym q
+
+pub galoxumi-first-broken-in : OneAnswer promised.galoxumi_first_broken_in.Reads.Learnt
+galoxumi-first-broken-in κs a x y s t p q = p ∙ sym q

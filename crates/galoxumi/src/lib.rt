@@ -13,15 +13,18 @@ ghost use Rattle.lexer.specs.Whole.{lexAnswer, lexMemory};
 ghost use Rattle.lexer_place.specs.Spans.{spanAnswer, spanText};
 ghost use Rattle.lexer_place.specs.Positions.{positionAnswer};
 ghost use Rattle.decoder_words.specs.Words.{errorWords};
+ghost use Rattle.built_broken.specs.Broken.{brokenAnswer};
 ghost use Rattle.built_review.specs.Review.{markAnswer, tickedMarks, untickedMarks, readAnswer, countAnswer};
 ghost use Rattle.built_writing.specs.Writing.{writeAnswer};
 ghost use Rattle.library_numbers.specs.Numbers.{flag, checkNumbers, startNumbers, stepNumbers, lexNumbers, spanNumbers, partOf, partText};
 ghost use Rattle.library_numbers.specs.Numbers.{positionNumbers, decodeAnswer, outputAfter, errorsAfter};
 ghost use Rattle.library_numbers.specs.Numbers.{describedNumbers, encodedNumbers, wordsNumbers};
 ghost use Rattle.library_built.specs.Numbers.{writeNumbers, writtenBytes, markNumbers, readNumbers, countNumbers, ValueTold};
+ghost use Rattle.library_built.specs.Numbers.{brokenNumbers};
 use lexer::Cursor;
 use lexer_token::Span;
 use lexer_token::TokenKind;
+use library_built::BrokenNumbers;
 use library_numbers::AnswerNumbers;
 use library_numbers::DecodeNumbers;
 use library_numbers::DescribedNumbers;
@@ -233,4 +236,20 @@ pub extern "C" fn galoxumi_is_value_in(
     ensures { λ r. ⌜ ValueTold (now (records .entry)) edition start end r ⌝ }
 {
     library_built::value_checked(built_values::is_value_in(records, edition, start, end))
+}
+
+// The first string token of a document that decodes with an error, and its first error.
+#[no_mangle]
+pub extern "C" fn galoxumi_first_broken(doc: &[u8]) -> BrokenNumbers
+    ensures { λ r. ⌜ r ≡ brokenNumbers (brokenAnswer (now (doc .entry)) 10) ⌝ }
+{
+    library_built::broken(built_broken::first_broken(doc))
+}
+
+// The same in the edition of TOML that `edition` names: 10 for TOML 1.0, 11 for TOML 1.1.
+#[no_mangle]
+pub extern "C" fn galoxumi_first_broken_in(doc: &[u8], edition: usize) -> BrokenNumbers
+    ensures { λ r. ⌜ r ≡ brokenNumbers (brokenAnswer (now (doc .entry)) edition) ⌝ }
+{
+    library_built::broken(built_broken::first_broken_in(doc, edition))
 }

@@ -19,3 +19,6 @@ tick-count κs a x y s t p q = p ∙ sym q
 
 pub value-checked : OneAnswer promised.value_checked.Reads.Learnt
 value-checked κs a x y s t p q = p ∙ sym q
+
+pub broken : OneAnswer promised.broken.Reads.Learnt
+broken κs a x y s t p q = p ∙ sym q

@@ -13,10 +13,13 @@ use Rattle.built_review.specs.declared.TickCount.the-variants.{Ticks, Refused a
 use Rattle.built_values.specs.Told.{valueNumber, valueValue, valueYes}
 use Rattle.built_values.specs.declared.ValueCheck.{ValueCheck}
 use Rattle.built_values.specs.declared.ValueCheck.the-variants.{Value, NoValue, Refused as Unjudged}
+use Rattle.built_broken.specs.Told.{brokenNumber, brokenValue, brokenLength}
+use Rattle.built_broken.specs.declared.FirstBroken.{FirstBroken}
+use Rattle.built_broken.specs.declared.FirstBroken.the-variants.{Broken, Sound, Refused as Unsearched}
 use Rattle.built_writing.specs.Told.{wroteNumber, wroteValue, wroteLength}
 use Rattle.built_writing.specs.declared.Wrote.{Wrote}
 use Rattle.built_writing.specs.declared.Wrote.the-variants.{Text, Refused as Unwritten}
-use Rattle.library_built.specs.Numbers.{writeNumbers, markNumbers, readNumbers, countNumbers, valueNumbers}
+use Rattle.library_built.specs.Numbers.{writeNumbers, markNumbers, readNumbers, countNumbers, valueNumbers, brokenNumbers}
 
 pub write-told : (r : Wrote) → writeNumbers r ≡ record { refusal = wroteNumber r; value = wroteValue r; length = wroteLength r }
 unfolding writeNumbers
@@ -45,3 +48,10 @@ unfolding valueNumbers
 value-told Value = (refl, refl)
 value-told NoValue = (refl, refl)
 value-told (Unjudged r) = (refl, omega arith)
+
+pub broken-told : (r : FirstBroken)
+    → brokenNumbers r .answer ≡ record { refusal = brokenNumber r; value = brokenValue r; length = brokenLength r }
+unfolding brokenNumbers
+broken-told (Broken t e) = refl
+broken-told Sound = refl
+broken-told (Unsearched r) = refl

@@ -6,6 +6,9 @@ use mathlib.Core.{Path._≡_, List.List}
 use lib.{ListN.length}
 use Rattle.library_numbers.specs.{Numbers.answerOf, Numbers.refusedBy}
 use Rattle.library_numbers.specs.declared.{AnswerNumbers.AnswerNumbers}
+use Rattle.library_built.specs.declared.{BrokenNumbers.BrokenNumbers}
+use Rattle.lexer_token.specs.{KindNumbers.kindNumber}
+use Rattle.built_broken.specs.declared.{FirstBroken.FirstBroken, FirstBroken.the-variants.Broken, FirstBroken.the-variants.Sound, FirstBroken.the-variants.Refused as Unsearched}
 use Rattle.built_writing.specs.{Writing.written, Writing.writeAnswer, Writing.writtenAfter}
 use Rattle.built_writing.specs.declared.{Wrote.Wrote, Wrote.the-variants.Text, Wrote.the-variants.Refused as Unwritten}
 use Rattle.built_review.specs.declared.{Marking.Marking, Marking.the-variants.Done, Marking.the-variants.Refused as Unmarked, TickRead.TickRead, TickRead.the-variants.Ticked, TickRead.the-variants.Unticked, TickRead.the-variants.Refused as Unread, TickCount.TickCount, TickCount.the-variants.Ticks, TickCount.the-variants.Refused as Uncounted}
@@ -44,3 +47,24 @@ valueNumbers (Unjudged r) = refusedBy r
 abbrev pub ValueTold : List (List ℕ) → ℕ → ℕ → ℕ → AnswerNumbers → Type 0
 ValueTold records edition start end numbers =
     (answer : ValueCheck) × ValueAnswer records edition start end answer × (numbers ≡ valueNumbers answer)
+
+-- the first broken string: `found` is 1 with a token and its error; without one it and all fields after it are 0
+abbrev pub unbrokenBy : AnswerNumbers → BrokenNumbers
+unbrokenBy answer =
+    record {
+      answer = answer;
+      found = 0;
+      token = record { kind = 0; start = 0; end = 0; line = 0 };
+      error = record { number = 0; start = 0; end = 0 };
+    }
+
+unfoldable pub brokenNumbers : FirstBroken → BrokenNumbers
+brokenNumbers (Broken t e) =
+    record {
+      answer = answerOf 0;
+      found = 1;
+      token = record { kind = kindNumber (t .kind); start = t .span .start; end = t .span .end; line = t .line };
+      error = record { number = e .number; start = e .start; end = e .end };
+    }
+brokenNumbers Sound = unbrokenBy (answerOf 0)
+brokenNumbers (Unsearched r) = unbrokenBy (refusedBy r)

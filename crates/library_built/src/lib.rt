@@ -2,12 +2,15 @@
 // Definitions: specs/Numbers.antt.
 ghost use mathlib.Core.Path.{_≡_};
 ghost use Rattle.library_built.specs.Numbers.{writeNumbers, markNumbers, readNumbers, countNumbers, valueNumbers};
+ghost use Rattle.library_built.specs.Numbers.{brokenNumbers, unbrokenBy};
+use built_broken::FirstBroken;
 use built_review::Marking;
 use built_review::TickCount;
 use built_review::TickRead;
 use built_values::ValueCheck;
 use built_writing::Wrote;
 use library_numbers::AnswerNumbers;
+use library_numbers::TokenNumbers;
 use library_numbers::answer_of;
 use library_numbers::refused;
 
@@ -57,5 +60,69 @@ pub fn value_checked(check: ValueCheck) -> AnswerNumbers
         ValueCheck::Value => answer_of(1),
         ValueCheck::NoValue => answer_of(0),
         ValueCheck::Refused(r) => refused(r),
+    }
+}
+
+// An error: its number, and from where to where it goes, counted from the token's start.
+#[repr(C)]
+pub struct ErrorNumbers {
+    pub number: usize,
+    pub start: usize,
+    pub end: usize,
+}
+
+// `found` is 1 with a broken token and its first error; without one it is 0, and so are all fields after it.
+#[repr(C)]
+pub struct BrokenNumbers {
+    pub answer: AnswerNumbers,
+    pub found: usize,
+    pub token: TokenNumbers,
+    pub error: ErrorNumbers,
+}
+
+pub fn broken(broken: FirstBroken) -> BrokenNumbers
+    ensures { λ r. ⌜ r ≡ brokenNumbers broken ⌝ }
+{
+    match broken {
+        FirstBroken::Broken(token, error) => {
+            let kind = token.kind;
+            BrokenNumbers {
+                answer: answer_of(0),
+                found: 1,
+                token: TokenNumbers {
+                    kind: kind.number(),
+                    start: token.span.start,
+                    end: token.span.end,
+                    line: token.line,
+                },
+                error: ErrorNumbers {
+                    number: error.number,
+                    start: error.start,
+                    end: error.end,
+                },
+            }
+        }
+        FirstBroken::Sound => unbroken(answer_of(0)),
+        FirstBroken::Refused(r) => unbroken(refused(r)),
+    }
+}
+
+fn unbroken(answer: AnswerNumbers) -> BrokenNumbers
+    ensures { λ r. ⌜ r ≡ unbrokenBy answer ⌝ }
+{
+    BrokenNumbers {
+        answer,
+        found: 0,
+        token: TokenNumbers {
+            kind: 0,
+            start: 0,
+            end: 0,
+            line: 0,
+        },
+        error: ErrorNumbers {
+            number: 0,
+            start: 0,
+            end: 0,
+        },
     }
 }

@@ -1,0 +1,3 @@
+pub mod DecodedLaws
+pub mod ReachLaws
+pub mod Theorems
