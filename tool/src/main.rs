@@ -16,6 +16,7 @@ mod output;
 mod shown;
 mod strings;
 mod tokens;
+mod values;
 mod width;
 mod width_table;
 mod write;
@@ -44,6 +45,7 @@ const COMMANDS: &[Command] = &[
     Command { name: "check", help: check::HELP, options: &["--edition", "--json", "--first"], run: check::run },
     Command { name: "strings", help: strings::HELP, options: &["--edition", "--json"], run: strings::run },
     Command { name: "tokens", help: tokens::HELP, options: &["--json"], run: tokens::run },
+    Command { name: "values", help: values::HELP, options: &["--edition", "--json"], run: values::run },
     Command { name: "write", help: write::HELP, options: &[], run: write::run },
 ];
 
@@ -57,6 +59,7 @@ commands:
   check FILE..   says what is wrong with each broken string, and where a file is not UTF-8
   strings FILE   lists each string with its place, kind and value, control characters shown
   tokens FILE    lists each token with its place, kind and text
+  values FILE    says which array or inline table is no value, and which bracket is lost
   write          writes standard input as the shortest TOML string with that value
 
 galoxumi COMMAND --help says more. FILE - is standard input.
