@@ -5,10 +5,10 @@ use crate::arguments::Arguments;
 use crate::finding::{Finding, What};
 use crate::input::{self, Input};
 use crate::json::Object;
-use crate::judge::{Judge, Verdict};
+use crate::judge::{Fault, Judge, Verdict};
 use crate::output::{Output, Stop, Style};
 use crate::Status;
-use galoxumi::{Lent, Lexer, Places, Token};
+use galoxumi::{first_broken_in, Broken, Lent, Lexer, Places, Refusal, Token};
 
 pub const HELP: &str = "\
 usage: galoxumi check [--edition 10|11] [--first] [--json] FILE..
@@ -67,6 +67,45 @@ struct Check<'a> {
 
 impl Check<'_> {
     fn run(mut self, output: &mut Output) -> Result<Status, Stop> {
+        if self.arguments.first {
+            self.first(output)?;
+        } else {
+            self.all(output)?;
+        }
+        self.sum_up(output)
+    }
+
+    /// The first thing that is wrong, and no further.
+    fn first(&mut self, output: &mut Output) -> Result<(), Stop> {
+        let doc = self.input.doc.as_slice();
+        let mut places = Places::new(doc);
+        match first_broken_in(doc, self.arguments.edition) {
+            Ok(None) => Ok(()),
+            Ok(Some(Broken { token, error })) => {
+                self.found.broken += 1;
+                let opened = places.position(token.span().start())?;
+                let at = places.position(error.unexpected().start())?;
+                let advice = Advice::new(doc, token.span(), self.arguments.edition);
+                self.report(Finding { what: What::Error(error, advice), at, token, opened }, output)
+            }
+            Err(Refusal::NotUtf8 { valid, .. }) => {
+                let mut judge = Judge::new(doc, self.arguments.edition);
+                for token in Lexer::new(doc)? {
+                    let token = token?;
+                    if token.span().end() > valid {
+                        if let Verdict::NotUtf8(fault) = judge.judge(token)? {
+                            return self.not_utf8(token, fault, &mut places, output);
+                        }
+                    }
+                }
+                Err(Refusal::NotUtf8 { valid, error_len: None }.into())
+            }
+            Err(refusal) => Err(refusal.into()),
+        }
+    }
+
+    /// All that is wrong.
+    fn all(&mut self, output: &mut Output) -> Result<(), Stop> {
         let doc = self.input.doc.as_slice();
         let mut judge = Judge::new(doc, self.arguments.edition);
         let mut places = Places::new(doc);
@@ -75,18 +114,17 @@ impl Check<'_> {
             match judge.judge(token)? {
                 Verdict::Sound => {}
                 Verdict::String(string) => self.string(token, string, &mut places, output)?,
-                Verdict::NotUtf8(fault) => {
-                    self.found.not_utf8 += 1;
-                    let opened = places.position(token.span().start())?;
-                    let at = places.position(fault.span.start())?;
-                    self.report(Finding { what: What::NotUtf8(fault), at, token, opened }, output)?;
-                }
-            }
-            if self.arguments.first && !self.is_sound() {
-                break;
+                Verdict::NotUtf8(fault) => self.not_utf8(token, fault, &mut places, output)?,
             }
         }
-        self.sum_up(output)
+        Ok(())
+    }
+
+    fn not_utf8(&mut self, token: Token, fault: Fault, places: &mut Places, output: &mut Output) -> Result<(), Stop> {
+        self.found.not_utf8 += 1;
+        let opened = places.position(token.span().start())?;
+        let at = places.position(fault.span.start())?;
+        self.report(Finding { what: What::NotUtf8(fault), at, token, opened }, output)
     }
 
     fn string(&mut self, token: Token, string: Lent, places: &mut Places, output: &mut Output) -> Result<(), Stop> {
@@ -109,9 +147,6 @@ impl Check<'_> {
             self.found.errors += 1;
             let at = near.position(place)?;
             self.report(Finding { what: What::Error(error, advice), at, token, opened }, output)?;
-            if self.arguments.first {
-                break;
-            }
         }
         Ok(())
     }
@@ -131,8 +166,8 @@ impl Check<'_> {
     /// The last line on a file.
     fn sum_up(&self, output: &mut Output) -> Result<Status, Stop> {
         let (name, found, sound) = (&self.input.name, &self.found, self.is_sound());
-        // What was not looked at is not counted.
-        let whole = sound || !self.arguments.first;
+        // What need not be looked at is not counted.
+        let whole = !self.arguments.first;
         if self.arguments.json {
             let mut object = Object::new().string("file", name).truth("sound", sound);
             if whole {
