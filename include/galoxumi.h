@@ -47,7 +47,8 @@ extern "C" {
 enum galoxumi_refusal {
     GALOXUMI_ANSWERED = 0,     /* it answered; tokens, bytes, ticks, 1 or 0: see the call */
     GALOXUMI_NOT_UTF8 = 1,     /* the bytes are not UTF-8; the length of the longest valid prefix */
-    GALOXUMI_TOO_LONG = 2,     /* more than GALOXUMI_LIMIT bytes; GALOXUMI_LIMIT */
+    /* More than GALOXUMI_LIMIT bytes; GALOXUMI_LIMIT. In galoxumi_tally: more than GALOXUMI_MOST_TALLIED; that number. */
+    GALOXUMI_TOO_LONG = 2,
     GALOXUMI_FEW_TOKENS = 3,   /* fewer tokens are lent than there are, Eof counted; the tokens needed */
     GALOXUMI_SHORT_OUTPUT = 4, /* the output is shorter than what is to be written; the bytes needed */
     GALOXUMI_FEW_ERRORS = 5,   /* fewer errors are lent than there are; the errors needed */
@@ -59,7 +60,8 @@ enum galoxumi_refusal {
     GALOXUMI_NO_EDITION = 9,   /* a number that is no edition of TOML; that number */
     GALOXUMI_TOO_DEEP = 10,    /* more than GALOXUMI_DEPTH brackets are open at once; GALOXUMI_DEPTH */
     GALOXUMI_NO_REVIEWER = 11, /* a number that is no reviewer's: neither 0 nor 1; that number */
-    GALOXUMI_FEW_MARKS = 12    /* the table of marks is shorter than the tokens; the number of tokens */
+    GALOXUMI_FEW_MARKS = 12,   /* the table of marks is shorter than the tokens; the number of tokens */
+    GALOXUMI_TOTAL_FULL = 13   /* a total would pass 64 bits; 18446744073709551615 */
 };
 
 /* The edition of TOML that a text is read as. */
@@ -301,6 +303,29 @@ galoxumi_answer galoxumi_ticks(const galoxumi_token *tokens, size_t tokens_len, 
  * pass the closing ones by more than GALOXUMI_DEPTH. */
 galoxumi_answer galoxumi_is_value(const galoxumi_token *tokens, size_t tokens_len, size_t start, size_t end);
 galoxumi_answer galoxumi_is_value_in(const galoxumi_token *tokens, size_t tokens_len, size_t edition, size_t start, size_t end);
+/* The most bytes that a document may have to be tallied. */
+#define GALOXUMI_MOST_TALLIED ((size_t)65536)
+
+/* Totals over documents: the tokens of each kind, in the order . = , [ ] { } whitespace, comment, newline, literal, basic,
+ * ml-literal and ml-basic string, atom, Eof; the errors of each number, error 1 first, over all string tokens, read as TOML
+ * 1.0; and the documents refused with 1 and with 2. */
+typedef struct {
+    uint64_t tokens[16];
+    uint64_t errors[15];
+    uint64_t not_utf8;
+    uint64_t too_long;
+} galoxumi_totals;
+
+typedef struct {
+    galoxumi_answer answer;
+    galoxumi_totals totals;
+} galoxumi_tallied;
+
+/* Adds a document to the totals handed in, which are only read: those afterwards come back. No memory is lent, and the document
+ * is walked once after its check. value is 0. Refusals 13, 2, 1: with 2 and 1 the document is counted by that number, and adds
+ * nothing else; with 13, given where any total would pass 64 bits, also a count of refused documents, the totals come back as
+ * they were. In which order documents are added changes no total, as long as none is refused with 13. */
+galoxumi_tallied galoxumi_tally(const uint8_t *doc, size_t doc_len, const galoxumi_totals *totals);
 
 #ifdef __cplusplus
 }

@@ -1,5 +1,6 @@
 #!/usr/bin/env python3
-"""Makes what the program `answers` is run on and held to: crates/answers/stdin and crates/answers/stdout.
+"""Makes what the program `answers` is run on and held to: crates/answers/stdin and crates/answers/stdout; and the same of the program
+`figures` (tests/figures_runs.py).
 
     tests/make_answers.py            writes them, and prints how many lines each section has
     tests/make_answers.py --check    writes nothing; fails if what is committed is not what would be written,
@@ -15,6 +16,7 @@ import pathlib
 import sys
 
 sys.dont_write_bytecode = True
+import figures_runs
 import reference
 
 TESTS = pathlib.Path(__file__).resolve().parent
@@ -400,6 +402,22 @@ def broken_strings():
     named = [call('brokenin', edition, doc) for edition in (0, 9, 10, 11, 12, MAX) for doc in (b'', b"'", b'\xff', b'"\\e"', b'"\\e" \xff')]
     return by_reference(*[call('broken', doc) for doc in pairs + cuts + short + damaged + large],
                         *[call('brokenin', edition, doc) for doc in escapes for edition in (10, 11)], *named)
+def tallied():
+    """Figures: each kind and each error, alone and together; every document and string of the suite; from zeros and from totals
+    that the next one fills; the refusals in their order; and the longest document."""
+    kinds = [b'.', b'=', b',', b'[', b']', b'{', b'}', b' \t', b'#x', b'\n', b'\r\n', b'\r', b"''", b'""', b"''''''", b'""""""', b'a', BOM, b'']
+    errors = [b"'a", b"'\x01'", b"'''a", b"'''\r'''", b"'''\x01'''", b'"a', b'"\x01\x02"', b'"\\q"', b'"\\u1"', b'"\\ud800"', b'"""a',
+              b'"""\x01\r"""', b'"""\\ a"""', b'"\\e\\x41"', b'a\x01\xc3\xa9', b'"\\u\\u\\u"', b'"""\\\n \r\n\r"""', b'"plain" \'run\' """two\nlines"""']
+    mixed = [b'a = "b"\n', b'a = "\\q" # "\\q"\n', b"k = ['a', \"\\u\", '''x]\n", b''.join(kinds), b'\n'.join(errors)]
+    broken = [b'\xff', b'a\xff', b'"\\q"\xc3', BOM + b'\xe2\x82']
+    suite = [bytes.fromhex(case['hex']) for case in cases()]
+    docs = kinds + errors + mixed + broken
+    full = [call('tallyon', each, doc) for doc in docs for each in (1, MAX - 2, MAX - 1, MAX)]
+    pairs = [call('tally', a + b) for a in errors + kinds for b in errors]
+    large = [call('tally', doc) for doc in (b'.' * 65536, b'"' + b'\\' * 65535, b"'\x01" * 32768, b'a' * 65535 + b'\xff')]
+    large += [call('tallyon', MAX - each, b'.' * 65536) for each in (65535, 65536)]
+    short = [bytes(t) for n in range(4) for t in itertools.product(b'\'"\\\n\r au#.', repeat=n)]
+    return by_reference(*[call('tally', doc) for doc in docs + suite + short], *full, *pairs, *large)
 
 
 def every_byte():
@@ -423,6 +441,7 @@ def wrong_lines():
         b'', b' ', b'-', b'lexx -', b'Lex -', b'le', b'lex\t-', b'\x00', b'\xff\xfe', b' lex -', b'=> 4 0 0', b'span0 0 -',
         b'\x00lex -', b'lex\x00 -', b'xdeccap 39 0 0 -', b'deccapx 39 0 0 -', b'\x01lexcap 0 -', b'\x01\x6c\x65\x78 -',
         b'lex', b'lex ', b'lex - ', b'lex  -', b'lex - -', b'lexcap -', b'dec 39', b'dec 39 - -', b'deccap 39 1 -', b'step 0 -', b'stepline 0 0 -', b'stepline 0 0 1', b'stepline 0 2 1 -', b'lexline', b'lexlines -',
+        b'tally', b'tally 0 -', b'tally - -', b'tallyon -', b'tallyon 0', b'tallyon x -', b'tallyon 18446744073709551616 -', b'tallyo 0 -', b'tallyons 0 -',
         b'span 0 -', b'text 0 0', b'decin 11 -', b'decin 34 11', b'decinx 10 39 -', b'pos -', b'desc', b'desc 1 -', b'utf8 0 -', b'start 0 -',
         b'dec x -', b'dec  -', b'dec -1 -', b'dec +1 -', b'dec 0x1 -', b'dec 3\r -', b'dec 3. -', b'pos 18446744073709551616 -',
         b'pos 99999999999999999999 -', b'pos 100000000000000000000000000000000000000000 -', b'desc -', b'desc 1_0',
@@ -442,7 +461,7 @@ def wrong_lines():
 
 
 SECTIONS = [scope, valid_cases, left_out_cases, later_cases, invalid_utf8, invalid_strings, vectors, lent_records, lent_output, sizes, cursors, lines, spans,
-            positions, kinds, editions, faults, joined, values, reviewers, runs, broken_strings, every_byte, short_texts, wrong_lines]
+            positions, kinds, editions, faults, joined, values, reviewers, runs, broken_strings, tallied, every_byte, short_texts, wrong_lines]
 
 
 def main():
@@ -454,10 +473,11 @@ def main():
     print('%6d  lines' % len(lines))
     made = {CRATE / 'stdin': b'\n'.join(line for line, _ in lines),
             CRATE / 'stdout': b''.join(line + b' => ' + answer + b'\n' for line, answer in lines),
-            OUT_OF_SIGHT: out_of_sight()}
+            OUT_OF_SIGHT: out_of_sight(), **figures_runs.made()}
     if sys.argv[1:] == ['--check']:
         sys.exit(check(made))
     for path, data in made.items():
+        path.parent.mkdir(parents=True, exist_ok=True)
         path.write_bytes(data)
 
 

@@ -519,6 +519,37 @@ def broken(doc):
     return broken_in(10, doc)
 
 
+# ---- figures over documents
+
+FILE, LARGEST = 65536, 2 ** 64 - 1
+ORDER = (46, 61, 44, 91, 93, 123, 125, 32, 35, 10, 39, 34, 1, 2, 3, 4)
+
+
+def figures(doc):
+    """What becomes of a document, and the thirty-three numbers that it adds: tokens by kind, errors by number, refused with 1 and with 2."""
+    if len(doc) > FILE:
+        return (2, FILE), [0] * 32 + [1]
+    broken = check(doc)
+    if broken:
+        return broken, [0] * 31 + [1, 0]
+    lexed = tokens(doc)
+    kinds = [kind for kind, first, last in lexed]
+    errors = [error[0] for kind, first, last in lexed if kind in STRINGS for error in decode(kind, doc[first:last])[1]]
+    return (0, 0), [kinds.count(kind) for kind in ORDER] + [errors.count(number) for number in range(1, 16)] + [0, 0]
+
+
+def tallyon(each, doc):
+    answer, more = figures(doc)
+    totals = [each + n for n in more]
+    if max(totals) > LARGEST:
+        answer, totals = (13, LARGEST), [each] * 33
+    return ' | '.join(' '.join(map(str, part)) for part in (answer, totals[:16], totals[16:31], totals[31:]))
+
+
+def tally(doc):
+    return tallyon(0, doc)
+
+
 # For each name its function and the words after it: n a number, b a flag, r records lent, o output lent, w output lent for a text that is written, x bytes in hex.
 CALLS = {b'lex': (lex, 'x'), b'lexline': (lexline, 'x'), b'lexcap': (lexcap, 'rx'), b'dec': (dec, 'nx'), b'deccap': (deccap, 'norx'),
          b'decin': (decin, 'nnx'), b'utf8': (utf8, 'x'), b'fault': (fault, 'x'),
@@ -526,8 +557,8 @@ CALLS = {b'lex': (lex, 'x'), b'lexline': (lexline, 'x'), b'lexcap': (lexcap, 'rx
          b'desc': (desc, 'n'),
          b'write': (write, 'x'), b'writecap': (writecap, 'wx'),
          b'tick': (tick, 'nnrx'), b'untick': (untick, 'nnrx'), b'ticked': (ticked, 'nnrx'), b'ticks': (ticks, 'nrx'),
-         b'value': (value, 'nnx'), b'valuein': (valuein, 'nnnx'),
-         b'broken': (broken, 'x'), b'brokenin': (broken_in, 'nx')}
+         b'value': (value, 'nnx'), b'valuein': (valuein, 'nnnx'), b'broken': (broken, 'x'), b'brokenin': (broken_in, 'nx'),
+         b'tally': (tally, 'x'), b'tallyon': (tallyon, 'nx')}
 
 # The most that the program takes: bytes of a line, of a document, of output, of a text that is written; records.
 LINE, DOCUMENT, OUTPUT, WRITTEN, RECORDS = 131200, 65536, 98305, 393219, 65539

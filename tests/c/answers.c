@@ -6,6 +6,7 @@
 #define _POSIX_C_SOURCE 200809L
 #include "galoxumi.h"
 
+#include <inttypes.h>
 #include <stdio.h>
 #include <stdlib.h>
 #include <string.h>
@@ -263,6 +264,38 @@ static void broke(FILE *to, galoxumi_broken b)
 static void broken(struct call c) { broke(c.to, galoxumi_first_broken(c.doc, c.len)); }
 static void brokenin(struct call c) { broke(c.to, galoxumi_first_broken_in(c.doc, c.len, c.n[0])); }
 
+static void put_totals(FILE *to, const uint64_t *n, size_t count)
+{
+    for (size_t i = 0; i < count; i++)
+        fprintf(to, "%s%" PRIu64, i == 0 ? " | " : " ", n[i]);
+}
+
+/* The totals are all `each` at first. */
+static void tally_on(struct call c, uint64_t each)
+{
+    uint64_t all[33];
+    galoxumi_totals before;
+    for (size_t i = 0; i < 33; i++)
+        all[i] = each;
+    memcpy(&before, all, sizeof before);
+    galoxumi_tallied t = galoxumi_tally(c.doc, c.len, &before);
+    memcpy(all, &t.totals, sizeof all);
+    numbers(c.to, t.answer);
+    put_totals(c.to, all, 16);
+    put_totals(c.to, all + 16, 15);
+    put_totals(c.to, all + 31, 2);
+}
+
+static void tally(struct call c)
+{
+    tally_on(c, 0);
+}
+
+static void tallyon(struct call c)
+{
+    tally_on(c, c.n[0]);
+}
+
 /* Each call: its name, how many numbers it has, and whether bytes follow them. */
 static struct {
     const char *name;
@@ -274,8 +307,8 @@ static struct {
     {"start", 0, 1, start},   {"step", 2, 1, step},         {"stepline", 3, 1, stepline}, {"span", 2, 1, span},
     {"text", 2, 1, text},     {"pos", 1, 1, pos},           {"write", 0, 1, write_value}, {"writecap", 1, 1, writecap},
     {"desc", 1, 0, desc},     {"tick", 3, 1, tick},         {"untick", 3, 1, untick}, {"ticked", 3, 1, ticked},
-    {"ticks", 2, 1, ticks},   {"value", 2, 1, value},       {"valuein", 3, 1, valuein},
-    {"broken", 0, 1, broken}, {"brokenin", 1, 1, brokenin},
+    {"ticks", 2, 1, ticks},   {"value", 2, 1, value},       {"valuein", 3, 1, valuein}, {"broken", 0, 1, broken},
+    {"brokenin", 1, 1, brokenin}, {"tally", 0, 1, tally},   {"tallyon", 1, 1, tallyon},
 };
 enum { KNOWN = sizeof CALLS / sizeof *CALLS };
 

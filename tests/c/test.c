@@ -703,6 +703,68 @@ static void first_broken(void)
     EXPECT(breaks(galoxumi_first_broken_in(BYTES("\"\\e\""), 10), (galoxumi_token)T(34, 0, 4, 1), (galoxumi_error)R(8, 2, 2)));
 }
 
+/* The totals after `doc`, from totals that are all `each`, where the answer is as told. */
+static galoxumi_totals tallied(const uint8_t *doc, size_t len, uint64_t each, size_t refusal, size_t value)
+{
+    galoxumi_totals before;
+    uint64_t all[33];
+    for (size_t i = 0; i < 33; i++)
+        all[i] = each;
+    memcpy(&before, all, sizeof before);
+    galoxumi_tallied t = galoxumi_tally(doc, len, &before);
+    EXPECT(answers(t.answer, refusal, value));
+    EXPECT(memcmp(&before, all, sizeof before) == 0);
+    return t.totals;
+}
+
+/* The sum of all totals. */
+static uint64_t sum(galoxumi_totals t)
+{
+    uint64_t all[33], n = 0;
+    memcpy(all, &t, sizeof all);
+    for (size_t i = 0; i < 33; i++)
+        n += all[i];
+    return n;
+}
+
+static void figures(void)
+{
+    FROM("crates/built_figures/specs/Figures.antt: tokens of each kind, errors of each number, the refused: 33 numbers");
+    EXPECT(sizeof(galoxumi_totals) == 33 * sizeof(uint64_t));
+    galoxumi_totals t = tallied(BYTES("a = \"\\q\\q\"\n"), 0, 0, 0);
+    EXPECT(t.tokens[14] == 1 && t.tokens[7] == 2 && t.tokens[1] == 1 && t.tokens[11] == 1 && t.tokens[9] == 1 && t.tokens[15] == 1);
+    EXPECT(t.errors[GALOXUMI_MISSING_ESCAPE - 1] == 2 && sum(t) == 9);
+    t = tallied(BYTES("'''\x01"), 5, 0, 0);
+    EXPECT(t.tokens[12] == 6 && t.tokens[15] == 6 && t.errors[2] == 6 && t.errors[4] == 6 && sum(t) == 33 * 5 + 4);
+    FROM("the same: strings are read as TOML 1.0, and an atom is no string");
+    EXPECT(tallied(BYTES("\"\\e\""), 0, 0, 0).errors[7] == 1 && sum(tallied(BYTES("a\x01"), 0, 0, 0)) == 2);
+    t = tallied(NULL, 0, 0, 0, 0);
+    EXPECT(t.tokens[15] == 1 && sum(t) == 1);
+}
+
+static void figures_refused(void)
+{
+    static uint8_t dots[65537];
+    memset(dots, '.', sizeof dots);
+    FROM("docs/RULES.md, the refusals: 2 with 65,536, then 1, each counted by its number alone");
+    EXPECT(tallied(dots, 65536, 0, 0, 0).tokens[0] == 65536);
+    galoxumi_totals t = tallied(dots, 65537, 3, 2, GALOXUMI_MOST_TALLIED);
+    EXPECT(t.too_long == 4 && sum(t) == 33 * 3 + 1);
+    dots[0] = 0xFF;
+    EXPECT(tallied(dots, 65537, 0, 2, GALOXUMI_MOST_TALLIED).too_long == 1);
+    t = tallied(BYTES("ab\xFF"), 0, 1, 2);
+    EXPECT(t.not_utf8 == 1 && sum(t) == 1);
+    FROM("docs/RULES.md, the refusals: 13 where a total would pass 64 bits, also a count of refused documents; all as before");
+    EXPECT(tallied(BYTES("."), UINT64_MAX - 1, 0, 0).tokens[0] == UINT64_MAX);
+    EXPECT(tallied(BYTES(".."), UINT64_MAX - 1, 13, SIZE_MAX).tokens[15] == UINT64_MAX - 1);
+    EXPECT(tallied(BYTES(""), UINT64_MAX, 13, SIZE_MAX).tokens[0] == UINT64_MAX);
+    EXPECT(tallied(BYTES("\xFF"), UINT64_MAX, GALOXUMI_TOTAL_FULL, SIZE_MAX).not_utf8 == UINT64_MAX);
+    EXPECT(tallied(dots, 65537, UINT64_MAX, 13, SIZE_MAX).too_long == UINT64_MAX);
+    dots[0] = '.';
+    EXPECT(tallied(dots, 65536, UINT64_MAX - 65536, 0, 0).tokens[0] == UINT64_MAX);
+    EXPECT(tallied(dots, 65536, UINT64_MAX - 65535, 13, SIZE_MAX).tokens[0] == UINT64_MAX - 65535);
+}
+
 /* NULL stands for memory of no bytes, tokens, errors or marks, read or lent. */
 static void nulls(void)
 {
@@ -783,6 +845,8 @@ int main(void)
     RUN(values);
     RUN(values_refused);
     RUN(first_broken);
+    RUN(figures);
+    RUN(figures_refused);
     RUN(long_documents);
     printf("C: %d expectations held\n", held);
     printf("C: %d passed, %d failed\n", passed, failed);

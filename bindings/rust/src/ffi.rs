@@ -16,6 +16,12 @@ pub(crate) struct Answer {
 }
 
 #[repr(C)]
+pub(crate) struct Tallied {
+    pub answer: Answer,
+    pub totals: crate::Totals,
+}
+
+#[repr(C)]
 pub(crate) struct Cursor {
     pub place: usize,
     pub ended: usize,
@@ -161,6 +167,7 @@ mod archive {
             start: usize,
             end: usize,
         ) -> Answer;
+        pub fn galoxumi_tally(doc: *const u8, doc_len: usize, totals: *const crate::Totals) -> Tallied;
     }
 }
 
@@ -263,4 +270,8 @@ pub(crate) fn ticks(tokens: &[crate::Token], marks: &[u8], reviewer: usize) -> A
 
 pub(crate) fn is_value_in(tokens: &[crate::Token], edition: usize, start: usize, end: usize) -> Answer {
     unsafe { archive::galoxumi_is_value_in(records_of(tokens), tokens.len(), edition, start, end) }
+}
+
+pub(crate) fn tally(doc: &[u8], totals: &crate::Totals) -> Tallied {
+    unsafe { archive::galoxumi_tally(doc.as_ptr(), doc.len(), totals) }
 }

@@ -32,6 +32,7 @@ mod broken;
 mod decode;
 mod error;
 mod ffi;
+mod figures;
 mod lexing;
 mod place;
 mod refusal;
@@ -47,6 +48,7 @@ pub use broken::{first_broken, first_broken_in, Broken};
 pub use decode::{decode, decode_in, decode_key, Decoded};
 pub use decode::{decode_into, decode_key_into, Lent};
 pub use error::{ErrorRecord, Expected, ParseError, Words};
+pub use figures::{Totals, Untallied, MOST_TALLIED};
 #[cfg(feature = "alloc")]
 pub use lexing::lex;
 pub use lexing::{lex_into, Lexer};

@@ -447,4 +447,27 @@ fn the_first_broken_string_is_found() {
     assert_eq!(first_broken(b"' \n\xFF").map(|broken| broken.map(|b| b.token.span())), Ok(Some(Span::new(0, 2))));
     assert_eq!(first_broken(b"# \xE2\x82\n"), Err(check_utf8(b"# \xE2\x82\n").unwrap_err()));
     assert_eq!(first_broken(&vec![b'#'; LIMIT + 1]), Err(Refusal::TooLong));
+#[test]
+fn figures_over_documents() {
+    let docs: [&[u8]; 4] = [b"a = 'b'\n", b"\"\\q\\u\"", b"'''\x01", b""];
+    let mut totals = Totals::default();
+    let mut reversed = Totals::default();
+    for doc in docs {
+        assert_eq!(totals.add(doc), Ok(()));
+    }
+    for doc in docs.iter().rev() {
+        assert_eq!(reversed.add(doc), Ok(()));
+    }
+    assert_eq!(totals, reversed);
+    assert_eq!((totals.tokens(TokenKind::Eof), totals.tokens(TokenKind::Whitespace)), (4, 2));
+    assert_eq!((totals.errors(8), totals.errors(9), totals.errors(3), totals.errors(5)), (1, 1, 1, 1));
+    assert_eq!((totals.errors(0), totals.errors(15), totals.errors(16), totals.errors(usize::MAX)), (0, 0, 0, 0));
+    let counted = totals;
+    assert_eq!(totals.add(&[b'.'; MOST_TALLIED + 1]), Err(Untallied::TooLong));
+    assert_eq!(totals.add(b"ab\xFF"), Err(Untallied::NotUtf8 { valid: 2, error_len: NonZeroUsize::new(1) }));
+    assert_eq!((totals.too_long(), totals.not_utf8()), (1, 1));
+    assert_eq!(totals.tokens(TokenKind::Dot), counted.tokens(TokenKind::Dot));
+    assert_eq!(totals.add(&[b'.'; MOST_TALLIED]), Ok(()));
+    assert_eq!(totals.tokens(TokenKind::Dot), MOST_TALLIED as u64);
+    assert_eq!(Untallied::TooLong.to_string(), "refused 2: more than 65536 bytes");
 }

@@ -48,6 +48,8 @@ pub enum BuiltCall {
     ValueIn,
     Broken,
     BrokenIn,
+    Tally,
+    TallyOn,
 }
 
 pub enum Call {
@@ -108,6 +110,8 @@ fn built_line(key: usize) -> Line {
         0x76_61_6C_75_65_69_6E => built(BuiltCall::ValueIn, 3),
         0x62_72_6F_6B_65_6E => built(BuiltCall::Broken, 0),
         0x62_72_6F_6B_65_6E_69_6E => built(BuiltCall::BrokenIn, 1),
+        0x74_61_6C_6C_79 => built(BuiltCall::Tally, 0),
+        0x74_61_6C_6C_79_6F_6E => built(BuiltCall::TallyOn, 1),
         _ => plain(Call::Unknown, 0),
     }
 }

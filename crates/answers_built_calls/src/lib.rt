@@ -20,6 +20,8 @@ pub fn built_reply(
         BuiltCall::Write | BuiltCall::WriteCap => writing(call, numbers, doc, bytes),
         BuiltCall::Broken | BuiltCall::BrokenIn => breaking(call, numbers, doc),
         BuiltCall::Value | BuiltCall::ValueIn => values(call, numbers, doc, tokens),
+        BuiltCall::Tally => tally(0, doc, errors),
+        BuiltCall::TallyOn => tally(numbers[0], doc, errors),
         _ => review(call, numbers, doc, bytes, tokens),
     }
 }
@@ -130,4 +132,40 @@ fn broken(doc: &[u8]) -> Reply {
 // The number is that of an edition.
 fn broken_in(numbers: [usize; 3], doc: &[u8]) -> Reply {
     answers_built_forms::broken(built_broken::first_broken_in(doc, numbers[0]))
+}
+
+// Every total is `each` at first.
+fn tally(each: usize, doc: &[u8], errors: &mut [[usize; 3]]) -> Reply {
+    let done = built_figures::tally(doc, [each as u64; 33]);
+    let answer = done.answer;
+    let totals = done.totals;
+    lay_out(&totals, errors);
+    answers_built_forms::tallied(answer)
+}
+
+// The totals into the first eleven records, three in each.
+fn lay_out(totals: &[u64], records: &mut [[usize; 3]]) {
+    let mut i = 0;
+    while i < 11 {
+        lay_three(totals, records, i);
+        i += 1;
+    }
+}
+
+fn lay_three(totals: &[u64], records: &mut [[usize; 3]], i: usize) {
+    if 11 <= i {
+        return;
+    }
+    if records.len() <= i {
+        return;
+    }
+    let k = 3 * i;
+    if totals.len() <= k + 2 {
+        return;
+    }
+    records[i] = [whole(totals[k]), whole(totals[k + 1]), whole(totals[k + 2])];
+}
+
+fn whole(number: u64) -> usize {
+    number as usize
 }

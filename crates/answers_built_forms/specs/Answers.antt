@@ -9,6 +9,9 @@ use Rattle.lexer_token.specs.declared.Token.{Token}
 use Rattle.built_broken.specs.declared.FirstBroken.{FirstBroken}
 use Rattle.built_broken.specs.declared.FirstBroken.the-variants.{Broken, Sound, Refused as Unsearched}
 use Rattle.built_broken.specs.declared.FirstError.{FirstError}
+use Rattle.built_figures.specs.Figures.{most}
+use Rattle.built_figures.specs.declared.Adding.{Adding}
+use Rattle.built_figures.specs.declared.Adding.the-variants.{Added, TooLong, Refused as Unadded}
 use Rattle.built_review.specs.declared.Marking.{Marking}
 use Rattle.built_review.specs.declared.Marking.the-variants.{Done, Refused as Unmarked}
 use Rattle.built_review.specs.declared.TickRead.{TickRead}
@@ -62,3 +65,9 @@ abbrev pub brokenAs : FirstBroken → Reply
 brokenAs (Broken t e) = brokenAt t e
 brokenAs Sound = filledBy form.Sound 0 0
 brokenAs (Unsearched r) = refusedWhole r
+
+-- tally, tallyon: the answer's two numbers, before the totals
+abbrev pub tallyAs : Adding → Reply
+tallyAs Added = filledBy form.Tallied 0 0
+tallyAs TooLong = filledBy form.Tallied 2 most
+tallyAs (Unadded r) = refusedAs form.Tallied r

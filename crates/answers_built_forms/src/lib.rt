@@ -3,6 +3,7 @@
 ghost use mathlib.Core.Path.{_≡_};
 ghost use Rattle.answers_built_forms.specs.Answers.{wroteAs, wroteCountAs, markedAs, tickReadAs, tickCountAs, valueAs};
 ghost use Rattle.answers_built_forms.specs.Answers.{brokenAs, brokenAt};
+ghost use Rattle.answers_built_forms.specs.Answers.{tallyAs};
 use answers_forms::filled;
 use answers_forms::refused;
 use answers_forms::refused_whole;
@@ -11,6 +12,8 @@ use answers_spelling::Form;
 use answers_spelling::Reply;
 use built_broken::FirstBroken;
 use built_broken::FirstError;
+use built_figures::Adding;
+use built_figures::MOST;
 use built_review::Marking;
 use built_review::TickCount;
 use built_review::TickRead;
@@ -102,5 +105,16 @@ fn broken_at(token: Token, error: FirstError) -> Reply
             error.end,
             0,
         ],
+    }
+}
+
+// The two numbers of the answer; the totals afterwards follow them.
+pub fn tallied(adding: Adding) -> Reply
+    ensures { λ r. ⌜ r ≡ tallyAs adding ⌝ }
+{
+    match adding {
+        Adding::Added => filled(Form::Tallied, 0, 0),
+        Adding::TooLong => filled(Form::Tallied, 2, MOST),
+        Adding::Refused(why) => refused(Form::Tallied, why),
     }
 }

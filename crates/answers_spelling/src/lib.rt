@@ -22,6 +22,7 @@ pub enum Form {
     Marked,
     FirstBroken,
     Sound,
+    Tallied,
     // why a line is no call
     TooLong,
     UnknownCall,
@@ -41,7 +42,8 @@ pub struct Reply {
 
 // In the text of a form a `#` stands for the next number, a `$` for as many bytes in hex as that
 // number says, a `%` for as many errors, a `&` for as many tokens, and a `@` for as many tokens with
-// their lines. A `_` stands for nothing. Any other byte is written as it is.
+// their lines; a `^` stands for the totals of figures, which the errors hold. A `_` stands for nothing. Any other byte is
+// written as it is.
 type Text = [u8; 24];
 
 const TOKENS: Text = *b"&\n______________________";
@@ -79,6 +81,8 @@ const MARKED: Text = *b"# # | $\n________________";
 const FIRST_BROKEN: Text = *b"# # # # | # # #\n________";
 
 const SOUND: Text = *b"-\n______________________";
+
+const TALLIED: Text = *b"# # | ^\n________________";
 
 const TOO_LONG: Text = *b"? too long\n_____________";
 
@@ -128,6 +132,7 @@ fn text_of(form: Form) -> Text {
         Form::Marked => MARKED,
         Form::FirstBroken => FIRST_BROKEN,
         Form::Sound => SOUND,
+        Form::Tallied => TALLIED,
         Form::TooLong => TOO_LONG,
         Form::UnknownCall => UNKNOWN_CALL,
         Form::WordCount => WORD_COUNT,
@@ -199,6 +204,7 @@ fn put_field(
         b'%' => put_records(out, used, errors, number),
         b'&' => put_tokens(out, used, tokens, number, false),
         b'@' => put_tokens(out, used, tokens, number, true),
+        b'^' => put_totals(out, used, errors),
         _ => put_byte(out, used, b),
     }
 }
@@ -265,6 +271,32 @@ fn put_token(out: &mut [u8], used: usize, token: [usize; 4], lines: bool) -> usi
         return put_next(out, n, token[3]);
     }
     n
+}
+
+// The numbers of the first eleven records, three of each: 16, 15 and 2, with a bar between.
+fn put_totals(out: &mut [u8], used: usize, records: &[[usize; 3]]) -> usize {
+    let mut n = used;
+    let mut i = 0;
+    while i < records.len() && i < 11 {
+        let record = records[i];
+        n = put_total(out, n, 3 * i, record[0]);
+        n = put_total(out, n, 3 * i + 1, record[1]);
+        n = put_total(out, n, 3 * i + 2, record[2]);
+        i += 1;
+    }
+    n
+}
+
+// The total of index `place`, and what joins it to the one before it.
+fn put_total(out: &mut [u8], used: usize, place: usize, number: usize) -> usize {
+    match place {
+        0 => put_number(out, used, number),
+        16 | 31 => {
+            let n = put_all(out, used, b" |");
+            put_next(out, n, number)
+        }
+        _ => put_next(out, used, number),
+    }
 }
 
 // What joins the record of index `i` to the one before it.

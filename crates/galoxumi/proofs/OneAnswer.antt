@@ -78,3 +78,6 @@ galoxumi-first-broken κs a x y s t p q = p ∙ sym q
 
 pub galoxumi-first-broken-in : OneAnswer promised.galoxumi_first_broken_in.Reads.Learnt
 galoxumi-first-broken-in κs a x y s t p q = p ∙ sym q
+
+pub galoxumi-tally : OneAnswer promised.galoxumi_tally.Reads.Learnt
+galoxumi-tally κs a x y s t p q = p ∙ sym q

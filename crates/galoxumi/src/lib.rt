@@ -16,15 +16,18 @@ ghost use Rattle.decoder_words.specs.Words.{errorWords};
 ghost use Rattle.built_broken.specs.Broken.{brokenAnswer};
 ghost use Rattle.built_review.specs.Review.{markAnswer, tickedMarks, untickedMarks, readAnswer, countAnswer};
 ghost use Rattle.built_writing.specs.Writing.{writeAnswer};
+ghost use Rattle.built_figures.specs.Figures.{tallied};
 ghost use Rattle.library_numbers.specs.Numbers.{flag, checkNumbers, startNumbers, stepNumbers, lexNumbers, spanNumbers, partOf, partText};
 ghost use Rattle.library_numbers.specs.Numbers.{positionNumbers, decodeAnswer, outputAfter, errorsAfter};
 ghost use Rattle.library_numbers.specs.Numbers.{describedNumbers, encodedNumbers, wordsNumbers};
 ghost use Rattle.library_built.specs.Numbers.{writeNumbers, writtenBytes, markNumbers, readNumbers, countNumbers, ValueTold};
-ghost use Rattle.library_built.specs.Numbers.{brokenNumbers};
+ghost use Rattle.library_built.specs.Numbers.{brokenNumbers, tallyNumbers};
+use built_figures::Totals;
 use lexer::Cursor;
 use lexer_token::Span;
 use lexer_token::TokenKind;
 use library_built::BrokenNumbers;
+use library_built::TallyNumbers;
 use library_numbers::AnswerNumbers;
 use library_numbers::DecodeNumbers;
 use library_numbers::DescribedNumbers;
@@ -252,4 +255,12 @@ pub extern "C" fn galoxumi_first_broken_in(doc: &[u8], edition: usize) -> Broken
     ensures { λ r. ⌜ r ≡ brokenNumbers (brokenAnswer (now (doc .entry)) edition) ⌝ }
 {
     library_built::broken(built_broken::first_broken_in(doc, edition))
+}
+
+// The totals handed in are read, and those afterwards are handed back.
+#[no_mangle]
+pub extern "C" fn galoxumi_tally(doc: &[u8], totals: &Totals) -> TallyNumbers
+    ensures { λ r. ⌜ r ≡ tallyNumbers (tallied (now (doc .entry)) (now (totals .entry))) ⌝ }
+{
+    library_built::tallied(built_figures::tally(doc, *totals))
 }

@@ -22,3 +22,6 @@ value-checked κs a x y s t p q = p ∙ sym q
 
 pub broken : OneAnswer promised.broken.Reads.Learnt
 broken κs a x y s t p q = p ∙ sym q
+
+pub tallied : OneAnswer promised.tallied.Reads.Learnt
+tallied κs a x y s t p q = p ∙ sym q

@@ -3,6 +3,9 @@
 use Prim.Native.Nat.{_+_}
 use mathlib.Core.Path.{_≡_, refl}
 use native.Mathlib.Omega.{arith}
+use Rattle.built_figures.specs.Told.{tallyNumber, tallyValue, tallyLength}
+use Rattle.built_figures.specs.declared.Adding.{Adding}
+use Rattle.built_figures.specs.declared.Adding.the-variants.{Added, TooLong, Refused as Unadded}
 use Rattle.built_review.specs.Told.{markNumber, markValue, readNumber, readValue, countNumber, countValue}
 use Rattle.built_review.specs.declared.Marking.{Marking}
 use Rattle.built_review.specs.declared.Marking.the-variants.{Done, Refused as Unmarked}
@@ -20,6 +23,7 @@ use Rattle.built_writing.specs.Told.{wroteNumber, wroteValue, wroteLength}
 use Rattle.built_writing.specs.declared.Wrote.{Wrote}
 use Rattle.built_writing.specs.declared.Wrote.the-variants.{Text, Refused as Unwritten}
 use Rattle.library_built.specs.Numbers.{writeNumbers, markNumbers, readNumbers, countNumbers, valueNumbers, brokenNumbers}
+use Rattle.library_built.specs.Numbers.{addingNumbers}
 
 pub write-told : (r : Wrote) → writeNumbers r ≡ record { refusal = wroteNumber r; value = wroteValue r; length = wroteLength r }
 unfolding writeNumbers
@@ -55,3 +59,9 @@ unfolding brokenNumbers
 broken-told (Broken t e) = refl
 broken-told Sound = refl
 broken-told (Unsearched r) = refl
+
+pub adding-told : (a : Adding) → addingNumbers a ≡ record { refusal = tallyNumber a; value = tallyValue a; length = tallyLength a }
+unfolding addingNumbers
+adding-told Added = refl
+adding-told TooLong = refl
+adding-told (Unadded r) = refl

@@ -9,8 +9,11 @@ use Rattle.library_numbers.specs.declared.{AnswerNumbers.AnswerNumbers}
 use Rattle.library_built.specs.declared.{BrokenNumbers.BrokenNumbers}
 use Rattle.lexer_token.specs.{KindNumbers.kindNumber}
 use Rattle.built_broken.specs.declared.{FirstBroken.FirstBroken, FirstBroken.the-variants.Broken, FirstBroken.the-variants.Sound, FirstBroken.the-variants.Refused as Unsearched}
+use Rattle.library_built.specs.declared.{TallyNumbers.TallyNumbers}
 use Rattle.built_writing.specs.{Writing.written, Writing.writeAnswer, Writing.writtenAfter}
 use Rattle.built_writing.specs.declared.{Wrote.Wrote, Wrote.the-variants.Text, Wrote.the-variants.Refused as Unwritten}
+use Rattle.built_figures.specs.{Figures.most}
+use Rattle.built_figures.specs.declared.{Adding.Adding, Adding.the-variants.Added, Adding.the-variants.TooLong, Adding.the-variants.Refused as Unadded, Tallied.Tallied}
 use Rattle.built_review.specs.declared.{Marking.Marking, Marking.the-variants.Done, Marking.the-variants.Refused as Unmarked, TickRead.TickRead, TickRead.the-variants.Ticked, TickRead.the-variants.Unticked, TickRead.the-variants.Refused as Unread, TickCount.TickCount, TickCount.the-variants.Ticks, TickCount.the-variants.Refused as Uncounted}
 use Rattle.built_values.specs.Answers.{ValueAnswer}
 use Rattle.built_values.specs.declared.{ValueCheck.ValueCheck, ValueCheck.the-variants.Value, ValueCheck.the-variants.NoValue, ValueCheck.the-variants.Refused as Unjudged}
@@ -68,3 +71,12 @@ brokenNumbers (Broken t e) =
     }
 brokenNumbers Sound = unbrokenBy (answerOf 0)
 brokenNumbers (Unsearched r) = unbrokenBy (refusedBy r)
+
+-- figures: refusal 2 returns the most bytes that are taken there, and not the limit; the totals afterwards
+unfoldable pub addingNumbers : Adding → AnswerNumbers
+addingNumbers Added = answerOf 0
+addingNumbers TooLong = record { refusal = 2; value = most; length = 0 }
+addingNumbers (Unadded r) = refusedBy r
+
+abbrev pub tallyNumbers : Tallied → TallyNumbers
+tallyNumbers t = record { answer = addingNumbers (t .answer); totals = t .totals }

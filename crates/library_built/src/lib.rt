@@ -2,8 +2,12 @@
 // Definitions: specs/Numbers.antt.
 ghost use mathlib.Core.Path.{_≡_};
 ghost use Rattle.library_built.specs.Numbers.{writeNumbers, markNumbers, readNumbers, countNumbers, valueNumbers};
-ghost use Rattle.library_built.specs.Numbers.{brokenNumbers, unbrokenBy};
+ghost use Rattle.library_built.specs.Numbers.{brokenNumbers, unbrokenBy, addingNumbers, tallyNumbers};
 use built_broken::FirstBroken;
+use built_figures::Adding;
+use built_figures::MOST;
+use built_figures::Tallied;
+use built_figures::Totals;
 use built_review::Marking;
 use built_review::TickCount;
 use built_review::TickRead;
@@ -13,6 +17,13 @@ use library_numbers::AnswerNumbers;
 use library_numbers::TokenNumbers;
 use library_numbers::answer_of;
 use library_numbers::refused;
+
+// `answer.value` is 0 where the document was added; the totals afterwards.
+#[repr(C)]
+pub struct TallyNumbers {
+    pub answer: AnswerNumbers,
+    pub totals: Totals,
+}
 
 pub fn wrote(wrote: Wrote) -> AnswerNumbers
     ensures { λ r. ⌜ r ≡ writeNumbers wrote ⌝ }
@@ -124,5 +135,30 @@ fn unbroken(answer: AnswerNumbers) -> BrokenNumbers
             start: 0,
             end: 0,
         },
+    }
+}
+
+pub fn tallied(tallied: Tallied) -> TallyNumbers
+    ensures { λ r. ⌜ r ≡ tallyNumbers tallied ⌝ }
+{
+    let answer = tallied.answer;
+    let totals = tallied.totals;
+    TallyNumbers {
+        answer: adding(answer),
+        totals,
+    }
+}
+
+fn adding(adding: Adding) -> AnswerNumbers
+    ensures { λ r. ⌜ r ≡ addingNumbers adding ⌝ }
+{
+    match adding {
+        Adding::Added => answer_of(0),
+        Adding::TooLong => AnswerNumbers {
+            refusal: 2,
+            value: MOST,
+            length: 0,
+        },
+        Adding::Refused(r) => refused(r),
     }
 }
