@@ -37,11 +37,13 @@ extern "C" {
 #define GALOXUMI_DEPTH 64
 
 /* How much to lend, by the bytes of what is read, so that no call finds it too little, and none counts first: tokens to
- * galoxumi_lex; output and errors to a decode; output to galoxumi_write_value. */
+ * galoxumi_lex; output and errors to a decode; output to galoxumi_write_value; output and records to galoxumi_put_right. */
 #define GALOXUMI_MOST_TOKENS(doc_len) ((doc_len) + 1)
 #define GALOXUMI_MOST_BYTES(text_len) ((text_len) + (text_len) / 2)
 #define GALOXUMI_MOST_ERRORS(text_len) ((text_len) + 2)
 #define GALOXUMI_MOST_WRITTEN(value_len) (6 * (value_len) + 2)
+#define GALOXUMI_MOST_MENDED(doc_len) (6 * (doc_len))
+#define GALOXUMI_MOST_REPLACED(doc_len) (doc_len)
 
 /* Why a call did not answer. Beside each: when it is given, and the value returned with it. */
 enum galoxumi_refusal {
@@ -49,6 +51,7 @@ enum galoxumi_refusal {
     GALOXUMI_NOT_UTF8 = 1,     /* the bytes are not UTF-8; the length of the longest valid prefix */
     /* More than GALOXUMI_LIMIT bytes; GALOXUMI_LIMIT. In galoxumi_tally: more than GALOXUMI_MOST_TALLIED; that number. */
     GALOXUMI_TOO_LONG = 2,
+    GALOXUMI_TOO_LONG = 2,     /* more than GALOXUMI_LIMIT bytes, read or (galoxumi_put_right) to be written; GALOXUMI_LIMIT */
     GALOXUMI_FEW_TOKENS = 3,   /* fewer tokens are lent than there are, Eof counted; the tokens needed */
     GALOXUMI_SHORT_OUTPUT = 4, /* the output is shorter than what is to be written; the bytes needed */
     GALOXUMI_FEW_ERRORS = 5,   /* fewer errors are lent than there are; the errors needed */
@@ -231,6 +234,34 @@ galoxumi_broken galoxumi_first_broken(const uint8_t *doc, size_t doc_len);
 
 /* The same in the edition of TOML that a number names (enum galoxumi_edition). Refusals 2, 9, then 1 as above. */
 galoxumi_broken galoxumi_first_broken_in(const uint8_t *doc, size_t doc_len, size_t edition);
+/* An error of a string that was put right: where the old token stands in the document, and the error as a decode has it. */
+typedef struct {
+    size_t token_start;
+    size_t token_end;
+    galoxumi_error error;
+} galoxumi_replaced;
+
+/* The document, into output from its front, with each string token that reports an error replaced by a basic string of the
+ * bytes that it decodes to: quotation marks and backslashes after a backslash, 00 to 1F and 7F as \u and four digits in capitals,
+ * all else as it is; a space goes first where the output's last byte before it is a quotation mark. For each error a record into
+ * the lent ones from the front. The rest keeps its contents. value is the count of bytes, records the count of records.
+ * The result is UTF-8 and lexed token by token as the document is, each space put in a token more; none of its strings has an
+ * error, each replacement decodes to the bytes that the old token gave, and put right again it stays as it is.
+ * Refusals 2, 1, then 2 again where the result would have more than GALOXUMI_LIMIT bytes, 4, 5. Where six times as many bytes are
+ * lent as the document has, and as many records, and that many bytes do not pass the limit, nothing is counted first, which
+ * saves a pass. */
+typedef struct {
+    galoxumi_answer answer;
+    size_t records;
+} galoxumi_mended;
+
+galoxumi_mended galoxumi_put_right(const uint8_t *doc, size_t doc_len, uint8_t *output, size_t output_len, galoxumi_replaced *records,
+                                   size_t records_len);
+
+/* The same in the edition of TOML that a number names (enum galoxumi_edition); galoxumi_put_right reads 10. Refusals 2, 1, 9, 2,
+ * 4, 5. */
+galoxumi_mended galoxumi_put_right_in(const uint8_t *doc, size_t doc_len, size_t edition, uint8_t *output, size_t output_len,
+                                      galoxumi_replaced *records, size_t records_len);
 
 /* The words for a kind: their length, and the words with zeros after them; all zero where refused. Refusal 7. */
 typedef struct {

@@ -291,6 +291,54 @@ def values():
     return lines + by_reference(*lent, *large)
 
 
+# a broken string of each kind and with each error, closed and not; seams: a replacement after a closing mark, before one, at a
+# line's end and at the document's; broken strings that decode to nothing; documents without one
+BROKEN = [b'', BOM, b'a = 1\n', b'a = "b"\n', BOM + b'"a', b'"', b"'", b'"\n', b"'\r\n", b'"a\n"b"', b"'a\n'b'", b'"a\\', b'"a\\"', b'"a\\"\n"',
+          b'"\\q"', b'"\\q""b"', b'"\\q""\\q"', b'"a""\\q"', b'"a"\'\x01\'', b'""\'\x01\'', b'""\'\x01\'""', b'\'\x01\'"a"', b"'\x01''\x02'",
+          b"'a''\x01'", b'"\x01""""a"""', b'"\x01""""\\q"""', b"'\x01''''a'''", b'"""a""', b"'''a''", b"'''a''''''\x01", b'"""\\ """', b'"""\\ """"',
+          b'"""\\ """""', b'"""\\ """"""', b'"""\\ """""""', b'"""\\ """""" "', b'"""\\\r"""', b'"""\\\r""""', b'"""\\ """\'a\'', b'"""\\ """"a"',
+          b'"""\x01"""""""a"', b'"""\n\\ """', b'"""a\rb"""', b"'''a\rb'''", b'\'\'\'\x01\'\'\'\'\'"a"', b'"\t\x01\x1f\x7f"', b'"\t\x1f\x7f\\u00e9\\q"',
+          '"\u00e9\\ud800\U0001f600"'.encode(), b'"\\u12" = \'\x00\' # "x', b'[a."b\\q".\'c\x01\']\n', b'k = ["\\q", "\\q"\n, """\\q""", \'\x01\'\'\x02\']',
+          b'a"b\\q" "c', b'# "\\q\n"\\q', b'"\\e\\x41\\x"', b'"""\\e\\xg"""', b'\xff"a', b'"a\xed\xa0\x80']
+
+
+def sound(doc, edition):
+    """The line of a document put right, once its result is what it must be: lexed token by token, without an error, and left
+    as it is when put right again."""
+    if not reference.mend_refusal(edition, doc):
+        out, _ = reference.mended(doc, edition)
+        seen, before = [(kind, out[first:last]) for kind, first, last in reference.tokens(out)], b''
+        for kind, first, last in reference.tokens(doc):
+            text = doc[first:last]
+            value, errors = reference.decode(kind, text, edition) if kind in reference.STRINGS else (b'', [])
+            if errors:
+                kind, text = 34, reference.basic_string(value)
+                right = reference.decode(34, text, edition) == (value, []) and (not before.endswith(b'"') or seen.pop(0) == (32, b' '))
+            if errors and not right or seen.pop(0) != (kind, text):
+                sys.exit('%s is put right to other tokens' % doc.hex())
+            before = text or before
+        if seen or reference.mended(out, edition) != (out, []):
+            sys.exit('%s is put right to what does not stay so' % doc.hex())
+    return call('mendin', edition, doc)
+
+
+def mended_documents():
+    """Documents put right, each held to what its result must be; lent sizes; refusals in their order."""
+    short = [bytes(t) for n in range(6) for t in itertools.product(b'"\\\'\n', repeat=n)]
+    blanks = [b'"""' + bytes(t) + tail for n in range(4) for t in itertools.product(b'\\ \r"', repeat=n) for tail in (b'"""', b'"""""', b'""""""')]
+    inside = [mark + bytes([b]) + mark for b in range(256) for mark in (b'"', b"'", b'"""', b"'''")]
+    lines = [call('mend', doc) for doc in BROKEN + inside] + [sound(doc, 10) for doc in BROKEN + short + blanks]
+    lines += [sound(doc, edition) for doc in BROKEN for edition in (11, 12, 0, MAX)]
+    for doc in BROKEN:
+        out, listed = reference.mended(doc, 10) if not reference.check(doc) else (b'', [])
+        lines += [call('mendcap', room, rows, doc) for room in around(len(out)) for rows in around(len(listed))]
+    for doc in (b'"' + b'\x00' * 65535, b"'" + b'\x01' * 65535):
+        out, listed = reference.mended(doc, 10)
+        lines += [call('mendcap', len(out), len(listed), doc), call('mendcap', len(out) - 1, len(listed), doc),
+                  call('mendcap', 393219, len(listed) - 1, doc)]
+    return by_reference(*lines)
+
+
 def reviewers():
     """Marks of two reviewers: every bit of an entry, each place, and the refusals in their order."""
     every = [call(name, reviewer, 0, 1, bytes([mark])) for mark in range(256) for reviewer in (0, 1) for name in ('tick', 'untick', 'ticked')]
@@ -451,6 +499,8 @@ def wrong_lines():
         b'step 0 2 -', b'step 0 18446744073709551615 -', b'step 9 2 6', b'step 00 01 -',
         b'lexcap 65539 -', b'lexcap 65540 -', b'lexcap 18446744073709551615 -', b'lexcap 65540 6',
         b'write', b'write - -', b'write 0 -', b'writes -', b'writecap -', b'writecap x -', b'writecap 393220 zz', b'writecap 393220 -',
+        b'mend', b'mend - -', b'mend 6', b'mends -', b'mendin -', b'mendin 10', b'mendin x -', b'mendcap 0 -', b'mendcap 0 0',
+        b'mendcap 393220 0 -', b'mendcap 393219 65539 -', b'mendcap 0 65540 -', b'mendcap x 0 -',
         b'tick 0 0 -', b'tick 0 0 1', b'tick x 0 0 -', b'ticking 0 0 0 -', b'tick 0 0 65539 -', b'tick 0 0 65540 -', b'untick 0 0 65540 -',
         b'ticked 0 0 65540 -', b'ticked 0 0 0 6', b'ticks 0 -', b'ticks 0 65540 -', b'ticks 18446744073709551616 0 -',
         b'broken', b'broken 10 -', b'broken 6', b'brokens -', b'brokenin -', b'brokenin x -', b'brokenin 10 6', b'brokenin 10 - -',
@@ -461,7 +511,8 @@ def wrong_lines():
 
 
 SECTIONS = [scope, valid_cases, left_out_cases, later_cases, invalid_utf8, invalid_strings, vectors, lent_records, lent_output, sizes, cursors, lines, spans,
-            positions, kinds, editions, faults, joined, values, reviewers, runs, broken_strings, tallied, every_byte, short_texts, wrong_lines]
+            positions, kinds, editions, faults, joined, values, reviewers, runs, broken_strings, tallied, mended_documents, every_byte, short_texts,
+            wrong_lines]
 
 
 def main():

@@ -413,6 +413,56 @@ def writecap(room, value):
     return '%d %d' % refusal
 
 
+# ---- putting broken strings right
+
+def basic_string(value):
+    """A basic string of the bytes, by whole replacements: backslashes first, then marks, then each control byte."""
+    text = value.replace(b'\\', b'\\\\').replace(b'"', b'\\"')
+    for b in (*range(0x20), 0x7F):
+        text = text.replace(bytes([b]), b'\\u%04X' % b)
+    return b'"' + text + b'"'
+
+
+def mended(doc, edition):
+    """The document with its broken strings replaced, and the span and the error for each error."""
+    out, listed = BOM if doc.startswith(BOM) else b'', []
+    for kind, first, last in tokens(doc):
+        value, errors = decode(kind, doc[first:last], edition) if kind in STRINGS else (b'', [])
+        if errors:
+            out += (b' ' if out.endswith(b'"') else b'') + basic_string(value)
+        else:
+            out += doc[first:last]
+        listed += [(first, last, *error) for error in errors]
+    return out, listed
+
+
+def mend_refusal(edition, doc):
+    refusal = check(doc) or (None if edition in (10, 11) else (9, edition))
+    return refusal or ((2, LIMIT) if len(mended(doc, edition)[0]) > LIMIT else None)
+
+
+def mendin(edition, doc):
+    refusal = mend_refusal(edition, doc)
+    if refusal:
+        return refused(refusal, doc)
+    out, listed = mended(doc, edition)
+    return hexed(out) + ' | ' + records(listed)
+
+
+def mend(doc):
+    return mendin(10, doc)
+
+
+def mendcap(room, rows, doc):
+    refusal = mend_refusal(10, doc)
+    if refusal:
+        return '%d %d 0' % refusal
+    out, listed = mended(doc, 10)
+    if room < len(out):
+        return '4 %d 0' % len(out)
+    return '5 %d 0' % len(listed) if rows < len(listed) else '0 %d %d' % (len(out), len(listed))
+
+
 # ---- two reviewers on one table of marks
 
 def mark_refusal(reviewer, token, lent, marks):
@@ -558,7 +608,7 @@ CALLS = {b'lex': (lex, 'x'), b'lexline': (lexline, 'x'), b'lexcap': (lexcap, 'rx
          b'write': (write, 'x'), b'writecap': (writecap, 'wx'),
          b'tick': (tick, 'nnrx'), b'untick': (untick, 'nnrx'), b'ticked': (ticked, 'nnrx'), b'ticks': (ticks, 'nrx'),
          b'value': (value, 'nnx'), b'valuein': (valuein, 'nnnx'), b'broken': (broken, 'x'), b'brokenin': (broken_in, 'nx'),
-         b'tally': (tally, 'x'), b'tallyon': (tallyon, 'nx')}
+         b'tally': (tally, 'x'), b'tallyon': (tallyon, 'nx'), b'mend': (mend, 'x'), b'mendin': (mendin, 'nx'), b'mendcap': (mendcap, 'wrx')}
 
 # The most that the program takes: bytes of a line, of a document, of output, of a text that is written; records.
 LINE, DOCUMENT, OUTPUT, WRITTEN, RECORDS = 131200, 65536, 98305, 393219, 65539

@@ -183,6 +183,37 @@ static void writecap(struct call c)
     free(out);
 }
 
+static void mend_in(struct call c, size_t edition)
+{
+    size_t most = GALOXUMI_MOST_MENDED(c.len);
+    uint8_t *out = lent(most, 1);
+    galoxumi_replaced *r = lent(GALOXUMI_MOST_REPLACED(c.len), sizeof *r);
+    galoxumi_mended m = galoxumi_put_right_in(c.doc, c.len, edition, out, most, r, GALOXUMI_MOST_REPLACED(c.len));
+    if (!refused(c.to, m.answer)) {
+        put_hex(c.to, out, m.answer.value);
+        fputs(m.records == 0 ? " | -" : " | ", c.to);
+        for (size_t i = 0; i < m.records; i++)
+            fprintf(c.to, "%s%zu %zu %zu %zu %zu", i == 0 ? "" : "; ", r[i].token_start, r[i].token_end, r[i].error.number,
+                    r[i].error.start, r[i].error.end);
+    }
+    free(out);
+    free(r);
+}
+
+static void mend(struct call c) { mend_in(c, GALOXUMI_TOML_10); }
+static void mendin(struct call c) { mend_in(c, c.n[0]); }
+
+static void mendcap(struct call c)
+{
+    uint8_t *out = lent(c.n[0], 1);
+    galoxumi_replaced *r = lent(c.n[1], sizeof *r);
+    galoxumi_mended m = galoxumi_put_right(c.doc, c.len, out, c.n[0], r, c.n[1]);
+    numbers(c.to, m.answer);
+    fprintf(c.to, " %zu", m.records);
+    free(out);
+    free(r);
+}
+
 static void desc(struct call c)
 {
     galoxumi_described d = galoxumi_description(c.n[0]);
@@ -308,7 +339,8 @@ static struct {
     {"text", 2, 1, text},     {"pos", 1, 1, pos},           {"write", 0, 1, write_value}, {"writecap", 1, 1, writecap},
     {"desc", 1, 0, desc},     {"tick", 3, 1, tick},         {"untick", 3, 1, untick}, {"ticked", 3, 1, ticked},
     {"ticks", 2, 1, ticks},   {"value", 2, 1, value},       {"valuein", 3, 1, valuein}, {"broken", 0, 1, broken},
-    {"brokenin", 1, 1, brokenin}, {"tally", 0, 1, tally},   {"tallyon", 1, 1, tallyon},
+    {"brokenin", 1, 1, brokenin}, {"tally", 0, 1, tally},   {"tallyon", 1, 1, tallyon}, {"mend", 0, 1, mend},
+    {"mendin", 1, 1, mendin}, {"mendcap", 2, 1, mendcap},
 };
 enum { KNOWN = sizeof CALLS / sizeof *CALLS };
 

@@ -413,6 +413,7 @@ static void past_the_limit(struct memory m, size_t len)
     EXPECT(answers(d.answer, 2, LIMIT) && d.errors == 0);
     EXPECT(answers(galoxumi_write_value(m.doc, len, m.out, 0), 2, LIMIT));
     EXPECT(answers(galoxumi_write_value(m.doc, len, m.out, LIMIT), 2, LIMIT));
+    EXPECT(answers(galoxumi_put_right_in(m.doc, len, 12, m.out, LIMIT, NULL, 0).answer, 2, LIMIT));
     d = galoxumi_decode_in(m.doc, len, 12, 34, m.out, LIMIT, m.errors, LIMIT);
     EXPECT(answers(d.answer, 2, LIMIT) && d.errors == 0);
     EXPECT(breaks_nowhere(galoxumi_first_broken_in(m.doc, len, 12), 2, LIMIT, 0));
@@ -548,6 +549,94 @@ static void longest_text(void)
     EXPECT(answers(galoxumi_write_value(value, len, out, n), 0, 100663298));
     EXPECT(out[0] == '"' && memcmp(out + n - 7, "\\u0001\"", 7) == 0);
     free(value);
+    free(out);
+}
+
+/* ---- putting broken strings right */
+
+static int is_replaced(galoxumi_replaced b, size_t start, size_t end, size_t number, size_t from, size_t to)
+{
+    return b.token_start == start && b.token_end == end && is_error(b.error, number, from, to);
+}
+
+/* Put right with a byte and a record to spare: the text, and what is after it kept. With as many as there are: the same. With one
+ * byte or one record fewer: refusals 4 and 5, and nothing written. Put right again: the same text, and nothing listed. */
+static int mends(const uint8_t *doc, size_t len, const uint8_t *text, size_t n, size_t count)
+{
+    uint8_t out[64], old[64], again[64];
+    galoxumi_replaced records[8];
+    memset(old, 0xA5, sizeof old);
+    for (size_t spare = 0; spare <= 1; spare++) {
+        memcpy(out, old, sizeof old);
+        records[count].token_start = 77;
+        galoxumi_mended m = galoxumi_put_right(doc, len, out, n + spare, records, count + spare);
+        if (!answers(m.answer, 0, n) || m.records != count || memcmp(out, text, n) != 0 || out[n] != 0xA5 || records[count].token_start != 77) {
+            return 0;
+        }
+    }
+    galoxumi_mended m = galoxumi_put_right_in(out, n, 10, again, sizeof again, records, 0);
+    if (!answers(m.answer, 0, n) || m.records != 0 || memcmp(again, text, n) != 0) {
+        return 0;
+    }
+    memcpy(out, old, sizeof old);
+    if (count > 0 && !answers(galoxumi_put_right(doc, len, out, n, records, count - 1).answer, 5, count)) {
+        return 0;
+    }
+    return (n == 0 || answers(galoxumi_put_right(doc, len, out, n - 1, records, 0).answer, 4, n)) && memcmp(out, old, sizeof old) == 0;
+}
+
+#define MENDS(doc, text, count) EXPECT(mends(BYTES(doc), BYTES(text), count) && #doc)
+
+static void mending(void)
+{
+    uint8_t out[64] = {0xA5};
+    galoxumi_replaced r[8];
+    FROM("docs/TRACE.md, i2: quotation marks and backslashes after a backslash, 00 to 1F and 7F by their codes, all else as it is");
+    MENDS("a = 'b' # \"", "a = 'b' # \"", 0);
+    MENDS("\"C:\\dir\"\n", "\"C:\\\\dir\"\n", 1);
+    MENDS("'\t\"\\\x01\x1F\x7F\xC3\xA9'", "\"\\u0009\\\"\\\\\\u0001\\u001F\\u007F\xC3\xA9\"", 3);
+    FROM("docs/TRACE.md, i3: a space where the output's last byte is a quotation mark");
+    MENDS("\"a\"'\x01'", "\"a\" \"\\u0001\"", 1);
+    MENDS("\"\\q\"\"\\q\"", "\"\\\\q\" \"\\\\q\"", 2);
+    MENDS("'a''\x01'", "'a'\"\\u0001\"", 1);
+    FROM("docs/TRACE.md, i4: no seam joins tokens: strings that are not closed, and an empty replacement");
+    MENDS("\"a\n\"b\"", "\"a\"\n\"b\"", 1);
+    MENDS("'", "\"\"", 1);
+    MENDS("\"\"\"\\ \"\"\"'a'", "\"\"'a'", 1);
+    MENDS("\"\"\"\\ \"\"\"\"\"\"a\"", "\"\\\"\\\"\"\"a\"", 1);
+    FROM("docs/TRACE.md, i7: the old token's span, and the error as a decode has it");
+    galoxumi_mended m = galoxumi_put_right(BYTES("a='b\n\"\x01\x02\""), out, 64, r, 8);
+    EXPECT(m.records == 2 && is_replaced(r[0], 2, 4, 1, 2, 2) && is_replaced(r[1], 5, 9, 7, 1, 3));
+    FROM("docs/TRACE.md, i8: editions, and the refusals in their order");
+    EXPECT(galoxumi_put_right_in(BYTES("\"\\e\""), 11, out, 64, r, 8).records == 0);
+    EXPECT(galoxumi_put_right_in(BYTES("\"\\e\""), 10, out, 64, r, 8).records == 1);
+    out[0] = 0xA5;
+    m = galoxumi_put_right_in(BYTES("a\xE2\x82" "b"), 12, out, 0, r, 0);
+    EXPECT(answers(m.answer, 1, 1) && m.answer.length == 2 && m.records == 0);
+    EXPECT(answers(galoxumi_put_right_in(BYTES("'"), 12, out, 0, r, 0).answer, 9, 12));
+    EXPECT(answers(galoxumi_put_right_in(BYTES("'"), 11, out, 0, r, 0).answer, 4, 2));
+    EXPECT(answers(galoxumi_put_right_in(BYTES("'"), 11, out, 2, r, 0).answer, 5, 1));
+    EXPECT(out[0] == 0xA5);
+}
+
+/* A string that is not closed becomes a byte longer: up to the limit it is taken, and not beyond. */
+static void longest_mended(void)
+{
+    size_t len = LIMIT;
+    uint8_t *doc = malloc(len), *out = malloc(len);
+    galoxumi_replaced r[1];
+    if (!doc || !out) {
+        printf("FAILED: no memory for the longest document put right: it needs 32 MB\n");
+        broke++;
+        return;
+    }
+    memset(doc, '.', len);
+    doc[0] = '"';
+    FROM("docs/TRACE.md, i8: 2 again where the result would pass the limit, with 16,777,216, before 4 and 5");
+    EXPECT(answers(galoxumi_put_right(doc, len, out, 0, r, 0).answer, 2, 16777216));
+    EXPECT(answers(galoxumi_put_right(doc, len - 1, out, len - 1, r, 0).answer, 4, 16777216));
+    EXPECT(answers(galoxumi_put_right(doc, len - 1, out, len, r, 1).answer, 0, 16777216) && out[len - 1] == '"' && out[len - 2] == '.');
+    free(doc);
     free(out);
 }
 
@@ -782,6 +871,7 @@ static void nulls(void)
     EXPECT(answers(galoxumi_decode(BYTES("'a'"), 39, NULL, 0, NULL, 0).answer, 4, 1));
     EXPECT(answers(galoxumi_write_value(NULL, 0, NULL, 0), 4, 2));
     EXPECT(breaks_nowhere(galoxumi_first_broken(NULL, 0), 0, 0, 0));
+    EXPECT(answers(galoxumi_put_right(NULL, 0, NULL, 0, NULL, 0).answer, 0, 0));
     EXPECT(answers(galoxumi_tick(NULL, 0, NULL, 0, 0, 0), 6, 0) && answers(galoxumi_untick(NULL, 0, NULL, 0, 0, 0), 6, 0));
     EXPECT(answers(galoxumi_is_ticked(NULL, 0, NULL, 0, 0, 0), 6, 0) && answers(galoxumi_ticks(NULL, 0, NULL, 0, 0), 0, 0));
 }
@@ -797,6 +887,8 @@ static void header(void)
     EXPECT(answers(galoxumi_decode(BYTES("\\u\\u"), 34, out, GALOXUMI_MOST_BYTES(4), errors, GALOXUMI_MOST_ERRORS(4)).answer, 0, 6));
     EXPECT(galoxumi_decode(BYTES("\x01\x01"), 39, out, 4, errors, GALOXUMI_MOST_ERRORS(2)).errors == 4);
     EXPECT(answers(galoxumi_write_value(BYTES("\x01\x01"), out, GALOXUMI_MOST_WRITTEN(2)), 0, 14));
+    galoxumi_replaced replaced[4];
+    EXPECT(galoxumi_put_right(BYTES("'\x01\x01\x01"), out, GALOXUMI_MOST_MENDED(4), replaced, GALOXUMI_MOST_REPLACED(4)).records == 4);
     FROM("docs/RULES.md, the numbers of the errors and of the refusals");
     EXPECT(galoxumi_decode(BYTES("\"\\q\""), GALOXUMI_BASIC_STRING, out, 8, errors, 8).errors == 1);
     EXPECT(errors[0].number == GALOXUMI_MISSING_ESCAPE);
@@ -840,6 +932,8 @@ int main(void)
     RUN(editions);
     RUN(faults);
     RUN(longest_text);
+    RUN(mending);
+    RUN(longest_mended);
     RUN(reviewers);
     RUN(reviewers_refused);
     RUN(values);

@@ -69,6 +69,12 @@ pub(crate) struct Decoded {
     pub errors: usize,
 }
 
+#[repr(C)]
+pub(crate) struct Mended {
+    pub answer: Answer,
+    pub records: usize,
+}
+
 #[cfg(test)]
 #[repr(C)]
 pub(crate) struct Described {
@@ -122,6 +128,15 @@ mod archive {
             errors: *mut [usize; 3],
             errors_len: usize,
         ) -> Decoded;
+        pub fn galoxumi_put_right_in(
+            doc: *const u8,
+            len: usize,
+            edition: usize,
+            output: *mut u8,
+            output_len: usize,
+            records: *mut [usize; 5],
+            records_len: usize,
+        ) -> Mended;
         pub fn galoxumi_write_value(value: *const u8, len: usize, output: *mut u8, output_len: usize) -> Answer;
         pub fn galoxumi_first_broken_in(doc: *const u8, len: usize, edition: usize) -> Broken;
         #[cfg(test)]
@@ -216,6 +231,20 @@ pub(crate) fn decode_in(text: &[u8], edition: usize, kind: usize, output: &mut [
             output.len(),
             errors.as_mut_ptr(),
             errors.len(),
+        )
+    }
+}
+
+pub(crate) fn put_right_in(doc: &[u8], edition: usize, output: &mut [u8], records: &mut [[usize; 5]]) -> Mended {
+    unsafe {
+        archive::galoxumi_put_right_in(
+            doc.as_ptr(),
+            doc.len(),
+            edition,
+            output.as_mut_ptr(),
+            output.len(),
+            records.as_mut_ptr(),
+            records.len(),
         )
     }
 }

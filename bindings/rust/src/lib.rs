@@ -34,6 +34,7 @@ mod error;
 mod ffi;
 mod figures;
 mod lexing;
+mod mending;
 mod place;
 mod refusal;
 mod review;
@@ -52,6 +53,9 @@ pub use figures::{Totals, Untallied, MOST_TALLIED};
 #[cfg(feature = "alloc")]
 pub use lexing::lex;
 pub use lexing::{lex_into, Lexer};
+#[cfg(feature = "alloc")]
+pub use mending::{put_right, Mended};
+pub use mending::{put_right_into, BrokenRecord, LentMended};
 pub use place::{check_span, position, text, Places, Position};
 pub use refusal::{Refusal, Sought};
 pub use review::{is_ticked, tick, ticks, untick, Reviewer};

@@ -56,7 +56,7 @@ fn documents_of_16777216_bytes_are_taken() {
     // one comment as a document, and a text of a string without its marks: few tokens and few errors come back
     let doc = vec![b'#'; len + 1];
     type Call = fn(&[u8]) -> Result<(), Refusal>;
-    let calls: [(&str, Call); 10] = [
+    let calls: [(&str, Call); 11] = [
         ("check_utf8", |doc| check_utf8(doc).map(|_| ())),
         ("Lexer::new", |doc| Lexer::new(doc).map(|_| ())),
         ("Lexer::next", |doc| Lexer::at(doc, 0, false, 1).next().expect("a token or a refusal").map(|_| ())),
@@ -67,6 +67,7 @@ fn documents_of_16777216_bytes_are_taken() {
         ("decode", |doc| decode(doc, Encoding::BasicString).map(|_| ())),
         ("decode_in", |doc| decode_in(doc, Encoding::BasicString, Edition::Toml11).map(|_| ())),
         ("write_value", |doc| write_value(doc).map(|_| ())),
+        ("put_right", |doc| put_right(doc, Edition::Toml11).map(|_| ())),
     ];
     for (name, call) in calls {
         assert_eq!(call(&doc[..len]), Ok(()), "{name}");
@@ -259,6 +260,47 @@ fn values_are_written_as_their_shortest_text() {
     }
     let error_len = NonZeroUsize::new(1);
     assert_eq!(write_value(b"a\xFF"), Err(Refusal::NotUtf8 { valid: 1, error_len }));
+}
+
+/// From docs/TRACE.md, i1 to i7: what a broken string becomes, a space where a quotation mark stands before it, a record for each
+/// error, and that the result stays as it is.
+#[test]
+fn broken_strings_are_put_right() {
+    let cases: [(&[u8], &str, &[(usize, Span, Span)]); 5] = [
+        (b"a = 'b' # \"", "a = 'b' # \"", &[]),
+        (b"a = \"C:\\dir\"\n", "a = \"C:\\\\dir\"\n", &[(8, Span::new(4, 12), Span::new(8, 8))]),
+        (
+            b"\"x\"'\t\x01\x7F'",
+            r#""x" "\u0009\u0001\u007F""#,
+            &[(2, Span::new(3, 8), Span::new(5, 5)), (2, Span::new(3, 8), Span::new(6, 6))],
+        ),
+        (b"\"a\n", "\"a\"\n", &[(6, Span::new(0, 2), Span::new(2, 2))]),
+        (b"\"\"\"\\ \"\"\"'b'", "\"\"'b'", &[(13, Span::new(0, 8), Span::new(5, 5))]),
+    ];
+    for (doc, text, errors) in cases {
+        let mended = put_right(doc, Edition::Toml10).expect("put right");
+        assert_eq!(mended.text, text);
+        let seen: Vec<_> = mended.errors.iter().map(|e| (e.number(), e.context(), e.unexpected())).collect();
+        assert_eq!(seen, errors);
+        let again = put_right(text.as_bytes(), Edition::Toml10).expect("put right again");
+        assert_eq!((again.text.as_str(), again.errors.len()), (text, 0));
+        let (mut output, mut records) = (vec![0xA5; text.len() + 1], vec![[7; 5]; errors.len()]);
+        let lent = put_right_into(doc, Edition::Toml10, &mut output, &mut records).expect("put right");
+        assert_eq!((lent.text(), lent.errors().collect::<Vec<_>>()), (text, mended.errors));
+        assert_eq!(output[text.len()], 0xA5);
+        let short = put_right_into(doc, Edition::Toml10, &mut output[..text.len() - 1], &mut records);
+        assert_eq!(short.map(|m| m.text().len()), Err(Refusal::ShortOutput { needed: text.len() }));
+    }
+    let mut output = [0; 8];
+    let few = put_right_into(b"'", Edition::Toml10, &mut output, &mut []);
+    assert_eq!(few.map(|m| m.text().len()), Err(Refusal::FewErrors { needed: 1 }));
+    assert_eq!(put_right(br#""\e""#, Edition::Toml11).expect("read as TOML 1.1").errors, []);
+    assert_eq!(put_right(br#""\e""#, Edition::Toml10).expect("put right").text, r#""\\e""#);
+    // the result may not pass the limit, and may have as many bytes
+    let mut doc = vec![b'.'; galoxumi::LIMIT];
+    doc[0] = b'"';
+    assert_eq!(put_right(&doc, Edition::Toml10).map(|m| m.text.len()), Err(Refusal::TooLong));
+    assert_eq!(put_right(&doc[..galoxumi::LIMIT - 1], Edition::Toml10).map(|m| m.text.len()), Ok(galoxumi::LIMIT));
 }
 
 #[test]

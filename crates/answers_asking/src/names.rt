@@ -40,6 +40,9 @@ pub enum ReaderCall {
 pub enum BuiltCall {
     Write,
     WriteCap,
+    Mend,
+    MendIn,
+    MendCap,
     Tick,
     Untick,
     Ticked,
@@ -102,6 +105,9 @@ fn built_line(key: usize) -> Line {
     match key {
         0x77_72_69_74_65 => built(BuiltCall::Write, 0),
         0x77_72_69_74_65_63_61_70 => limited(built(BuiltCall::WriteCap, 1), [WRITTEN, ANY, ANY]),
+        0x6D_65_6E_64 => built(BuiltCall::Mend, 0),
+        0x6D_65_6E_64_69_6E => built(BuiltCall::MendIn, 1),
+        0x6D_65_6E_64_63_61_70 => limited(built(BuiltCall::MendCap, 2), [WRITTEN, RECORDS, ANY]),
         0x74_69_63_6B => limited(built(BuiltCall::Tick, 3), [ANY, ANY, RECORDS]),
         0x75_6E_74_69_63_6B => limited(built(BuiltCall::Untick, 3), [ANY, ANY, RECORDS]),
         0x74_69_63_6B_65_64 => limited(built(BuiltCall::Ticked, 3), [ANY, ANY, RECORDS]),

@@ -1,10 +1,13 @@
 // The calls that requests added, as lines can ask for them, a function each: answers_calls has those of
 // the reader.
 use answers_asking::BuiltCall;
+use answers_asking::RECORDS;
 use answers_lent::copy;
 use answers_lent::front;
 use answers_lent::least;
 use answers_spelling::Reply;
+use built_mending::Mended;
+use decoder_rules::Edition;
 
 // The reply to a call, for which `bytes`, `errors` and `tokens` are there to be lent: an arm for each
 // request, whose function is given the memory that its calls need.
@@ -22,6 +25,14 @@ pub fn built_reply(
         BuiltCall::Value | BuiltCall::ValueIn => values(call, numbers, doc, tokens),
         BuiltCall::Tally => tally(0, doc, errors),
         BuiltCall::TallyOn => tally(numbers[0], doc, errors),
+        BuiltCall::Mend | BuiltCall::MendIn | BuiltCall::MendCap => mending(
+            call,
+            numbers,
+            doc,
+            bytes,
+            errors,
+            tokens,
+        ),
         _ => review(call, numbers, doc, bytes, tokens),
     }
 }
@@ -30,6 +41,22 @@ fn writing(call: BuiltCall, numbers: [usize; 3], doc: &[u8], bytes: &mut [u8]) -
     match call {
         BuiltCall::WriteCap => writecap(numbers, doc, bytes),
         _ => write(doc, bytes),
+    }
+}
+
+fn mending(
+    call: BuiltCall,
+    numbers: [usize; 3],
+    doc: &[u8],
+    bytes: &mut [u8],
+    errors: &mut [[usize; 3]],
+    tokens: &mut [[usize; 4]],
+) -> Reply {
+    let mut records = [[0usize; 5]; RECORDS];
+    match call {
+        BuiltCall::MendCap => mendcap(numbers, doc, bytes, &mut records),
+        BuiltCall::MendIn => mend(numbers[0], doc, bytes, &mut records, errors, tokens),
+        _ => mend(Edition::TOML_10, doc, bytes, &mut records, errors, tokens),
     }
 }
 
@@ -65,6 +92,77 @@ fn write(doc: &[u8], bytes: &mut [u8]) -> Reply {
 fn writecap(numbers: [usize; 3], doc: &[u8], bytes: &mut [u8]) -> Reply {
     let lent = least(numbers[0], bytes.len());
     answers_built_forms::wrote_count(built_writing::write_value(doc, &mut bytes[..lent]))
+}
+
+// What was listed is spread for the printing: a token's span into a token, its error into an error.
+fn mend(
+    edition: usize,
+    doc: &[u8],
+    bytes: &mut [u8],
+    records: &mut [[usize; 5]],
+    errors: &mut [[usize; 3]],
+    tokens: &mut [[usize; 4]],
+) -> Reply {
+    let result = built_mending::put_right_in(doc, edition, bytes, records);
+    let count = listed(result);
+    put_spans(tokens, records, count);
+    put_errors(errors, records, count);
+    answers_built_forms::mended(result)
+}
+
+// How many records were written.
+fn listed(result: Mended) -> usize {
+    match result {
+        Mended::Written { bytes: _, records } => records,
+        Mended::Refused(_) => 0,
+    }
+}
+
+fn put_errors(errors: &mut [[usize; 3]], records: &[[usize; 5]], count: usize) -> usize {
+    let mut n = 0;
+    let mut i = 0;
+    while i < records.len() && i < count {
+        n = put_error(errors, n, records[i]);
+        i += 1;
+    }
+    n
+}
+
+fn put_error(errors: &mut [[usize; 3]], at: usize, record: [usize; 5]) -> usize {
+    if at < errors.len() {
+        errors[at] = [record[2], record[3], record[4]];
+        return at + 1;
+    }
+    at
+}
+
+fn put_spans(tokens: &mut [[usize; 4]], records: &[[usize; 5]], count: usize) -> usize {
+    let mut n = 0;
+    let mut i = 0;
+    while i < records.len() && i < count {
+        n = put_span(tokens, n, records[i]);
+        i += 1;
+    }
+    n
+}
+
+fn put_span(tokens: &mut [[usize; 4]], at: usize, record: [usize; 5]) -> usize {
+    if at < tokens.len() {
+        tokens[at] = [0, record[0], record[1], 0];
+        return at + 1;
+    }
+    at
+}
+
+// The numbers are how many bytes of output and how many records are lent.
+fn mendcap(numbers: [usize; 3], doc: &[u8], bytes: &mut [u8], records: &mut [[usize; 5]]) -> Reply {
+    let lent = least(numbers[0], bytes.len());
+    let few = least(numbers[1], records.len());
+    answers_built_forms::mended_count(built_mending::put_right(
+        doc,
+        &mut bytes[..lent],
+        &mut records[..few],
+    ))
 }
 
 // The numbers are the reviewer, the token, and how many token records are lent. The document is the table of marks; it is

@@ -11,6 +11,12 @@ wrote κs a x y s t p q = p ∙ sym q
 pub wrote-count : OneAnswer promised.wrote_count.Reads.Learnt
 wrote-count κs a x y s t p q = p ∙ sym q
 
+pub mended : OneAnswer promised.mended.Reads.Learnt
+mended κs a x y s t p q = p ∙ sym q
+
+pub mended-count : OneAnswer promised.mended_count.Reads.Learnt
+mended-count κs a x y s t p q = p ∙ sym q
+
 pub marked : OneAnswer promised.marked.Reads.Learnt
 marked κs a x y s t p q = p ∙ sym q
 

@@ -12,6 +12,8 @@ use Rattle.built_broken.specs.declared.FirstError.{FirstError}
 use Rattle.built_figures.specs.Figures.{most}
 use Rattle.built_figures.specs.declared.Adding.{Adding}
 use Rattle.built_figures.specs.declared.Adding.the-variants.{Added, TooLong, Refused as Unadded}
+use Rattle.built_mending.specs.declared.Mended.{Mended}
+use Rattle.built_mending.specs.declared.Mended.the-variants.{Written, Refused as Unmended}
 use Rattle.built_review.specs.declared.Marking.{Marking}
 use Rattle.built_review.specs.declared.Marking.the-variants.{Done, Refused as Unmarked}
 use Rattle.built_review.specs.declared.TickRead.{TickRead}
@@ -34,6 +36,15 @@ wroteAs (Unwritten r) = refusedWhole r
 abbrev pub wroteCountAs : Wrote → Reply
 wroteCountAs (Text b) = filledBy form.Two 0 b
 wroteCountAs (Unwritten r) = refusedAs form.Two r
+
+-- mend, mendin: the bytes of the result, and the records; mendcap: 0 and their counts
+abbrev pub mendedAs : Mended → Reply
+mendedAs (Written b n) = filledBy form.Mended b n
+mendedAs (Unmended r) = refusedWhole r
+
+abbrev pub mendedCountAs : Mended → Reply
+mendedCountAs (Written b n) = threeBy form.Three 0 b n
+mendedCountAs (Unmended r) = refusedAs form.Three r
 
 -- tick, untick: the answer's two numbers, and the table of marks afterwards, with so many entries
 abbrev pub markedAs : Marking → ℕ → Reply

@@ -2,8 +2,7 @@
 // Definitions: specs/Answers.antt.
 ghost use mathlib.Core.Path.{_≡_};
 ghost use Rattle.answers_built_forms.specs.Answers.{wroteAs, wroteCountAs, markedAs, tickReadAs, tickCountAs, valueAs};
-ghost use Rattle.answers_built_forms.specs.Answers.{brokenAs, brokenAt};
-ghost use Rattle.answers_built_forms.specs.Answers.{tallyAs};
+ghost use Rattle.answers_built_forms.specs.Answers.{brokenAs, brokenAt, tallyAs, mendedAs, mendedCountAs};
 use answers_forms::filled;
 use answers_forms::refused;
 use answers_forms::refused_whole;
@@ -14,6 +13,7 @@ use built_broken::FirstBroken;
 use built_broken::FirstError;
 use built_figures::Adding;
 use built_figures::MOST;
+use built_mending::Mended;
 use built_review::Marking;
 use built_review::TickCount;
 use built_review::TickRead;
@@ -37,6 +37,25 @@ pub fn wrote_count(result: Wrote) -> Reply
     match result {
         Wrote::Text { bytes } => filled(Form::Two, 0, bytes),
         Wrote::Refused(why) => refused(Form::Two, why),
+    }
+}
+
+pub fn mended(result: Mended) -> Reply
+    ensures { λ r. ⌜ r ≡ mendedAs result ⌝ }
+{
+    match result {
+        Mended::Written { bytes, records } => filled(Form::Mended, bytes, records),
+        Mended::Refused(why) => refused_whole(why),
+    }
+}
+
+// 0, the count of bytes and the count of records.
+pub fn mended_count(result: Mended) -> Reply
+    ensures { λ r. ⌜ r ≡ mendedCountAs result ⌝ }
+{
+    match result {
+        Mended::Written { bytes, records } => three(Form::Three, 0, bytes, records),
+        Mended::Refused(why) => refused(Form::Three, why),
     }
 }
 

@@ -8,6 +8,7 @@ pub enum Form {
     Tokens,
     TokenLines,
     Decoded,
+    Mended,
     Refused,
     Broken,
     Two,
@@ -44,6 +45,8 @@ pub struct Reply {
 // number says, a `%` for as many errors, a `&` for as many tokens, and a `@` for as many tokens with
 // their lines; a `^` stands for the totals of figures, which the errors hold. A `_` stands for nothing. Any other byte is
 // written as it is.
+// number says, a `%` for as many errors, a `~` for as many errors after their tokens' spans, a `&` for as
+// many tokens, and a `@` for as many tokens with their lines. A `_` stands for nothing. Any other byte is written as it is.
 type Text = [u8; 24];
 
 const TOKENS: Text = *b"&\n______________________";
@@ -51,6 +54,8 @@ const TOKENS: Text = *b"&\n______________________";
 const TOKEN_LINES: Text = *b"@\n______________________";
 
 const DECODED: Text = *b"$ | %\n__________________";
+
+const MENDED: Text = *b"$ | ~\n__________________";
 
 const REFUSED: Text = *b"refused # #\n____________";
 
@@ -118,6 +123,7 @@ fn text_of(form: Form) -> Text {
         Form::Tokens => TOKENS,
         Form::TokenLines => TOKEN_LINES,
         Form::Decoded => DECODED,
+        Form::Mended => MENDED,
         Form::Refused => REFUSED,
         Form::Broken => BROKEN,
         Form::Two => TWO,
@@ -183,7 +189,7 @@ fn next_number(k: usize, b: u8) -> usize {
 
 fn takes_number(b: u8) -> bool {
     match b {
-        b'#' | b'$' | b'%' | b'&' | b'@' => true,
+        b'#' | b'$' | b'%' | b'~' | b'&' | b'@' => true,
         _ => false,
     }
 }
@@ -202,6 +208,7 @@ fn put_field(
         b'#' => put_number(out, used, number),
         b'$' => put_hex(out, used, bytes, number),
         b'%' => put_records(out, used, errors, number),
+        b'~' => put_listed(out, used, tokens, errors, number),
         b'&' => put_tokens(out, used, tokens, number, false),
         b'@' => put_tokens(out, used, tokens, number, true),
         b'^' => put_totals(out, used, errors),
@@ -242,6 +249,35 @@ fn put_records(out: &mut [u8], used: usize, records: &[[usize; 3]], count: usize
         i += 1;
     }
     n
+}
+
+// The first `count` records, each after the start and the end of its token, joined by `; `, or `-` for none.
+fn put_listed(
+    out: &mut [u8],
+    used: usize,
+    tokens: &[[usize; 4]],
+    records: &[[usize; 3]],
+    count: usize,
+) -> usize {
+    if count == 0 {
+        return put_byte(out, used, b'-');
+    }
+    let mut n = used;
+    let mut i = 0;
+    while i < tokens.len() && i < records.len() && i < count {
+        n = put_joint(out, n, i);
+        n = put_broken(out, n, tokens[i], records[i]);
+        i += 1;
+    }
+    n
+}
+
+// The start and the end of a token, and an error.
+fn put_broken(out: &mut [u8], used: usize, token: [usize; 4], record: [usize; 3]) -> usize {
+    let n = put_number(out, used, token[1]);
+    let m = put_next(out, n, token[2]);
+    let k = put_byte(out, m, b' ');
+    put_record(out, k, record)
 }
 
 // The first `count` tokens, joined by `; `, or `-` for none; with their lines where `lines` says so.

@@ -14,11 +14,12 @@ use Rattle.text_refusals.specs.declared.Refusal.the-variants.{TooLong, NoEditio
 use Rattle.lexer_token.specs.declared.Token.{Token}
 use Rattle.lexer_token.specs.Records.{textOf}
 use Rattle.lexer.specs.Tokens.{tokensOf}
-use Rattle.built_broken.specs.Broken.{isUtf8, tokenErrors, brokenBy, notUtf8, firstAmong, isEdition, brokenAnswer}
+use Rattle.built_broken.specs.Broken.{isUtf8, tokenErrors, brokenBy, notUtf8, firstAmong, brokenAnswer}
 use Rattle.built_broken.specs.Told.{brokenNumber, brokenValue, brokenLength, unbroken, refusedAmong, brokenRefusal, brokenReturned, brokenFault}
 use Rattle.built_broken.specs.declared.FirstBroken.{FirstBroken}
 use Rattle.built_broken.specs.declared.FirstBroken.the-variants.{Broken, Sound, Refused}
 use Rattle.built_broken.specs.declared.FirstError.{FirstError}
+use Rattle.decoder_rules.specs.Encodings.{isEdition}
 
 -- ---- the answer
 

@@ -2,7 +2,7 @@
 -- of the tokens in turn, and of each first whether its own bytes are UTF-8; what follows the first token that is at fault
 -- has no part in the answer, as is proved in crate theorems_broken.
 use Prim.Native.Nat.{ℕ}
-use mathlib.Core.{Bool.Bool, Bool.cond, Bool._||_, List.List, List.[], List._∷_}
+use mathlib.Core.{Bool.Bool, Bool.cond, List.List, List.[], List._∷_}
 use lib.{Dec.ltb, Dec.eqb, ListN.length, ListN.drop, ListN.getD}
 use Rattle.text_refusals.specs.{Refusals.limit}
 use Rattle.text_scalars.specs.{Utf8Read.validPrefix}
@@ -11,8 +11,7 @@ use Rattle.text_refusals.specs.declared.{Refusal.the-variants.NotUtf8, Refusal.
 use Rattle.lexer_token.specs.{Encodings.kindEncoding, Records.textOf}
 use Rattle.lexer_token.specs.declared.{Token.Token}
 use Rattle.lexer.specs.{Tokens.tokensOf}
-use Rattle.decoder_rules.specs.{Encodings.choiceBy, Encodings.editionNumber, Decoding.errorsBy}
-use Rattle.decoder_rules.specs.declared.{Edition.the-variants.Toml10, Edition.the-variants.Toml11}
+use Rattle.decoder_rules.specs.{Encodings.choiceBy, Decoding.errorsBy, Encodings.isEdition}
 use Rattle.built_broken.specs.declared.{FirstError.FirstError, FirstBroken.FirstBroken, FirstBroken.the-variants.Broken, FirstBroken.the-variants.Sound, FirstBroken.the-variants.Refused}
 
 -- ---- one token
@@ -49,10 +48,6 @@ firstAmong doc edition (t ∷ ts) =
     cond (isUtf8 (textOf doc t)) (brokenBy t (tokenErrors doc edition t) (firstAmong doc edition ts)) (notUtf8 doc)
 
 -- ---- the call
-
--- the number of an edition: 10 or 11
-abbrev pub isEdition : ℕ → Bool
-isEdition n = eqb n (editionNumber Toml10) || eqb n (editionNumber Toml11)
 
 -- the answer for a document and the number of an edition: refusal 2, then 9; then 1 is given by the tokens in turn. A call that
 -- names no edition reads TOML 1.0, whose number is 10

@@ -10,8 +10,9 @@ use Rattle.text.specs.{Lead.faultLen}
 use Rattle.lexer_token.specs.{Records.textOf}
 use Rattle.lexer_token.specs.declared.{Token.Token}
 use Rattle.lexer.specs.{Tokens.tokensOf}
-use Rattle.built_broken.specs.{Broken.isUtf8, Broken.tokenErrors, Broken.isEdition}
+use Rattle.built_broken.specs.{Broken.isUtf8, Broken.tokenErrors}
 use Rattle.built_broken.specs.declared.{FirstBroken.FirstBroken, FirstBroken.the-variants.Broken, FirstBroken.the-variants.Sound, FirstBroken.the-variants.Refused}
+use Rattle.decoder_rules.specs.Encodings.{isEdition}
 
 -- which answer it is: 0 where answered, else the refusal's number
 abbrev pub brokenNumber : FirstBroken → ℕ

@@ -13,10 +13,10 @@ use Rattle.text_classes.proofs.Conds.{or-left, or-right}
 use Rattle.text_refusals.specs.Refusals.{depth}
 use Rattle.decoder_rules.specs.declared.Edition.{Edition}
 use Rattle.decoder_rules.specs.declared.Edition.the-variants.{Toml10, Toml11}
-use Rattle.decoder_rules.specs.Encodings.{editionNumber}
+use Rattle.decoder_rules.specs.Encodings.{editionNumber, isEdition}
 use Rattle.built_values.specs.Depth.{Deep}
 use Rattle.built_values.specs.Answers.{runOf, Judged, Named, ValueAnswer}
-use Rattle.built_values.specs.Told.{valueNumber, valueValue, isOutside, isEdition, valueRefusal, valueReturned}
+use Rattle.built_values.specs.Told.{valueNumber, valueValue, isOutside, valueRefusal, valueReturned}
 use Rattle.built_values.specs.Told.{deepFrom}
 use Rattle.built_values.specs.declared.ValueCheck.{ValueCheck}
 use Rattle.built_values.proofs.DepthLaws.{is-deep, deep-is}

@@ -6,8 +6,7 @@ use Prim.Native.Nat.{ℕ, _+_}
 use mathlib.Core.{Bool.Bool, Bool.true, Bool.false, Bool.cond, Bool._||_, List.List, List.[], List._∷_}
 use lib.{ListN.length, Dec.ltb, Dec.eqb}
 use Rattle.text_refusals.specs.{Refusals.depth, Refusals.refusalNumber, Refusals.refusalValue}
-use Rattle.decoder_rules.specs.declared.Edition.the-variants.{Toml10, Toml11}
-use Rattle.decoder_rules.specs.Encodings.{editionNumber}
+use Rattle.decoder_rules.specs.Encodings.{isEdition}
 use Rattle.built_values.specs.Answers.{runOf}
 use Rattle.built_values.specs.Depth.{isOpening, isClosing}
 use Rattle.built_values.specs.declared.ValueCheck.{ValueCheck}
@@ -43,9 +42,6 @@ deepFrom opened closed (k ∷ s) =
 -- by the arguments: 6 with the number of records, 9 with the edition's number, 10 with the depth, else 0
 abbrev pub isOutside : ℕ → ℕ → ℕ → Bool
 isOutside records start end = ltb records end || ltb end start
-
-abbrev pub isEdition : ℕ → Bool
-isEdition edition = eqb edition (editionNumber Toml10) || eqb edition (editionNumber Toml11)
 
 abbrev pub valueRefusal : List (List ℕ) → ℕ → ℕ → ℕ → ℕ
 valueRefusal records edition start end =

@@ -28,6 +28,10 @@ abbrev pub editionNumber : Edition → ℕ
 editionNumber Toml10 = 10
 editionNumber Toml11 = 11
 
+-- whether a number is that of an edition
+abbrev pub isEdition : ℕ → Bool
+isEdition number = eqb number (editionNumber Toml10) || eqb number (editionNumber Toml11)
+
 -- what the numbers of an edition and a kind ask for; a call that names no edition reads TOML 1.0, whose number is 10
 unfoldable pub choiceBy : ℕ → ℕ → Choice
 choiceBy edition kind =

@@ -50,6 +50,14 @@ galoxumi-encoding κs a x y s t p q = p ∙ sym q
 pub galoxumi-write-value : OneOutcome promised.galoxumi_write_value.Reads.Learnt (λ κs r s. r and now (s .1 .0))
 galoxumi-write-value κs a x y s t p q = both (p .0 ∙ sym (q .0)) (p .1 ∙ sym (q .1))
 
+-- the answer, and what the output and the records hold
+pub galoxumi-put-right : OneOutcome promised.galoxumi_put_right.Reads.Learnt (λ κs r s. r and now (s .1 .0) and now (s .1 .1 .0))
+galoxumi-put-right κs a x y s t p q = both (p .0 ∙ sym (q .0)) (both (p .1 .0 ∙ sym (q .1 .0)) (p .1 .1 ∙ sym (q .1 .1)))
+
+pub galoxumi-put-right-in :
+    OneOutcome promised.galoxumi_put_right_in.Reads.Learnt (λ κs r s. r and now (s .1 .1 .0) and now (s .1 .1 .1 .0))
+galoxumi-put-right-in κs a x y s t p q = both (p .0 ∙ sym (q .0)) (both (p .1 .0 ∙ sym (q .1 .0)) (p .1 .1 ∙ sym (q .1 .1)))
+
 pub galoxumi-error-words : OneAnswer promised.galoxumi_error_words.Reads.Learnt
 galoxumi-error-words κs a x y s t p q = p ∙ sym q
 

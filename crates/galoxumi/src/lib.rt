@@ -21,12 +21,13 @@ ghost use Rattle.library_numbers.specs.Numbers.{flag, checkNumbers, startNumber
 ghost use Rattle.library_numbers.specs.Numbers.{positionNumbers, decodeAnswer, outputAfter, errorsAfter};
 ghost use Rattle.library_numbers.specs.Numbers.{describedNumbers, encodedNumbers, wordsNumbers};
 ghost use Rattle.library_built.specs.Numbers.{writeNumbers, writtenBytes, markNumbers, readNumbers, countNumbers, ValueTold};
-ghost use Rattle.library_built.specs.Numbers.{brokenNumbers, tallyNumbers};
+ghost use Rattle.library_built.specs.Numbers.{brokenNumbers, tallyNumbers, mendAnswer, mendedBytes, mendedList};
 use built_figures::Totals;
 use lexer::Cursor;
 use lexer_token::Span;
 use lexer_token::TokenKind;
 use library_built::BrokenNumbers;
+use library_built::MendNumbers;
 use library_built::TallyNumbers;
 use library_numbers::AnswerNumbers;
 use library_numbers::DecodeNumbers;
@@ -156,6 +157,39 @@ pub extern "C" fn galoxumi_write_value(value: &[u8], output: &mut [u8]) -> Answe
     ensures bytes { λ _. ⌜ now (output .exit) ≡ writtenBytes (now (value .entry)) (now (output .entry)) ⌝ }
 {
     library_built::wrote(built_writing::write_value(value, output))
+}
+
+// Puts broken strings right, read as TOML 1.0.
+#[no_mangle]
+pub extern "C" fn galoxumi_put_right(
+    doc: &[u8],
+    output: &mut [u8],
+    records: &mut [[usize; 5]],
+) -> MendNumbers
+    ensures answer { λ r. ⌜ r ≡ mendAnswer (now (doc .entry)) 10 (now (output .entry)) (now (records .entry)) ⌝ }
+    ensures bytes { λ _. ⌜ now (output .exit)
+        ≡ mendedBytes (now (doc .entry)) 10 (now (output .entry)) (now (records .entry)) ⌝ }
+    ensures records { λ _. ⌜ now (records .exit)
+        ≡ mendedList (now (doc .entry)) 10 (now (output .entry)) (now (records .entry)) ⌝ }
+{
+    library_built::mended(built_mending::put_right(doc, output, records))
+}
+
+// The same as the edition of TOML that `edition` names: 10 for TOML 1.0, 11 for TOML 1.1.
+#[no_mangle]
+pub extern "C" fn galoxumi_put_right_in(
+    doc: &[u8],
+    edition: usize,
+    output: &mut [u8],
+    records: &mut [[usize; 5]],
+) -> MendNumbers
+    ensures answer { λ r. ⌜ r ≡ mendAnswer (now (doc .entry)) edition (now (output .entry)) (now (records .entry)) ⌝ }
+    ensures bytes { λ _. ⌜ now (output .exit)
+        ≡ mendedBytes (now (doc .entry)) edition (now (output .entry)) (now (records .entry)) ⌝ }
+    ensures records { λ _. ⌜ now (records .exit)
+        ≡ mendedList (now (doc .entry)) edition (now (output .entry)) (now (records .entry)) ⌝ }
+{
+    library_built::mended(built_mending::put_right_in(doc, edition, output, records))
 }
 
 // Sets a reviewer's bit of a token in a table of marks.

@@ -8,6 +8,9 @@ use Rattle.library_built.proofs as promised
 pub wrote : OneAnswer promised.wrote.Reads.Learnt
 wrote κs a x y s t p q = p ∙ sym q
 
+pub mended : OneAnswer promised.mended.Reads.Learnt
+mended κs a x y s t p q = p ∙ sym q
+
 pub marked : OneAnswer promised.marked.Reads.Learnt
 marked κs a x y s t p q = p ∙ sym q
 

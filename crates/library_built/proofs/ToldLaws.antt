@@ -6,6 +6,9 @@ use native.Mathlib.Omega.{arith}
 use Rattle.built_figures.specs.Told.{tallyNumber, tallyValue, tallyLength}
 use Rattle.built_figures.specs.declared.Adding.{Adding}
 use Rattle.built_figures.specs.declared.Adding.the-variants.{Added, TooLong, Refused as Unadded}
+use Rattle.built_mending.specs.Told.{mendedNumber, mendedValue, mendedRecords, mendedLength}
+use Rattle.built_mending.specs.declared.Mended.{Mended}
+use Rattle.built_mending.specs.declared.Mended.the-variants.{Written as Mends, Refused as Unmended}
 use Rattle.built_review.specs.Told.{markNumber, markValue, readNumber, readValue, countNumber, countValue}
 use Rattle.built_review.specs.declared.Marking.{Marking}
 use Rattle.built_review.specs.declared.Marking.the-variants.{Done, Refused as Unmarked}
@@ -24,11 +27,22 @@ use Rattle.built_writing.specs.declared.Wrote.{Wrote}
 use Rattle.built_writing.specs.declared.Wrote.the-variants.{Text, Refused as Unwritten}
 use Rattle.library_built.specs.Numbers.{writeNumbers, markNumbers, readNumbers, countNumbers, valueNumbers, brokenNumbers}
 use Rattle.library_built.specs.Numbers.{addingNumbers}
+use Rattle.library_built.specs.Numbers.{mendNumbers}
 
 pub write-told : (r : Wrote) → writeNumbers r ≡ record { refusal = wroteNumber r; value = wroteValue r; length = wroteLength r }
 unfolding writeNumbers
 write-told (Text bytes) = refl
 write-told (Unwritten r) = refl
+
+pub mend-told : (r : Mended)
+    → mendNumbers r
+    ≡ record {
+      answer = record { refusal = mendedNumber r; value = mendedValue r; length = mendedLength r };
+      records = mendedRecords r;
+    }
+unfolding mendNumbers
+mend-told (Mends bytes records) = refl
+mend-told (Unmended r) = refl
 
 pub mark-told : (m : Marking) → (markNumbers m .refusal ≡ markNumber m) × (markNumbers m .value ≡ markValue m)
 unfolding markNumbers

@@ -14,6 +14,9 @@ use Rattle.built_writing.specs.{Writing.written, Writing.writeAnswer, Writing.w
 use Rattle.built_writing.specs.declared.{Wrote.Wrote, Wrote.the-variants.Text, Wrote.the-variants.Refused as Unwritten}
 use Rattle.built_figures.specs.{Figures.most}
 use Rattle.built_figures.specs.declared.{Adding.Adding, Adding.the-variants.Added, Adding.the-variants.TooLong, Adding.the-variants.Refused as Unadded, Tallied.Tallied}
+use Rattle.built_mending.specs.{Mending.mended, Mending.listed, Mending.mendIn, Mending.mendedAfter}
+use Rattle.built_mending.specs.declared.{Mended.Mended, Mended.the-variants.Written as Mends, Mended.the-variants.Refused as Unmended}
+use Rattle.library_built.specs.declared.{MendNumbers.MendNumbers}
 use Rattle.built_review.specs.declared.{Marking.Marking, Marking.the-variants.Done, Marking.the-variants.Refused as Unmarked, TickRead.TickRead, TickRead.the-variants.Ticked, TickRead.the-variants.Unticked, TickRead.the-variants.Refused as Unread, TickCount.TickCount, TickCount.the-variants.Ticks, TickCount.the-variants.Refused as Uncounted}
 use Rattle.built_values.specs.Answers.{ValueAnswer}
 use Rattle.built_values.specs.declared.{ValueCheck.ValueCheck, ValueCheck.the-variants.Value, ValueCheck.the-variants.NoValue, ValueCheck.the-variants.Refused as Unjudged}
@@ -25,6 +28,22 @@ writeNumbers (Unwritten r) = refusedBy r
 
 abbrev pub writtenBytes : List ℕ → List ℕ → List ℕ
 writtenBytes value output = writtenAfter (writeAnswer value (length output)) (written value) output
+
+-- putting broken strings right: the value is the count of bytes, beside it the count of records
+unfoldable pub mendNumbers : Mended → MendNumbers
+mendNumbers (Mends bytes records) = record { answer = answerOf bytes; records = records }
+mendNumbers (Unmended r) = record { answer = refusedBy r; records = 0 }
+
+-- a document put right as `edition`, into lent memory that held `output` and `records`: the answer, and what each of the two
+-- holds afterwards
+abbrev pub mendAnswer : List ℕ → ℕ → List ℕ → List (List ℕ) → MendNumbers
+mendAnswer doc edition output records = mendNumbers (mendIn doc edition (length output) (length records))
+
+abbrev pub mendedBytes : List ℕ → ℕ → List ℕ → List (List ℕ) → List ℕ
+mendedBytes doc edition output records = mendedAfter (mendIn doc edition (length output) (length records)) (mended edition doc) output
+
+abbrev pub mendedList : List ℕ → ℕ → List ℕ → List (List ℕ) → List (List ℕ)
+mendedList doc edition output records = mendedAfter (mendIn doc edition (length output) (length records)) (listed edition doc) records
 
 -- setting and clearing a tick; asking for one: the value is 1 for a token that is ticked; counting: the value is the count
 unfoldable pub markNumbers : Marking → AnswerNumbers

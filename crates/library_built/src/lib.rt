@@ -2,12 +2,13 @@
 // Definitions: specs/Numbers.antt.
 ghost use mathlib.Core.Path.{_≡_};
 ghost use Rattle.library_built.specs.Numbers.{writeNumbers, markNumbers, readNumbers, countNumbers, valueNumbers};
-ghost use Rattle.library_built.specs.Numbers.{brokenNumbers, unbrokenBy, addingNumbers, tallyNumbers};
+ghost use Rattle.library_built.specs.Numbers.{brokenNumbers, unbrokenBy, addingNumbers, tallyNumbers, mendNumbers};
 use built_broken::FirstBroken;
 use built_figures::Adding;
 use built_figures::MOST;
 use built_figures::Tallied;
 use built_figures::Totals;
+use built_mending::Mended;
 use built_review::Marking;
 use built_review::TickCount;
 use built_review::TickRead;
@@ -25,12 +26,34 @@ pub struct TallyNumbers {
     pub totals: Totals,
 }
 
+// `answer.value` is the count of bytes, `records` the count of records.
+#[repr(C)]
+pub struct MendNumbers {
+    pub answer: AnswerNumbers,
+    pub records: usize,
+}
+
 pub fn wrote(wrote: Wrote) -> AnswerNumbers
     ensures { λ r. ⌜ r ≡ writeNumbers wrote ⌝ }
 {
     match wrote {
         Wrote::Text { bytes } => answer_of(bytes),
         Wrote::Refused(r) => refused(r),
+    }
+}
+
+pub fn mended(mended: Mended) -> MendNumbers
+    ensures { λ r. ⌜ r ≡ mendNumbers mended ⌝ }
+{
+    match mended {
+        Mended::Written { bytes, records } => MendNumbers {
+            answer: answer_of(bytes),
+            records,
+        },
+        Mended::Refused(r) => MendNumbers {
+            answer: refused(r),
+            records: 0,
+        },
     }
 }
 

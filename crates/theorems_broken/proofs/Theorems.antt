@@ -29,11 +29,12 @@ use Rattle.lexer.specs.Table.{kindBy, kindOf, extent, tokenLen}
 use Rattle.lexer.specs.Tokens.{tokensOf, hasBom, startOf}
 use Rattle.lexer.proofs.LineLaws.{mark-bytes}
 use Rattle.lexer.proofs.TokenLaws.{token-long, token-fits-at, token-long-at}
+use Rattle.decoder_rules.specs.Encodings.{isEdition}
 use Rattle.decoder_rules.specs.Decoding.{decodeIn}
 use Rattle.decoder_rules.specs.declared.Decoded.the-variants.{Written}
 use Rattle.decoder_rules.proofs.AnswerLaws.{decode-answered}
 use Rattle.theorems_tokens.proofs.Lexing.{uncut}
-use Rattle.built_broken.specs.Broken.{isUtf8, tokenErrors, notUtf8, firstAmong, isEdition, brokenAnswer}
+use Rattle.built_broken.specs.Broken.{isUtf8, tokenErrors, notUtf8, firstAmong, brokenAnswer}
 use Rattle.built_broken.specs.Walk.{firstFrom, frontText}
 use Rattle.built_broken.specs.declared.FirstBroken.the-variants.{Sound, Refused}
 use Rattle.built_broken.proofs.ReadableLaws.{unread, is-read}

@@ -16,11 +16,11 @@ use Rattle.lexer_token.specs.Encodings.{kindEncoding}
 use Rattle.lexer_token.specs.Records.{textOf}
 use Rattle.lexer_token.specs.declared.Token.{Token}
 use Rattle.lexer.specs.Tokens.{tokensOf}
-use Rattle.decoder_rules.specs.Encodings.{choiceBy}
+use Rattle.decoder_rules.specs.Encodings.{choiceBy, isEdition}
 use Rattle.decoder_rules.specs.Decoding.{errorsBy, decodeIn, after}
 use Rattle.decoder_rules.specs.declared.Decoded.{Decoded}
 use Rattle.decoder_rules.specs.declared.Decoded.the-variants.{Written, Refused as Undecoded}
-use Rattle.built_broken.specs.Broken.{isUtf8, tokenErrors, recordedError, brokenBy, isEdition, brokenAnswer}
+use Rattle.built_broken.specs.Broken.{isUtf8, tokenErrors, recordedError, brokenBy, brokenAnswer}
 use Rattle.built_broken.specs.Told.{unbroken}
 use Rattle.built_broken.specs.declared.FirstBroken.{FirstBroken}
 use Rattle.built_broken.specs.declared.FirstBroken.the-variants.{Broken, Sound, Refused}

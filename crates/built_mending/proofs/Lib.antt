@@ -1,0 +1,9 @@
+pub mod SpellLaws
+pub mod PieceLaws
+pub mod ChoiceLaws
+pub mod TokenLaws
+pub mod BoundLaws
+pub mod PassLaws
+pub mod AnswerLaws
+pub mod NumberLaws
+pub mod OneAnswer
