@@ -10,6 +10,8 @@ pub struct Arguments {
     pub edition: Edition,
     pub json: bool,
     pub first: bool,
+    pub in_place: bool,
+    pub output: Option<OsString>,
 }
 
 /// Why there are none.
@@ -41,18 +43,20 @@ impl Arguments {
 
     /// One option, with its value as the next word or after `=`.
     fn option(&mut self, word: &str, words: &mut impl Iterator<Item = OsString>, options: &[&str]) -> Result<(), Wrong> {
-        let (name, value) = word.split_once('=').map_or((word, None), |(name, value)| (name, Some(value.to_string())));
+        let (name, value) = word.split_once('=').map_or((word, None), |(name, value)| (name, Some(OsString::from(value))));
         if !options.contains(&name) {
             return Err(Wrong::Said(format!("no option {name}")));
         }
         let flag = match name {
             "--json" => &mut self.json,
             "--first" => &mut self.first,
-            _ => {
-                let next = || words.next().map(|word| word.to_string_lossy().into_owned());
-                self.edition = edition(value.or_else(next).as_deref())?;
-                return Ok(());
+            "--in-place" => &mut self.in_place,
+            "--output" => {
+                self.output = value.or_else(|| words.next());
+                let named = self.output.as_ref().is_some_and(|name| !name.is_empty());
+                return if named { Ok(()) } else { Err(Wrong::Said("--output takes a file".to_string())) };
             }
+            _ => return edition(value.or_else(|| words.next())).map(|edition| self.edition = edition),
         };
         *flag = true;
         value.map_or(Ok(()), |_| Err(Wrong::Said(format!("{name} takes no value"))))
@@ -67,8 +71,8 @@ impl Arguments {
     }
 }
 
-fn edition(value: Option<&str>) -> Result<Edition, Wrong> {
-    match value {
+fn edition(value: Option<OsString>) -> Result<Edition, Wrong> {
+    match value.as_deref().and_then(|value| value.to_str()) {
         Some("10") => Ok(Edition::Toml10),
         Some("11") => Ok(Edition::Toml11),
         _ => Err(Wrong::Said("--edition takes 10, for TOML 1.0, or 11, for TOML 1.1".to_string())),

@@ -12,6 +12,7 @@ mod finding;
 mod input;
 mod json;
 mod judge;
+mod mend;
 mod output;
 mod shown;
 mod strings;
@@ -43,6 +44,7 @@ struct Command {
 
 const COMMANDS: &[Command] = &[
     Command { name: "check", help: check::HELP, options: &["--edition", "--json", "--first"], run: check::run },
+    Command { name: "mend", help: mend::HELP, options: &["--edition", "--json", "--output", "--in-place"], run: mend::run },
     Command { name: "strings", help: strings::HELP, options: &["--edition", "--json"], run: strings::run },
     Command { name: "tokens", help: tokens::HELP, options: &["--json"], run: tokens::run },
     Command { name: "values", help: values::HELP, options: &["--edition", "--json"], run: values::run },
@@ -57,6 +59,7 @@ encoding, and never says that a file is valid TOML: structure, numbers and dates
 
 commands:
   check FILE..   says what is wrong with each broken string, and where a file is not UTF-8
+  mend FILE      writes the file with each broken string replaced by a sound one, and lists them
   strings FILE   lists each string with its place, kind and value, control characters shown
   tokens FILE    lists each token with its place, kind and text
   values FILE    says which array or inline table is no value, and which bracket is lost
