@@ -22,19 +22,26 @@ pub fn name_of(file: &OsStr) -> String {
 
 /// Reads a file, `-` for standard input, of up to the limit; else why not.
 pub fn read(file: &OsStr) -> Result<Input, String> {
+    // Of a file that is longer, or never ends, one byte past the limit is enough to know.
+    let input = read_most(file, LIMIT + 1)?;
+    if input.doc.len() > LIMIT {
+        return Err(format!("{}: {}", input.name, Refusal::TooLong));
+    }
+    Ok(input)
+}
+
+/// Reads so many bytes of a file, where it has them.
+pub fn read_most(file: &OsStr, most: usize) -> Result<Input, String> {
     let name = name_of(file);
     let mut doc = Vec::new();
-    // Of a file that is longer, or never ends, one byte past the limit is enough to know.
-    let most = LIMIT as u64 + 1;
     let count = if file == "-" {
-        std::io::stdin().lock().take(most).read_to_end(&mut doc)
+        std::io::stdin().lock().take(most as u64).read_to_end(&mut doc)
     } else {
-        open(file).and_then(|opened| opened.take(most).read_to_end(&mut doc))
+        open(file).and_then(|opened| opened.take(most as u64).read_to_end(&mut doc))
     };
     match count {
-        Err(error) => Err(format!("{name}: {}", reason(&error))),
-        Ok(_) if doc.len() > LIMIT => Err(format!("{name}: {}", Refusal::TooLong)),
         Ok(_) => Ok(Input { name, doc }),
+        Err(error) => Err(format!("{name}: {}", reason(&error))),
     }
 }
 

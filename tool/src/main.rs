@@ -8,6 +8,7 @@ mod arguments;
 mod check;
 mod diagnostic;
 mod excerpt;
+mod figures;
 mod finding;
 mod input;
 mod json;
@@ -44,6 +45,7 @@ struct Command {
 
 const COMMANDS: &[Command] = &[
     Command { name: "check", help: check::HELP, options: &["--edition", "--json", "--first"], run: check::run },
+    Command { name: "figures", help: figures::HELP, options: &["--json"], run: figures::run },
     Command { name: "mend", help: mend::HELP, options: &["--edition", "--json", "--output", "--in-place"], run: mend::run },
     Command { name: "strings", help: strings::HELP, options: &["--edition", "--json"], run: strings::run },
     Command { name: "tokens", help: tokens::HELP, options: &["--json"], run: tokens::run },
@@ -59,6 +61,7 @@ encoding, and never says that a file is valid TOML: structure, numbers and dates
 
 commands:
   check FILE..   says what is wrong with each broken string, and where a file is not UTF-8
+  figures FILE.. counts tokens of each kind and errors of each number, of each file and in all
   mend FILE      writes the file with each broken string replaced by a sound one, and lists them
   strings FILE   lists each string with its place, kind and value, control characters shown
   tokens FILE    lists each token with its place, kind and text
