@@ -49,9 +49,9 @@ extern "C" {
 enum galoxumi_refusal {
     GALOXUMI_ANSWERED = 0,     /* it answered; tokens, bytes, ticks, 1 or 0: see the call */
     GALOXUMI_NOT_UTF8 = 1,     /* the bytes are not UTF-8; the length of the longest valid prefix */
-    /* More than GALOXUMI_LIMIT bytes; GALOXUMI_LIMIT. In galoxumi_tally: more than GALOXUMI_MOST_TALLIED; that number. */
+    /* More than GALOXUMI_LIMIT bytes, read or, in galoxumi_put_right, to be written; GALOXUMI_LIMIT. In galoxumi_tally: more than
+     * GALOXUMI_MOST_TALLIED; that number. */
     GALOXUMI_TOO_LONG = 2,
-    GALOXUMI_TOO_LONG = 2,     /* more than GALOXUMI_LIMIT bytes, read or (galoxumi_put_right) to be written; GALOXUMI_LIMIT */
     GALOXUMI_FEW_TOKENS = 3,   /* fewer tokens are lent than there are, Eof counted; the tokens needed */
     GALOXUMI_SHORT_OUTPUT = 4, /* the output is shorter than what is to be written; the bytes needed */
     GALOXUMI_FEW_ERRORS = 5,   /* fewer errors are lent than there are; the errors needed */

@@ -489,6 +489,9 @@ fn the_first_broken_string_is_found() {
     assert_eq!(first_broken(b"' \n\xFF").map(|broken| broken.map(|b| b.token.span())), Ok(Some(Span::new(0, 2))));
     assert_eq!(first_broken(b"# \xE2\x82\n"), Err(check_utf8(b"# \xE2\x82\n").unwrap_err()));
     assert_eq!(first_broken(&vec![b'#'; LIMIT + 1]), Err(Refusal::TooLong));
+}
+
+/// Totals over documents, in either order; what is refused is counted by its number alone.
 #[test]
 fn figures_over_documents() {
     let docs: [&[u8]; 4] = [b"a = 'b'\n", b"\"\\q\\u\"", b"'''\x01", b""];

@@ -16,7 +16,7 @@ use Rattle.lexer_token.specs.declared.Token.{Token}
 use Rattle.decoder_rules.specs.declared.DecodeError.{DecodeError}
 use Rattle.decoder_rules.specs.declared.DecodeError.the-variants.{LiteralMissingQuote, LiteralInvalid, MlLiteralMissingQuote, LoneCr, MlLiteralInvalid, BasicMissingQuote, BasicInvalid, MissingEscape, FewDigits, NotScalar, MlBasicMissingQuote, MlBasicInvalid, MissingNewline, EmptyKey, KeyInvalid}
 use Rattle.decoder_rules.specs.Pieces.{errorNumber}
-use Rattle.built_figures.specs.Figures.{times, timesEach, kindNumbers, errorNumbers, figuresFor, numbersOf, tokenErrors, kindsAmong, errorsAmong, figuresAmong, added}
+use Rattle.built_figures.specs.Figures.{times, timesEach, kindNumbers, errorNumbers, figuresFor, numbersOf, tokenErrorNumbers, kindsAmong, errorsAmong, figuresAmong, added}
 use Rattle.built_figures.specs.Counting.{Fit, Room, zeros, oneAt, kindSlot, tokenFigures, errorFigures}
 use Rattle.built_figures.proofs.AddLaws.{added-zeros, added-assoc, added-at, added-length, added-parts, added-one, fit-left}
 

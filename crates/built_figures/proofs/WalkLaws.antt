@@ -31,7 +31,7 @@ use Rattle.decoder_rules.specs.declared.Choice.the-variants.{Known, Unknown}
 use Rattle.decoder_rules.specs.Encodings.{choiceBy}
 use Rattle.decoder_rules.specs.Decoding.{errorsOf, errorsBy}
 use Rattle.decoder_rules.proofs.Bounds.{errors-few}
-use Rattle.built_figures.specs.Figures.{most, times, timesEach, figuresFor, numbersOf, tokenErrors, kindsAmong, errorsAmong, figuresAmong, added}
+use Rattle.built_figures.specs.Figures.{most, times, timesEach, figuresFor, numbersOf, tokenErrorNumbers, kindsAmong, errorsAmong, figuresAmong, added}
 use Rattle.built_figures.specs.Counting.{Fit, Room, zeros, tokenFigures, errorFigures}
 use Rattle.built_figures.proofs.AddLaws.{added-comm, added-zeros, added-assoc}
 use Rattle.built_figures.proofs.FigureLaws.{figures-joined, figures-long, figures-most, none-added, room-first, room-rest}
@@ -113,7 +113,7 @@ module _ (doc : List ℕ) (l : length doc ≤ limit) where
 figures-step : (doc : List ℕ) (t : Token) (ts : List Token)
     → figuresAmong doc (t ∷ ts) ≡ added (tokenFigures doc t) (figuresAmong doc ts)
 unfolding errorsAmong
-figures-step doc t ts = figures-joined (kindNumber (t .kind) ∷ []) (kindsAmong ts) (tokenErrors doc t) (errorsAmong doc ts)
+figures-step doc t ts = figures-joined (kindNumber (t .kind) ∷ []) (kindsAmong ts) (tokenErrorNumbers doc t) (errorsAmong doc ts)
 
 figures-end : (doc : List ℕ) → figuresAmong doc [] ≡ figuresFor [] []
 unfolding errorsAmong
@@ -125,7 +125,7 @@ by-few : (c : Choice) (t : List ℕ) → length (errorsBy c t) ≤ length t + 2
 by-few (Known e) t = errors-few e t
 by-few (Unknown r) t = omega arith
 
-token-few : (doc : List ℕ) (t : Token) → length (tokenErrors doc t) ≤ t .span .end - t .span .start + 2
+token-few : (doc : List ℕ) (t : Token) → length (tokenErrorNumbers doc t) ≤ t .span .end - t .span .start + 2
 token-few doc t =
     let choice = choiceBy 10 (kindEncoding (t .kind)) in
     let text = textOf doc t in
@@ -183,23 +183,23 @@ module _ (doc : List ℕ) (t : Token) (counts : List ℕ) (room : Room counts (t
   abbrev kind : List ℕ
   kind = figuresFor (kindNumber (t .kind) ∷ []) []
 
-  two : tokenFigures doc t ≡ added kind (figuresFor [] (tokenErrors doc t))
-  two = figures-joined (kindNumber (t .kind) ∷ []) [] [] (tokenErrors doc t)
+  two : tokenFigures doc t ≡ added kind (figuresFor [] (tokenErrorNumbers doc t))
+  two = figures-joined (kindNumber (t .kind) ∷ []) [] [] (tokenErrorNumbers doc t)
 
-  split : Room counts (added kind (figuresFor [] (tokenErrors doc t)))
+  split : Room counts (added kind (figuresFor [] (tokenErrorNumbers doc t)))
   split = rw two at room
 
-  joined : added (added counts kind) (figuresFor [] (tokenErrors doc t)) ≡ added counts (tokenFigures doc t)
-  joined = added-assoc counts kind (figuresFor [] (tokenErrors doc t)) ∙ ap (λ (r : List ℕ). added counts r) (sym two)
+  joined : added (added counts kind) (figuresFor [] (tokenErrorNumbers doc t)) ≡ added counts (tokenFigures doc t)
+  joined = added-assoc counts kind (figuresFor [] (tokenErrorNumbers doc t)) ∙ ap (λ (r : List ℕ). added counts r) (sym two)
 
   pub kind-room : Room counts kind
-  kind-room = room-first counts kind (figuresFor [] (tokenErrors doc t)) (figures-long (kindNumber (t .kind) ∷ []) []) split
+  kind-room = room-first counts kind (figuresFor [] (tokenErrorNumbers doc t)) (figures-long (kindNumber (t .kind) ∷ []) []) split
 
-  rest : Room (added counts kind) (figuresFor [] (tokenErrors doc t))
-  rest = room-rest counts kind (figuresFor [] (tokenErrors doc t)) (figures-long (kindNumber (t .kind) ∷ []) []) split
+  rest : Room (added counts kind) (figuresFor [] (tokenErrorNumbers doc t))
+  rest = room-rest counts kind (figuresFor [] (tokenErrorNumbers doc t)) (figures-long (kindNumber (t .kind) ∷ []) []) split
 
   errors-are : (c : Choice) → choiceBy 10 (kindEncoding (t .kind)) ≡ c
-      → figuresFor [] (tokenErrors doc t) ≡ errorFigures (errorsBy c (textOf doc t))
+      → figuresFor [] (tokenErrorNumbers doc t) ≡ errorFigures (errorsBy c (textOf doc t))
   errors-are c is = ap (λ (x : Choice). errorFigures (errorsBy x (textOf doc t))) is
 
   module _ (e : Encoding) (is : choiceBy 10 (kindEncoding (t .kind)) ≡ Known e) where

@@ -13,7 +13,7 @@ use Rattle.decoder_rules.specs.declared.Encoding.{Encoding}
 use Rattle.decoder_rules.specs.declared.Piece.{Piece}
 use Rattle.decoder_rules.specs.declared.Verdict.the-variants.{Clean}
 use Rattle.decoder_rules.specs.Bodies.{pieceOf}
-use Rattle.built_figures.specs.Figures.{added, figuresFor, numbersOf, tokenErrors}
+use Rattle.built_figures.specs.Figures.{added, figuresFor, numbersOf, tokenErrorNumbers}
 
 -- totals to begin with
 abbrev pub zeros : List ℕ
@@ -53,7 +53,7 @@ kindSlot Eof = 15
 
 -- what one token adds, and what some errors add
 abbrev pub tokenFigures : List ℕ → Token → List ℕ
-tokenFigures doc t = figuresFor (kindNumber (t .kind) ∷ []) (tokenErrors doc t)
+tokenFigures doc t = figuresFor (kindNumber (t .kind) ∷ []) (tokenErrorNumbers doc t)
 
 abbrev pub errorFigures : List (List ℕ) → List ℕ
 errorFigures errors = figuresFor [] (numbersOf errors)

@@ -45,8 +45,8 @@ abbrev pub numbersOf : List (List ℕ) → List ℕ
 numbersOf errors = map (λ (r : List ℕ). getD r 0 0) errors
 
 -- the numbers of a token's errors: where it is a string, those of its text, read as TOML 1.0; else none
-abbrev pub tokenErrors : List ℕ → Token → List ℕ
-tokenErrors doc t = numbersOf (errorsBy (choiceBy 10 (kindEncoding (t .kind))) (textOf doc t))
+abbrev pub tokenErrorNumbers : List ℕ → Token → List ℕ
+tokenErrorNumbers doc t = numbersOf (errorsBy (choiceBy 10 (kindEncoding (t .kind))) (textOf doc t))
 
 -- the kinds of some tokens of a document, and the errors of all of them
 abbrev pub kindsAmong : List Token → List ℕ
@@ -54,7 +54,7 @@ kindsAmong ts = map (λ (t : Token). kindNumber (t .kind)) ts
 
 unfoldable pub errorsAmong : List ℕ → List Token → List ℕ
 errorsAmong doc [] = []
-errorsAmong doc (t ∷ ts) = tokenErrors doc t ++ errorsAmong doc ts
+errorsAmong doc (t ∷ ts) = tokenErrorNumbers doc t ++ errorsAmong doc ts
 
 abbrev pub figuresAmong : List ℕ → List Token → List ℕ
 figuresAmong doc ts = figuresFor (kindsAmong ts) (errorsAmong doc ts)
