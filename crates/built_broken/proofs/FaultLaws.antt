@@ -15,14 +15,14 @@ use lib.Seq.{take-take, take-all, length-take-le, getD-take, getD-drop, drop-dro
 use Rattle.text_refusals.specs.Refusals.{limit, refusalValue, refusalLength}
 use Rattle.text_scalars.specs.Utf8.{Utf8}
 use Rattle.text_scalars.specs.Utf8Read.{validPrefix}
-use Rattle.text.specs.Lead.{leadOf, Begun, begunBy, faultLen}
+use Rattle.text_characters.specs.Lead.{leadOf, Begun, begunBy, faultLen}
 use Rattle.text.specs.CheckMeans.{checkOf}
 use Rattle.text_refusals.specs.declared.Refusal.{Refusal}
 use Rattle.text_refusals.specs.declared.Refusal.the-variants.{NotUtf8}
 use Rattle.text.specs.declared.utf8.Utf8Check.the-variants.{Valid, Refused as NotValid}
 use Rattle.text_scalars.proofs.ReadLaws.{valid-le, valid-is, valid-longest, valid-append}
-use Rattle.text.proofs.LeadLaws.{lead-high}
-use Rattle.text.proofs.BegunLaws.{begun-by, begun-only}
+use Rattle.text_characters.proofs.LeadLaws.{lead-high}
+use Rattle.text_characters.proofs.BegunLaws.{begun-by, begun-only}
 use Rattle.text.proofs.AnswerLaws.{told, longest-one, checked}
 use Rattle.decoder_rules.proofs.AsciiLaws.{front-one, front-add}
 use Rattle.theorems_tokens.specs.Cuts.{Clean, at-end, before, after, further}

@@ -6,7 +6,7 @@ use mathlib.Core.{Bool.Bool, Bool.cond, List.List, List.[], List._∷_}
 use lib.{Dec.ltb, Dec.eqb, ListN.length, ListN.drop, ListN.getD}
 use Rattle.text_refusals.specs.{Refusals.limit}
 use Rattle.text_scalars.specs.{Utf8Read.validPrefix}
-use Rattle.text.specs.{Lead.faultLen}
+use Rattle.text_characters.specs.{Lead.faultLen}
 use Rattle.text_refusals.specs.declared.{Refusal.the-variants.NotUtf8, Refusal.the-variants.TooLong, Refusal.the-variants.NoEdition}
 use Rattle.lexer_token.specs.{Encodings.kindEncoding, Records.textOf}
 use Rattle.lexer_token.specs.declared.{Token.Token}

@@ -6,7 +6,7 @@ use mathlib.Core.{Bool.Bool, Bool.true, Bool.false, Bool.cond, List.List, List.[
 use lib.{Dec.ltb, ListN.length, ListN.drop}
 use Rattle.text_refusals.specs.{Refusals.limit, Refusals.refusalNumber, Refusals.refusalValue, Refusals.refusalLength}
 use Rattle.text_scalars.specs.{Utf8Read.validPrefix}
-use Rattle.text.specs.{Lead.faultLen}
+use Rattle.text_characters.specs.{Lead.faultLen}
 use Rattle.lexer_token.specs.{Records.textOf}
 use Rattle.lexer_token.specs.declared.{Token.Token}
 use Rattle.lexer.specs.{Tokens.tokensOf}

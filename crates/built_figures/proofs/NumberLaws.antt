@@ -12,7 +12,7 @@ use Rattle.text_classes.proofs.Conds.{of-choice}
 use Rattle.text_refusals.specs.Refusals.{limit}
 use Rattle.text_refusals.specs.declared.Refusal.the-variants.{NotUtf8, TotalFull}
 use Rattle.text_scalars.specs.Utf8Read.{validPrefix}
-use Rattle.text.specs.Lead.{faultLen}
+use Rattle.text_characters.specs.Lead.{faultLen}
 use Rattle.text.specs.CheckMeans.{checkOf}
 use Rattle.text.specs.declared.utf8.Utf8Check.{Utf8Check}
 use Rattle.built_figures.specs.declared.Adding.{Adding}

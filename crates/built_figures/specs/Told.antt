@@ -6,7 +6,7 @@ use mathlib.Core.{Bool.Bool, Bool.cond, List.List}
 use lib.{Dec.ltb, Dec.eqb, ListN.length, ListN.drop}
 use Rattle.text_refusals.specs.{Refusals.greatest, Refusals.refusalNumber, Refusals.refusalValue, Refusals.refusalLength}
 use Rattle.text_scalars.specs.{Utf8Read.validPrefix}
-use Rattle.text.specs.{Lead.faultLen}
+use Rattle.text_characters.specs.{Lead.faultLen}
 use Rattle.built_figures.specs.{Figures.most, Figures.figuresOf, Figures.added, Figures.allFit}
 use Rattle.built_figures.specs.declared.{Adding.Adding, Adding.the-variants.Added, Adding.the-variants.TooLong, Adding.the-variants.Refused}
 

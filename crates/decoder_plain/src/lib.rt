@@ -17,7 +17,7 @@ use decoder_rules::Encoding;
 use lexer_token::TokenKind;
 use std::num::wrapping_add_u8;
 use std::num::wrapping_sub_u8;
-use text::wide_at;
+use text_characters::wide_at;
 use text_classes::APOSTROPHE;
 use text_classes::ESCAPE;
 use text_classes::QUOTATION_MARK;

@@ -12,7 +12,7 @@ use Rattle.text_refusals.specs.Refusals.{limit}
 use Rattle.text_scalars.specs.Utf8.{Utf8}
 use Rattle.text_classes.specs.Runs.{run}
 use Rattle.text_scalars.specs.Utf8Read.{ascii, validPrefix}
-use Rattle.text.specs.Lead.{faultLen}
+use Rattle.text_characters.specs.Lead.{faultLen}
 use Rattle.text.specs.CheckMeans.{checkOf}
 use Rattle.text.specs.Told.{checkNumber, checkValue, checkLength, checkRefusal, checkReturned, checkFault}
 use Rattle.text.specs.CheckMeans.{Longest, CheckMeans}

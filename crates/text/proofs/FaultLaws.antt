@@ -13,16 +13,16 @@ use lib.ListN.{length, getD, take, drop, length-append, length-drop, List·getD-
 use lib.Seq.{take-suc, take-at, take-append-add, length-take-le, getD-take, getD-drop}
 use lib.Dec.{eqb}
 use borrow.Author.Tests.{eq-eqb, ne-eqb}
-use Rattle.text.specs.declared.utf8.Lead.{Lead}
+use Rattle.text_characters.specs.declared.Lead.{Lead}
 use Rattle.text_scalars.specs.Utf8.{encodeScalar}
 use Rattle.text_scalars.specs.Utf8Read.{guess}
 use Rattle.text.specs.CheckMeans.{Begins, LongestBegun, faulty, Fault}
-use Rattle.text.specs.Lead.{leadOf, Among, Begun, BegunAt, begunLen, faultLen}
+use Rattle.text_characters.specs.Lead.{leadOf, Among, Begun, BegunAt, begunLen, faultLen}
 use Rattle.text_classes.proofs.Conds.{by-eq}
 use Rattle.text_scalars.proofs.EncodeLaws.{encode-length, size}
 use Rattle.text_scalars.proofs.ReadLaws.{Char, char-sound}
-use Rattle.text.proofs.LeadLaws.{LeadSeen, SeenIn, lead-fits, encode-seen, seen-char}
-use Rattle.text.proofs.BegunLaws.{begun-only, begun-by}
+use Rattle.text_characters.proofs.LeadLaws.{LeadSeen, SeenIn, lead-fits, encode-seen, seen-char}
+use Rattle.text_characters.proofs.BegunLaws.{begun-only, begun-by}
 
 -- the length that the first byte asks for
 abbrev asked : List ℕ → ℕ

@@ -1,9 +1,3 @@
-pub mod LeadLaws
-pub mod OnesLaws
-pub mod BegunLaws
-pub mod CharLaws
-pub mod WordLaws
-pub mod FourLaws
 pub mod FaultLaws
 pub mod AnswerLaws
 pub mod MendLaws

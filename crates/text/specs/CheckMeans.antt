@@ -6,7 +6,7 @@ use mathlib.Core.{Path._≡_, Bool.cond, List.List, List._++_}
 use lib.{ListN.length, ListN.take, ListN.drop, Dec.ltb, Dec.eqb}
 use Rattle.text_refusals.specs.{Refusals.limit}
 use Rattle.text_scalars.specs.{Utf8.Scalar, Utf8.encodeScalar, Utf8.Utf8, Utf8Read.validPrefix}
-use Rattle.text.specs.{Lead.faultLen}
+use Rattle.text_characters.specs.{Lead.faultLen}
 use Rattle.text_refusals.specs.declared.Refusal.the-variants.{NotUtf8, TooLong, FewTokens, ShortOutput, FewErrors, OutOfPlace, NoKind, AfterEnd, NoEdition, TooDeep, NoReviewer, FewMarks, TotalFull}
 use Rattle.text.specs.declared.{utf8.Utf8Check.Utf8Check, utf8.Utf8Check.the-variants.Valid, utf8.Utf8Check.the-variants.Refused}
 

@@ -1,4 +1,3 @@
 pub mod CheckMeans
 pub mod Told
 pub mod LengthTells
-pub mod Lead

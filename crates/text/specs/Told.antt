@@ -6,7 +6,7 @@ use mathlib.Core.{Bool.cond, List.List}
 use lib.{ListN.length, ListN.drop, Dec.ltb, Dec.eqb}
 use Rattle.text_refusals.specs.{Refusals.limit, Refusals.refusalNumber, Refusals.refusalValue, Refusals.refusalLength}
 use Rattle.text_scalars.specs.{Utf8Read.validPrefix}
-use Rattle.text.specs.{Lead.faultLen}
+use Rattle.text_characters.specs.{Lead.faultLen}
 use Rattle.text.specs.declared.{utf8.Utf8Check.Utf8Check, utf8.Utf8Check.the-variants.Valid, utf8.Utf8Check.the-variants.Refused}
 
 -- by the answer: the refusal's number, 0 for none; the value returned; and the length, which only refusal 1 returns

@@ -3,4 +3,3 @@ mod utf8;
 
 pub use utf8::Utf8Check;
 pub use utf8::check_utf8;
-pub use utf8::wide_at;

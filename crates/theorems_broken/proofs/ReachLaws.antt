@@ -11,7 +11,7 @@ use lib.Seq.{take-take, take-add, drop-at, length-take-le}
 use Rattle.text_refusals.specs.declared.Refusal.the-variants.{NotUtf8}
 use Rattle.text_scalars.specs.Utf8.{Utf8}
 use Rattle.text_scalars.specs.Utf8Read.{validPrefix}
-use Rattle.text.specs.Lead.{faultLen}
+use Rattle.text_characters.specs.Lead.{faultLen}
 use Rattle.lexer_token.specs.declared.Token.{Token}
 use Rattle.lexer.specs.Lines.{lineFeeds, lineOf}
 use Rattle.lexer.specs.Table.{kindOf, tokenLen}

@@ -18,7 +18,7 @@ use Rattle.text_refusals.specs.declared.Refusal.the-variants.{TooLong, NoEditio
 use Rattle.text_scalars.specs.Utf8.{Utf8}
 use Rattle.text_scalars.specs.Utf8Read.{validPrefix}
 use Rattle.text_scalars.proofs.ReadLaws.{valid-le, utf8-iff}
-use Rattle.text.specs.Lead.{faultLen}
+use Rattle.text_characters.specs.Lead.{faultLen}
 use Rattle.text.specs.CheckMeans.{checkOf}
 use Rattle.text.specs.declared.utf8.Utf8Check.the-variants.{Refused as NotValid}
 use Rattle.text.proofs.AnswerLaws.{answer-broken}

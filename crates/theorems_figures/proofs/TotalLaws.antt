@@ -12,7 +12,7 @@ use borrow.Author.Tests.{ltb-true, ltb-false, eqb-true, le-ltb}
 use Rattle.text_refusals.specs.Refusals.{limit}
 use Rattle.text_refusals.specs.declared.Refusal.the-variants.{NotUtf8}
 use Rattle.text_scalars.specs.Utf8Read.{validPrefix}
-use Rattle.text.specs.Lead.{faultLen}
+use Rattle.text_characters.specs.Lead.{faultLen}
 use Rattle.text.specs.CheckMeans.{checkOf}
 use Rattle.text.specs.declared.utf8.Utf8Check.the-variants.{Valid, Refused as Broken}
 use Rattle.text.proofs.AnswerLaws.{checked}

@@ -5,8 +5,8 @@ use lib.ListN.{getD}
 use native.Mathlib.Omega.{arith}
 use borrow.Author.Needs.{needs}
 use borrow.Author.Tests.{not-true, not-false}
-use Rattle.text.specs.Lead.{Among}
-use Rattle.text.proofs.BegunLaws.{begun-1, begun-2, begun-3, begun-4}
+use Rattle.text_characters.specs.Lead.{Among}
+use Rattle.text_characters.proofs.BegunLaws.{begun-1, begun-2, begun-3, begun-4}
 use Rattle.text.proofs.utf8.begun.Statement.{statement}
 use Rattle.text.proofs.utf8.begun.Tie as tie
 

@@ -1,7 +1,7 @@
 -- `char_at` is right because a character stands where all the bytes are that its first byte asks for.
 -- Assumes nothing.
 use borrow.Author.Needs.{needs}
-use Rattle.text.proofs.LeadLaws.{all-begun, part-begun}
+use Rattle.text_characters.proofs.LeadLaws.{all-begun, part-begun}
 use Rattle.text.proofs.utf8.char_at.Statement.{statement}
 use Rattle.text.proofs.utf8.char_at.Tie as tie
 

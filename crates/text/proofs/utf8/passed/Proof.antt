@@ -26,7 +26,7 @@ chars-run-requires c κs = search needs
 
 returns-2 : tie.Need-returns-2
 returns-2 c =
-    let run = c .before .chars-run .ensures in
+    let run = c .before .chars-run .ensures (omega arith) in
     record {
       within = run .1;
       whole = run .2;

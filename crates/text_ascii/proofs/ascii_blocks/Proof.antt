@@ -1,0 +1,60 @@
+-- `ascii_blocks` is right because each block passed leaves the end of the run where it was.
+-- Assumes nothing.
+use Prim.Native.Nat.{_-_}
+use native.Mathlib.Omega.{arith}
+use borrow.Author.Tests.{not-false}
+use lib.ListN.{length}
+use Rattle.text_scalars.specs.Utf8Read.{ascii}
+use Rattle.text_classes.specs.Runs.{run}
+use Rattle.text_classes.proofs.RunLaws.{SameEnd, same-end-start, same-end-block}
+use Rattle.text_ascii.proofs.ascii_blocks.Statement.{statement}
+use Rattle.text_ascii.proofs.ascii_blocks.Tie as tie
+
+abbrev Inv-loop : tie.InvT-loop
+Inv-loop s start n i₀ i = SameEnd (run ascii) s start i
+
+abbrev μ-loop : tie.MeasureT-loop
+μ-loop s start n i₀ i = length s - i
+
+loop-holds : tie.Need-loop-holds Inv-loop μ-loop
+loop-holds c = same-end-start ascii (c .before .args .s .now) (c .before .args .start) (omega arith)
+
+sub-loop : tie.Need-sub-loop Inv-loop μ-loop
+sub-loop c = omega arith
+
+ascii-block-requires : tie.Need-ascii-block-requires Inv-loop μ-loop
+ascii-block-requires c κs = omega arith
+
+returns : tie.Need-returns Inv-loop μ-loop
+returns c = c .before .before .before .loop .inv
+
+add-i : tie.Need-add-i Inv-loop μ-loop
+add-i c = omega arith
+
+loop-less : tie.Need-loop-less Inv-loop μ-loop
+loop-less c = omega arith
+
+loop-again : tie.Need-loop-again Inv-loop μ-loop
+loop-again c =
+    let a = c .before .before .before .before .before .args in
+    let block = c .before .ascii-block .ensures (not-false _ (c .if1 .left)) in
+    let at = c .before .before .before .loop in
+    same-end-block ascii (a .s .now) (a .start) (at .i) (a .n) (omega arith) block (at .inv)
+
+returns-2 : tie.Need-returns-2 Inv-loop μ-loop
+returns-2 c = c .before .loop .inv
+
+pub ascii-blocks-spec : {M : Type 1} → statement M
+ascii-blocks-spec =
+    tie.close
+    (tie.spec
+    Inv-loop
+    μ-loop
+    loop-holds
+    sub-loop
+    ascii-block-requires
+    returns
+    add-i
+    loop-less
+    loop-again
+    returns-2)
