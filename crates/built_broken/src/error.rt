@@ -13,10 +13,10 @@ use decoder_marks::open_text;
 use decoder_pieces::Body;
 use decoder_pieces::BodyStep;
 use decoder_pieces::escape_at;
-use decoder_pieces::plain_few;
-use decoder_pieces::plain_run;
 use decoder_rules::Encoding;
 use decoder_rules::Verdict;
+use decoder_scans::plain_few;
+use decoder_scans::plain_run;
 
 // The run of bytes at the front of the body that stand for themselves, which most often is all of it, is passed over at once.
 pub(crate) fn first_error(e: Encoding, text: &[u8]) -> Verdict

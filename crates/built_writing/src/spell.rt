@@ -9,9 +9,9 @@ ghost use Rattle.text_refusals.specs.Refusals.{limit};
 ghost use Rattle.decoder_rules.proofs.StoreLaws.{Stored};
 ghost use Rattle.built_writing.specs.Writing.{hexDigit, spellingOf, spelling, escapeOf, spelt};
 ghost use Rattle.built_writing.specs.declared.spell.Spelling.the-variants.{Short, Coded};
-use decoder_pieces::plain_run;
 use decoder_rules::Edition;
 use decoder_rules::Encoding;
+use decoder_scans::plain_run;
 use text_classes::is_basic_unescaped;
 
 // How a byte that does not stand for itself is spelt: by a letter after a backslash, or by the digits of its code.

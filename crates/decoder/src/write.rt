@@ -15,12 +15,12 @@ ghost use Rattle.decoder.specs.Few.{FewAt};
 use decoder_pieces::Body;
 use decoder_pieces::BodyStep;
 use decoder_pieces::escape_at;
-use decoder_pieces::plain_few;
 use decoder_rules::DecodeError;
 use decoder_rules::Encoding;
 use decoder_rules::Given;
 use decoder_rules::Piece;
 use decoder_rules::Verdict;
+use decoder_scans::plain_few;
 use text_scalars::encode;
 
 // How many bytes, and how many errors.

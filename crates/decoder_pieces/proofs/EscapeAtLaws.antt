@@ -30,7 +30,7 @@ use Rattle.decoder_rules.proofs.EscapeLaws.{stands-fit, asks-fit, hex-char, esc
 use Rattle.decoder_rules.proofs.PlainLaws.{plain-piece}
 use Rattle.decoder_pieces.specs.declared.string.Escape.{Escape}
 use Rattle.decoder_pieces.specs.GoodEscapes.{escapeTo, noEscape, goodHex, goodBy, goodEscape, escapeIn, escapeAt}
-use Rattle.decoder_pieces.proofs.ScanLaws.{front-run}
+use Rattle.decoder_scans.proofs.ScanLaws.{front-run}
 
 -- ---- escapes, case by case
 

@@ -2,10 +2,11 @@
 -- Assumes nothing.
 use Prim.Native.Nat.{ℕ, _+_, _*_, _^_, _≤_, _<_}
 use mathlib.Core.Path.{_≡_, refl, sym, ap, _∙_}
-use mathlib.Core.Bool.{Bool, true, false, cond, not, _||_}
+use mathlib.Core.Bool.{Bool, true, false, cond, not, _||_, false≢true}
 use mathlib.Core.List.{List}
 use native.Mathlib.Nat.{pow-suc, pow-le-pow-right}
 use native.Mathlib.Numerals.{add-one}
+use native.Mathlib.Decide.{decLt}
 use native.Mathlib.Omega.{arith}
 use lib.Dec.{ltb}
 use lib.ListN.{take, drop, getD}
@@ -17,8 +18,16 @@ use Rattle.text_classes.proofs.RunLaws.{run-step, there, run-halts}
 use Rattle.decoder_rules.specs.Escapes.{hexValue, hexFrom}
 use Rattle.decoder_rules.proofs.EscapeLaws.{hex-more}
 use Rattle.decoder_rules.proofs.AsciiLaws.{hexdig-low}
-use Rattle.decoder_pieces.specs.Scan.{HexRead}
-use Rattle.decoder_pieces.proofs.ScanLaws.{hexdig-above}
+use Rattle.decoder_pieces.specs.Hexes.{HexRead}
+
+-- a hex digit is at least 0
+hexdig-above : (b : ℕ) → hexdig b ≡ true → 0x30 ≤ b
+unfolding hexdig
+hexdig-above b e =
+    elim (decLt b 0x30) [
+      | yes l ↦ absurd (false≢true (class-is false hexdig 0 0x30 tt b (omega arith) l ∙ e))
+      | no l ↦ omega arith
+    ]
 
 value-test : (b : ℕ) → b < 0x80 → true ≡ (not (hexdig b) || ltb (hexValue b) 16)
 unfolding hexdig hexValue

@@ -1,4 +1,3 @@
-pub mod ScanLaws
 pub mod HexLaws
 pub mod EscapeAtLaws
 pub mod StepLaws

@@ -9,15 +9,6 @@ use Rattle.decoder_pieces.proofs as promised
 pub strip-start-newline : OneAnswer promised.string.strip_start_newline.Reads.Learnt
 strip-start-newline κs a x y s t p q = p ∙ sym q
 
-pub plain-run : OneAnswer promised.plain_run.Reads.Learnt
-plain-run κs a x y s t p q = p ∙ sym q
-
-pub is-plain : OneAnswer promised.scan.is_plain.Reads.Learnt
-is-plain κs a x y s t p q = p ∙ sym q
-
-pub plain-few : OneAnswer promised.scan.plain_few.Reads.Learnt
-plain-few κs a x y s t p q = p ∙ sym q
-
 pub escape-at : OneAnswer promised.string.escape_at.Reads.Learnt
 escape-at κs a x y s t p q = p ∙ sym q
 

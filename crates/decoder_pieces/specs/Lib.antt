@@ -1,4 +1,4 @@
 pub mod Steps
 pub mod Walks
-pub mod Scan
+pub mod Hexes
 pub mod GoodEscapes

@@ -3,32 +3,22 @@
 ghost use mathlib.Core.Path.{_≡_};
 ghost use Prim.Native.Nat.{_+_, _<_, _^_};
 ghost use lib.ListN.{length};
-ghost use Rattle.text_classes.specs.Runs.{run};
-ghost use Rattle.decoder_rules.specs.Encodings.{plain};
 ghost use Rattle.decoder_rules.specs.Bodies.{pieceOf};
 
 mod body;
 mod piece;
-mod scan;
 mod string;
 
 pub use crate::body::Body;
 pub use crate::body::BodyStep;
-pub use crate::scan::is_plain;
-pub use crate::scan::plain_few;
 pub use crate::string::Escape;
-use crate::string::basic_unescaped;
 use crate::string::decode_basic_string;
 use crate::string::decode_literal_string;
 use crate::string::decode_ml_basic_string;
 use crate::string::decode_ml_literal_string;
 use crate::string::decode_unquoted_key;
 pub use crate::string::escape_at;
-use crate::string::literal_chars;
-use crate::string::mlb_unescaped;
-use crate::string::mll_chars;
 pub use crate::string::strip_start_newline;
-use crate::string::unquoted_chars;
 use decoder_rules::Encoding;
 use decoder_rules::Piece;
 
@@ -44,18 +34,5 @@ fn piece_at(e: Encoding, dropping: bool, s: &[u8], at: usize) -> Piece
         Encoding::BasicString(v) => decode_basic_string(v, s, at),
         Encoding::MlBasicString(v) => decode_ml_basic_string(v, dropping, s, at),
         Encoding::UnquotedKey => decode_unquoted_key(s, at),
-    }
-}
-
-// How many bytes at the front stand for themselves.
-pub fn plain_run(e: Encoding, s: &[u8]) -> usize
-    ensures { λ r. ⌜ r ≡ run (plain e) (now (s .entry)) ⌝ }
-{
-    match e {
-        Encoding::LiteralString => literal_chars(s),
-        Encoding::MlLiteralString => mll_chars(s),
-        Encoding::BasicString(v) => basic_unescaped(v, s),
-        Encoding::MlBasicString(v) => mlb_unescaped(v, s),
-        Encoding::UnquotedKey => unquoted_chars(s),
     }
 }

@@ -7,30 +7,33 @@ ghost use mathlib.Core.Path.{_≡_};
 ghost use mathlib.Core.Bool.{cond};
 ghost use Prim.Native.Nat.{_+_, _<_, _≤_, _^_};
 ghost use lib.ListN.{length, drop};
-ghost use Rattle.text_classes.specs.Classes.{literalChar, basicUnescaped, unquotedChar, hexdig};
-ghost use Rattle.text_classes.specs.Runs.{run};
-ghost use Rattle.decoder_rules.specs.Encodings.{mllPlain, mlbPlain, basicInvalid, mlbInvalid};
+ghost use Rattle.text_classes.specs.Classes.{hexdig};
 ghost use Rattle.decoder_rules.specs.Escapes.{newLetter, letterOf, letterAt, hexValue, hexPiece, escapePiece};
 ghost use Rattle.decoder_rules.specs.Bodies.{literalPiece, mlLiteralPiece, basicPiece, skips, escapedNl, escapedMore, mlbContent, mlBasicPiece, keyPiece};
 ghost use Rattle.decoder_rules.specs.Marks.{newlineLen};
 ghost use Rattle.decoder_pieces.specs.GoodEscapes.{noEscape, goodHex, goodEscape, escapeAt};
-ghost use Rattle.decoder_pieces.specs.Scan.{HexRead};
+ghost use Rattle.decoder_pieces.specs.Hexes.{HexRead};
 use crate::piece::bad_char;
 use crate::piece::bad_copy;
 use crate::piece::bad_drop;
 use crate::piece::char_piece;
 use crate::piece::copy_piece;
 use crate::piece::drop_piece;
-use crate::scan::Set;
-use crate::scan::peek;
-use crate::scan::plain_blocks;
-use crate::scan::plain_rest;
-use crate::scan::run_from;
 use decoder_rules::DecodeError;
 use decoder_rules::Edition;
 use decoder_rules::Encoding;
 use decoder_rules::Letter;
 use decoder_rules::Piece;
+use decoder_scans::Set;
+use decoder_scans::basic_invalid;
+use decoder_scans::basic_unescaped;
+use decoder_scans::literal_chars;
+use decoder_scans::mlb_invalid;
+use decoder_scans::mlb_unescaped;
+use decoder_scans::mll_chars;
+use decoder_scans::peek;
+use decoder_scans::run_from;
+use decoder_scans::unquoted_chars;
 use std::num::wrapping_sub_u8;
 use text_classes::ESCAPE;
 use text_classes::is_wschar;
@@ -46,15 +49,6 @@ pub(crate) fn decode_literal_string(s: &[u8], at: usize) -> Piece
         return copy_piece(n);
     }
     bad_copy(1, DecodeError::LiteralInvalid, at, at)
-}
-
-// literal-char = %x09 / %x20-26 / %x28-7E / non-ascii
-pub(crate) fn literal_chars(s: &[u8]) -> usize
-    ensures { λ r. ⌜ r ≡ run literalChar (now (s .entry)) ⌝ }
-{
-    let wide = plain_blocks(Encoding::LiteralString, s, 0, 16);
-    let i = plain_blocks(Encoding::LiteralString, s, wide, 8);
-    plain_rest(Encoding::LiteralString, s, i)
 }
 
 // ml-literal-body = *mll-content *( mll-quotes 1*mll-content ) [ mll-quotes ]
@@ -75,15 +69,6 @@ pub(crate) fn decode_ml_literal_string(s: &[u8], at: usize) -> Piece
     bad_copy(1, DecodeError::MlLiteralInvalid, at, at)
 }
 
-// mll-char, with mll-quotes and LF
-pub(crate) fn mll_chars(s: &[u8]) -> usize
-    ensures { λ r. ⌜ r ≡ run mllPlain (now (s .entry)) ⌝ }
-{
-    let wide = plain_blocks(Encoding::MlLiteralString, s, 0, 16);
-    let i = plain_blocks(Encoding::MlLiteralString, s, wide, 8);
-    plain_rest(Encoding::MlLiteralString, s, i)
-}
-
 // basic-char = basic-unescaped / escaped
 pub(crate) fn decode_basic_string(v: Edition, s: &[u8], at: usize) -> Piece
     requires { ⌜ (0 < length (now s)) × (at + length (now s) < 2 ^ 64) ⌝ }
@@ -98,21 +83,6 @@ pub(crate) fn decode_basic_string(v: Edition, s: &[u8], at: usize) -> Piece
     }
     let k = basic_invalid(s);
     bad_copy(k, DecodeError::BasicInvalid, at, at + k)
-}
-
-// basic-unescaped = wschar / %x21 / %x23-5B / %x5D-7E / non-ascii
-pub(crate) fn basic_unescaped(v: Edition, s: &[u8]) -> usize
-    ensures { λ r. ⌜ r ≡ run basicUnescaped (now (s .entry)) ⌝ }
-{
-    let wide = plain_blocks(Encoding::BasicString(v), s, 0, 16);
-    let i = plain_blocks(Encoding::BasicString(v), s, wide, 8);
-    plain_rest(Encoding::BasicString(v), s, i)
-}
-
-fn basic_invalid(s: &[u8]) -> usize
-    ensures { λ r. ⌜ r ≡ run basicInvalid (now (s .entry)) ⌝ }
-{
-    run_from(Set::BasicInvalid, s, 0)
 }
 
 // An escape that stands for a character: how many bytes it has, its backslash among them, and the character. No bytes
@@ -388,21 +358,6 @@ fn mlb_escaped_more(s: &[u8], at: usize) -> Piece
     drop_piece(1)
 }
 
-// mlb-unescaped, with mlb-quotes and LF
-pub(crate) fn mlb_unescaped(v: Edition, s: &[u8]) -> usize
-    ensures { λ r. ⌜ r ≡ run mlbPlain (now (s .entry)) ⌝ }
-{
-    let wide = plain_blocks(Encoding::MlBasicString(v), s, 0, 16);
-    let i = plain_blocks(Encoding::MlBasicString(v), s, wide, 8);
-    plain_rest(Encoding::MlBasicString(v), s, i)
-}
-
-fn mlb_invalid(s: &[u8]) -> usize
-    ensures { λ r. ⌜ r ≡ run mlbInvalid (now (s .entry)) ⌝ }
-{
-    run_from(Set::MlbInvalid, s, 0)
-}
-
 // unquoted-key = 1*( ALPHA / DIGIT / %x2D / %x5F ) ; A-Z / a-z / 0-9 / - / _
 pub(crate) fn decode_unquoted_key(s: &[u8], at: usize) -> Piece
     requires { ⌜ 0 < length (now s) ⌝ }
@@ -413,11 +368,4 @@ pub(crate) fn decode_unquoted_key(s: &[u8], at: usize) -> Piece
         return copy_piece(n);
     }
     bad_copy(1, DecodeError::KeyInvalid, at, at)
-}
-
-// ALPHA / DIGIT / %x2D / %x5F
-pub(crate) fn unquoted_chars(s: &[u8]) -> usize
-    ensures { λ r. ⌜ r ≡ run unquotedChar (now (s .entry)) ⌝ }
-{
-    plain_rest(Encoding::UnquotedKey, s, 0)
 }

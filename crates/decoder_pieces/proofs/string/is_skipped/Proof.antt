@@ -8,7 +8,7 @@ use borrow.Author.Needs.{needs}
 use Rattle.text_classes.specs.Classes.{wschar}
 use Rattle.text_classes.proofs.ByteTable.{keys-are}
 use Rattle.decoder_rules.specs.Bodies.{skips}
-use Rattle.decoder_pieces.proofs.ScanLaws.{skips-only}
+use Rattle.decoder_scans.proofs.ScanLaws.{skips-only}
 use Rattle.decoder_pieces.proofs.string.is_skipped.Statement.{statement}
 use Rattle.decoder_pieces.proofs.string.is_skipped.Tie as tie
 

@@ -1,0 +1,20 @@
+-- `peek` is right because a list has the default past its end.
+-- Assumes nothing.
+use mathlib.Core.Path.{sym}
+use native.Mathlib.Omega.{arith}
+use borrow.Author.Needs.{needs}
+use lib.ListN.{List·getD-eq-default}
+use Rattle.decoder_scans.proofs.peek.Statement.{statement}
+use Rattle.decoder_scans.proofs.peek.Tie as tie
+
+shared-slice-read-result : tie.Need-shared-slice-read-result
+shared-slice-read-result c = search needs
+
+returns : tie.Need-returns
+returns c = search needs
+
+returns-2 : tie.Need-returns-2
+returns-2 c = sym (List·getD-eq-default (c .before .args .s .now) 0 (omega arith))
+
+pub peek-spec : {M : Type 1} → statement M
+peek-spec = tie.close (tie.spec shared-slice-read-result returns returns-2)
