@@ -40,6 +40,12 @@ pub galoxumi-decode-in :
     OneOutcome promised.galoxumi_decode_in.Reads.Learnt (λ κs r s. r and now (s .1 .1 .1 .0) and now (s .1 .1 .1 .1 .0))
 galoxumi-decode-in κs a x y s t p q = both (p .0 ∙ sym (q .0)) (both (p .1 .0 ∙ sym (q .1 .0)) (p .1 .1 ∙ sym (q .1 .1)))
 
+pub galoxumi-open-text : OneAnswer promised.galoxumi_open_text.Reads.Learnt
+galoxumi-open-text κs a x y s t p q = p ∙ sym q
+
+pub galoxumi-piece : OneAnswer promised.galoxumi_piece.Reads.Learnt
+galoxumi-piece κs a x y s t p q = p ∙ sym q
+
 pub galoxumi-description : OneAnswer promised.galoxumi_description.Reads.Learnt
 galoxumi-description κs a x y s t p q = p ∙ sym q
 

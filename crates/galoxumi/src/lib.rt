@@ -12,6 +12,7 @@ ghost use Rattle.lexer.specs.Steps.{startAnswer, stepOf, cursorOf};
 ghost use Rattle.lexer.specs.Whole.{lexAnswer, lexMemory};
 ghost use Rattle.lexer_place.specs.Spans.{spanAnswer, spanText};
 ghost use Rattle.lexer_place.specs.Positions.{positionAnswer};
+ghost use Rattle.decoder_rules.specs.Encodings.{choiceBy};
 ghost use Rattle.decoder_words.specs.Words.{errorWords};
 ghost use Rattle.built_broken.specs.Broken.{brokenAnswer};
 ghost use Rattle.built_review.specs.Review.{markAnswer, tickedMarks, untickedMarks, readAnswer, countAnswer};
@@ -20,6 +21,7 @@ ghost use Rattle.built_figures.specs.Figures.{tallied};
 ghost use Rattle.library_numbers.specs.Numbers.{flag, checkNumbers, startNumbers, stepNumbers, lexNumbers, spanNumbers, partOf, partText};
 ghost use Rattle.library_numbers.specs.Numbers.{positionNumbers, decodeAnswer, outputAfter, errorsAfter};
 ghost use Rattle.library_numbers.specs.Numbers.{describedNumbers, encodedNumbers, wordsNumbers};
+ghost use Rattle.library_pieces.specs.Numbers.{openNumbers, bodyOf, stepNumbers as pieceNumbers};
 ghost use Rattle.library_built.specs.Numbers.{writeNumbers, writtenBytes, markNumbers, readNumbers, countNumbers, ValueTold};
 ghost use Rattle.library_built.specs.Numbers.{brokenNumbers, tallyNumbers, mendAnswer, mendedBytes, mendedList};
 use built_figures::Totals;
@@ -38,6 +40,8 @@ use library_numbers::PositionNumbers;
 use library_numbers::StartNumbers;
 use library_numbers::StepNumbers;
 use library_numbers::WordsNumbers;
+use library_pieces::OpenNumbers;
+use library_pieces::PieceNumbers;
 
 #[no_mangle]
 pub extern "C" fn galoxumi_check_utf8(doc: &[u8]) -> AnswerNumbers
@@ -128,6 +132,29 @@ pub extern "C" fn galoxumi_decode_in(
         ≡ errorsAfter (now (text .entry)) edition kind (now (output .entry)) (now (errors .entry)) ⌝ }
 {
     library_numbers::decoded(decoder::decode_in(text, edition, kind, output, errors))
+}
+
+// A text opened as the kind and the edition that two numbers name: what is wrong with its marks, and its body.
+#[no_mangle]
+pub extern "C" fn galoxumi_open_text(text: &[u8], edition: usize, kind: usize) -> OpenNumbers
+    ensures { λ r. ⌜ r ≡ openNumbers (choiceBy edition kind) (now (text .entry)) ⌝ }
+{
+    library_pieces::open_in(edition, kind, text)
+}
+
+// The first piece of a body, which the caller may make of any numbers, and the body after it.
+#[no_mangle]
+pub extern "C" fn galoxumi_piece(
+    text: &[u8],
+    edition: usize,
+    kind: usize,
+    at: usize,
+    end: usize,
+    dropping: usize,
+) -> PieceNumbers
+    ensures { λ r. ⌜ r ≡ pieceNumbers (choiceBy edition kind) (now (text .entry)) (bodyOf at end (flag dropping)) ⌝ }
+{
+    library_pieces::step_in(edition, kind, text, at, end, dropping)
 }
 
 #[no_mangle]

@@ -46,3 +46,6 @@ encoded κs a x y s t p q = p ∙ sym q
 
 pub worded : OneAnswer promised.worded.Reads.Learnt
 worded κs a x y s t p q = p ∙ sym q
+
+pub bit : OneAnswer promised.bit.Reads.Learnt
+bit κs a x y s t p q = p ∙ sym q

@@ -346,7 +346,7 @@ fn part_from(start: usize, end: usize) -> PartNumbers
 }
 
 // A flag as a number: 1 for true, 0 for false.
-fn bit(b: bool) -> usize
+pub fn bit(b: bool) -> usize
     ensures { λ r. ⌜ r ≡ bitOf b ⌝ }
 {
     if b { 1 } else { 0 }
