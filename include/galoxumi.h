@@ -209,6 +209,50 @@ galoxumi_decoded galoxumi_decode(const uint8_t *text, size_t text_len, size_t ki
 galoxumi_decoded galoxumi_decode_in(const uint8_t *text, size_t text_len, size_t edition, size_t kind, uint8_t *output,
                                     size_t output_len, galoxumi_error *errors, size_t errors_len);
 
+/* What is still to be read of a text's body: its bytes from at to end, as far as the text has them. dropping is 1 within a
+ * line-ending escape, which drops blanks, else 0; as an argument anything but 0 is taken for 1. */
+typedef struct {
+    size_t at;
+    size_t end;
+    size_t dropping;
+} galoxumi_body;
+
+/* A text opened, to be decoded piece by piece without lent memory: what is wrong with its opening mark and with its closing
+ * one (number 0 where nothing is), and the body between them. Neither UTF-8 nor the length is tested: galoxumi_check_utf8
+ * does that. Read to the end by galoxumi_piece, what the pieces give is what galoxumi_decode_in writes, and their errors,
+ * after those of the marks, are its errors. Refusals 7, 9. */
+typedef struct {
+    galoxumi_answer answer;
+    galoxumi_error opening;
+    galoxumi_error closing;
+    galoxumi_body body;
+} galoxumi_opened;
+
+galoxumi_opened galoxumi_open_text(const uint8_t *text, size_t text_len, size_t edition, size_t kind);
+
+/* What a piece gives: nothing, the bytes of the text that it takes, or a character. */
+enum galoxumi_given {
+    GALOXUMI_GIVES_NOTHING = 0,
+    GALOXUMI_GIVES_BYTES = 1,
+    GALOXUMI_GIVES_CHARACTER = 2
+};
+
+/* The first piece of a body, which may be made of any numbers, and the body after it: the piece takes the `take` bytes of the
+ * text from at on; scalar is the character that it gives, 0 where it gives none; error's number is 0 where there is none.
+ * found is 0 where no byte is left, and with it all that follows it. Refusals 7, 9. */
+typedef struct {
+    galoxumi_answer answer;
+    size_t found;
+    size_t take;
+    size_t given;
+    size_t scalar;
+    galoxumi_error error;
+    galoxumi_body body;
+} galoxumi_pieced;
+
+galoxumi_pieced galoxumi_piece(const uint8_t *text, size_t text_len, size_t edition, size_t kind, size_t at, size_t end,
+                               size_t dropping);
+
 /* The shortest text that TOML 1.0.0 reads as a literal or basic string with the value, into output from its front; the
  * rest keeps its contents. It is the literal string where there is one: where the value has no apostrophe and, tabs apart,
  * no control byte (00 to 1F and 7F). In the basic string a quotation mark, a backslash, 08, 0A, 0C and 0D are written as a

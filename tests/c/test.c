@@ -277,6 +277,51 @@ static void places(void)
     EXPECT(is_position(galoxumi_position(BYTES("a\nb"), 4), 6, 3, 0, 0));
 }
 
+/* ---- decoding piece by piece */
+
+static int is_body(galoxumi_body b, size_t at, size_t end, size_t dropping)
+{
+    return b.at == at && b.end == end && b.dropping == dropping;
+}
+
+/* A piece: how many bytes it takes, what it gives, the number of its error, and the body after it. */
+static int is_piece(galoxumi_pieced p, size_t take, size_t given, size_t scalar, size_t error, size_t at, size_t end,
+                    size_t dropping)
+{
+    return answers(p.answer, 0, 0) && p.found == 1 && p.take == take && p.given == given && p.scalar == scalar
+           && p.error.number == error && is_body(p.body, at, end, dropping);
+}
+
+static void pieces(void)
+{
+    FROM("crates/decoder_rules/specs/Marks.antt, of a text with both marks and of one without the last");
+    galoxumi_opened o = galoxumi_open_text(BYTES("\"a\\n\""), 10, 34);
+    EXPECT(answers(o.answer, 0, 0) && is_error(o.opening, 0, 0, 0) && is_error(o.closing, 0, 0, 0));
+    EXPECT(is_body(o.body, 1, 4, 0));
+    o = galoxumi_open_text(BYTES("\"a"), 10, 34);
+    EXPECT(is_error(o.opening, 0, 0, 0) && is_error(o.closing, 6, 2, 2) && is_body(o.body, 1, 2, 0));
+    FROM("docs/RULES.md, the refusals: 7 before 9");
+    o = galoxumi_open_text(BYTES("a"), 12, 5);
+    EXPECT(answers(o.answer, 7, 5) && is_body(o.body, 0, 0, 0));
+    EXPECT(answers(galoxumi_open_text(BYTES("a"), 12, 34).answer, 9, 12));
+    EXPECT(answers(galoxumi_piece(BYTES("a"), 10, 5, 0, 1, 0).answer, 7, 5));
+    EXPECT(answers(galoxumi_piece(BYTES("a"), 12, 34, 0, 1, 0).answer, 9, 12));
+    FROM("crates/decoder_rules/specs/Bodies.antt and Escapes.antt");
+    EXPECT(is_piece(galoxumi_piece(BYTES("\"a\\n\""), 10, 34, 1, 4, 0), 1, GALOXUMI_GIVES_BYTES, 0, 0, 2, 4, 0));
+    EXPECT(is_piece(galoxumi_piece(BYTES("\"a\\n\""), 10, 34, 2, 4, 0), 2, GALOXUMI_GIVES_CHARACTER, 10, 0, 4, 4, 0));
+    EXPECT(galoxumi_piece(BYTES("\"a\\n\""), 10, 34, 4, 4, 0).found == 0);
+    EXPECT(is_piece(galoxumi_piece(BYTES("\\e"), 10, 34, 0, 2, 0), 1, GALOXUMI_GIVES_CHARACTER, 0x5C, 8, 1, 2, 0));
+    EXPECT(is_piece(galoxumi_piece(BYTES("\\e"), 11, 34, 0, 2, 0), 2, GALOXUMI_GIVES_CHARACTER, 0x1B, 0, 2, 2, 0));
+    EXPECT(is_piece(galoxumi_piece(BYTES("\\\n x"), 10, 2, 0, 4, 0), 2, GALOXUMI_GIVES_NOTHING, 0, 0, 2, 4, 1));
+    EXPECT(is_piece(galoxumi_piece(BYTES("\\\n x"), 10, 2, 2, 4, 7), 1, GALOXUMI_GIVES_NOTHING, 0, 0, 3, 4, 1));
+    EXPECT(is_piece(galoxumi_piece(BYTES("\\\n x"), 10, 2, 3, 4, 1), 1, GALOXUMI_GIVES_BYTES, 0, 0, 4, 4, 0));
+    FROM("crates/decoder_pieces/specs/Steps.antt, of bodies made by hand");
+    EXPECT(is_piece(galoxumi_piece(BYTES("ab"), 10, 34, 1, SIZE_MAX, 0), 1, GALOXUMI_GIVES_BYTES, 0, 0, 2, SIZE_MAX, 0));
+    EXPECT(galoxumi_piece(BYTES("ab"), 10, 34, SIZE_MAX, SIZE_MAX, 0).found == 0);
+    EXPECT(galoxumi_piece(BYTES("ab"), 10, 34, 2, 1, 0).found == 0);
+    EXPECT(galoxumi_piece(NULL, 0, 10, 34, 0, 1, 0).found == 0);
+}
+
 static int is_described(galoxumi_described d, const char *words)
 {
     uint8_t padded[25] = {0};
@@ -927,6 +972,7 @@ int main(void)
     RUN(header);
     RUN(writing);
     RUN(places);
+    RUN(pieces);
     RUN(kinds);
     RUN(words_of_errors);
     RUN(editions);

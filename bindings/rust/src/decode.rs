@@ -5,7 +5,7 @@ use crate::{ffi, Edition, Encoding, ErrorRecord, ParseError, Refusal, Span};
 use alloc::{string::String, vec, vec::Vec};
 
 /// The number of the kind by which a key without quotes is decoded.
-const KEY: usize = 3;
+pub(crate) const KEY: usize = 3;
 
 /// What a text decodes to.
 #[cfg(feature = "alloc")]

@@ -107,6 +107,33 @@ pub(crate) struct Broken {
     pub error: [usize; 3],
 }
 
+#[derive(Copy, Clone)]
+#[repr(C)]
+pub(crate) struct Body {
+    pub at: usize,
+    pub end: usize,
+    pub dropping: usize,
+}
+
+#[repr(C)]
+pub(crate) struct Opened {
+    pub answer: Answer,
+    pub opening: [usize; 3],
+    pub closing: [usize; 3],
+    pub body: Body,
+}
+
+#[repr(C)]
+pub(crate) struct Pieced {
+    pub answer: Answer,
+    pub found: usize,
+    pub take: usize,
+    pub given: usize,
+    pub scalar: usize,
+    pub error: [usize; 3],
+    pub body: Body,
+}
+
 mod archive {
     use super::*;
 
@@ -128,6 +155,16 @@ mod archive {
             errors: *mut [usize; 3],
             errors_len: usize,
         ) -> Decoded;
+        pub fn galoxumi_open_text(text: *const u8, len: usize, edition: usize, kind: usize) -> Opened;
+        pub fn galoxumi_piece(
+            text: *const u8,
+            len: usize,
+            edition: usize,
+            kind: usize,
+            at: usize,
+            end: usize,
+            dropping: usize,
+        ) -> Pieced;
         pub fn galoxumi_put_right_in(
             doc: *const u8,
             len: usize,
@@ -196,6 +233,14 @@ pub(crate) fn start(doc: &[u8]) -> Started {
 
 pub(crate) fn step(doc: &[u8], place: usize, ended: bool, line: usize) -> Stepped {
     unsafe { archive::galoxumi_step(doc.as_ptr(), doc.len(), place, ended.into(), line) }
+}
+
+pub(crate) fn open_text(text: &[u8], edition: usize, kind: usize) -> Opened {
+    unsafe { archive::galoxumi_open_text(text.as_ptr(), text.len(), edition, kind) }
+}
+
+pub(crate) fn piece(text: &[u8], edition: usize, kind: usize, body: Body) -> Pieced {
+    unsafe { archive::galoxumi_piece(text.as_ptr(), text.len(), edition, kind, body.at, body.end, body.dropping) }
 }
 
 /// Writes tokens where records are written: both are the same four numbers, and `lex` writes only numbers of kinds.

@@ -19,7 +19,7 @@
 //! ```
 //!
 //! The crate is `no_std`. Without its feature `alloc`, which is on by default, the calls that answer in vectors and strings
-//! are not there, and those that end in `_into`, [`Lexer`] and [`Places`] do all of it in lent memory.
+//! are not there, and those that end in `_into`, [`Lexer`], [`Pieces`] and [`Places`] do all of it in lent memory or in none.
 #![no_std]
 #![deny(missing_docs)]
 
@@ -35,6 +35,7 @@ mod ffi;
 mod figures;
 mod lexing;
 mod mending;
+mod pieces;
 mod place;
 mod refusal;
 mod review;
@@ -56,6 +57,7 @@ pub use lexing::{lex_into, Lexer};
 #[cfg(feature = "alloc")]
 pub use mending::{put_right, Mended};
 pub use mending::{put_right_into, BrokenRecord, LentMended};
+pub use pieces::{key_pieces, pieces, Given, Piece, Pieces};
 pub use place::{check_span, position, text, Places, Position};
 pub use refusal::{Refusal, Sought};
 pub use review::{is_ticked, tick, ticks, untick, Reviewer};

@@ -516,3 +516,57 @@ fn figures_over_documents() {
     assert_eq!(totals.tokens(TokenKind::Dot), MOST_TALLIED as u64);
     assert_eq!(Untallied::TooLong.to_string(), "refused 2: more than 65536 bytes");
 }
+
+/// What the pieces of a text give, joined, and the errors of its marks and pieces.
+fn joined(pieces: Pieces) -> (Vec<u8>, Vec<ParseError>) {
+    let mut given = Vec::new();
+    let mut errors: Vec<ParseError> = pieces.opening().into_iter().chain(pieces.closing()).collect();
+    for piece in pieces {
+        match piece.given {
+            Given::Bytes(bytes) => given.extend_from_slice(bytes),
+            Given::Char(c) => given.extend_from_slice(c.encode_utf8(&mut [0; 4]).as_bytes()),
+            Given::Nothing => {}
+        }
+        errors.extend(piece.error);
+    }
+    (given, errors)
+}
+
+#[test]
+fn pieces_give_what_a_decode_gives() {
+    const PARTS: [&str; 11] = ["\"", "'", "\\", "n", "e", "u0041", "\r", "\n", " ", "\u{e9}", "\u{1}"];
+    let kinds = [Encoding::LiteralString, Encoding::BasicString, Encoding::MlLiteralString, Encoding::MlBasicString];
+    let mut asked = 0;
+    for i in 0..PARTS.len().pow(4) {
+        let text: String = (0..4).map(|k| PARTS[i / PARTS.len().pow(k) % PARTS.len()]).collect();
+        for mark in ["", "\"", "'", "\"\"\"", "'''"] {
+            let text = format!("{mark}{text}{mark}");
+            for edition in [Edition::Toml10, Edition::Toml11] {
+                for kind in kinds {
+                    let decoded = decode_in(text.as_bytes(), kind, edition).expect("decoded");
+                    let (given, errors) = joined(pieces(text.as_bytes(), kind, edition));
+                    assert_eq!((given, errors), (decoded.text.into_bytes(), decoded.errors), "{text:?} as {kind:?}, {edition:?}");
+                    asked += 1;
+                }
+            }
+            let decoded = decode_key(text.as_bytes()).expect("decoded");
+            assert_eq!(joined(key_pieces(text.as_bytes())), (decoded.text.into_bytes(), decoded.errors), "{text:?} as a key");
+        }
+    }
+    assert_eq!(asked, 585_640);
+}
+
+#[test]
+fn pieces_tell_their_places() {
+    let text = b"\"a\\qb";
+    let all = pieces(text, Encoding::BasicString, Edition::Toml10);
+    assert_eq!(all.opening(), None);
+    assert_eq!(all.closing().map(|e| e.unexpected()), Some(Span::new(5, 5)));
+    let spans: Vec<Span> = all.map(|piece| piece.span).collect();
+    assert_eq!(spans, [Span::new(1, 2), Span::new(2, 3), Span::new(3, 5)]);
+    let wrong: Vec<Span> = all.filter_map(|piece| piece.error).map(|e| e.unexpected()).collect();
+    assert_eq!(wrong, [Span::new(3, 3)]);
+    // the end stays the end
+    let mut none = pieces(b"''", Encoding::LiteralString, Edition::Toml10);
+    assert_eq!((none.next(), none.next()), (None, None));
+}
