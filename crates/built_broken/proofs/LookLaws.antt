@@ -1,6 +1,6 @@
 -- What the token at a place asks for, by its first byte.
 -- Assumes nothing.
-use Prim.Native.Nat.{ℕ, suc, _+_, _<_}
+use Prim.Native.Nat.{ℕ, suc, _+_, _-_, _≤_, _<_}
 use mathlib.Core.Path.{_≡_, refl, sym, ap, _∙_, subst}
 use mathlib.Core.Bool.{true, false}
 use mathlib.Core.Logic.{_⊎_, inl, inr, ⊎-elim}
@@ -8,10 +8,10 @@ use mathlib.Core.List.{List, [], _∷_}
 use native.Mathlib.Omega.{arith}
 use lib.Dec.{eqb}
 use lib.ListN.{length, getD, take, drop, length-drop}
-use lib.Seq.{getD-drop}
+use lib.Seq.{getD-drop, drop-drop}
 use Rattle.text_classes.specs.Classes.{wschar}
 use Rattle.text_classes.specs.Runs.{run}
-use Rattle.text_classes.proofs.RunLaws.{run-step}
+use Rattle.text_classes.proofs.RunLaws.{SameEnd, run-le, run-step, same-end-reached}
 use Rattle.text_scalars.specs.Utf8.{Utf8}
 use Rattle.lexer_token.specs.Encodings.{kindEncoding}
 use Rattle.lexer_token.specs.declared.TokenKind.{TokenKind}
@@ -25,6 +25,10 @@ use Rattle.decoder_rules.specs.declared.Edition.{Edition}
 use Rattle.decoder_rules.specs.declared.Encoding.{Encoding}
 use Rattle.decoder_rules.specs.declared.Choice.the-variants.{Known}
 use Rattle.decoder_rules.proofs.AsciiLaws.{front-one, front-add, front-low, wschar-low}
+use Rattle.lexer_comments.specs.Fronts.{Fronted}
+use Rattle.lexer_comments.proofs.FrontLaws.{run-behind, end-low, along-part, along-cut}
+use Rattle.text_characters.proofs.CharLaws.{along-ascii}
+use Rattle.text_scalars.specs.Utf8Read.{Along}
 use Rattle.built_broken.specs.Walk.{kindBehind, Looked}
 use Rattle.built_broken.specs.declared.look.Asks.the-variants.{Nothing, Characters, Decoding}
 use Rattle.built_broken.specs.declared.look.Look.{Look}
@@ -155,6 +159,35 @@ module _ (doc : List ℕ) (at : ℕ) (h : at < length doc) where
       let s = drop at doc in
       let all : run wschar (drop 0 s) ≡ suc (run wschar (drop 1 s)) = run-step wschar s 0 some (ap wschar first ∙ e) in
       front-low wschar wschar-low (suc (run wschar (drop 1 s))) s (omega (arith, all))
+
+  -- a comment up to the place r at which it ends, up to which whole characters stand: how long it is, and that it is UTF-8
+  pub comment-sized : (r : ℕ) → SameEnd (run inComment) doc (at + 1) r → run inComment (drop r doc) ≡ 0
+      → r ≡ at + suc (run inComment (drop 1 (drop at doc)))
+  comment-sized r same ends = rw (drop-drop 1 at doc) (omega (arith, same-end-reached inComment doc (at + 1) r ends same))
+
+  pub comment-front : (r : ℕ) → Byte 35 → Fronted doc (at + 1) r → run inComment (drop r doc) ≡ 0
+      → Utf8 (take (suc (run inComment (drop 1 (drop at doc)))) (drop at doc))
+  comment-front r is to ends =
+      let size = comment-sized r (to .same) ends in
+      let one = along-ascii doc at at h (omega arith) (omega arith, omega arith, refl) in
+      let all : Along doc at r = (omega (arith, to .along), omega (arith, to .along), omega (arith, one, to .along)) in
+      let long : r - at ≡ suc (run inComment (drop 1 (drop at doc))) = omega arith in
+      rw long at (along-cut doc at r all (end-low doc r ends))
+
+  pub rest-ends : (i e : ℕ) → e ≡ i + run inComment (drop i doc) → run inComment (drop e doc) ≡ 0
+  rest-ends i e is = rw is (run-behind inComment doc i)
+
+  pub rest-same : (i e : ℕ) → Fronted doc (at + 1) i → e ≡ i + run inComment (drop i doc) → SameEnd (run inComment) doc (at + 1) e
+  rest-same i e to is =
+      let within : e ≤ length doc = omega (arith, run-le inComment (drop i doc), length-drop i doc, to .along) in
+      (within, omega (arith, rest-ends i e is, to .same))
+
+  -- the same where its rest, from i on, was checked by itself
+  pub rest-on : (i e : ℕ) → Fronted doc (at + 1) i → e ≡ i + run inComment (drop i doc) → Utf8 (take (e - i) (drop i doc))
+      → Fronted doc (at + 1) e
+  rest-on i e to is u =
+      let within : e ≤ length doc = omega (arith, run-le inComment (drop i doc), length-drop i doc, to .along) in
+      record { along = along-part doc (at + 1) i e (omega arith) within u (to .along); same = rest-same i e to is }
 
   -- ---- what is asked, and where it ends
 

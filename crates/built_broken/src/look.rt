@@ -7,6 +7,8 @@ ghost use Rattle.decoder_rules.specs.declared.Edition.{Edition};
 ghost use Rattle.built_broken.specs.Walk.{Looked};
 use decoder_rules::Edition;
 use decoder_rules::Encoding;
+use lexer_comments::comment_front;
+use lexer_comments::is_comment_end;
 use lexer_scans::atom_run;
 use lexer_scans::basic_tail;
 use lexer_scans::comment_run;
@@ -15,6 +17,8 @@ use lexer_scans::ml_basic_tail;
 use lexer_scans::ml_literal_tail;
 use lexer_scans::wschar_run;
 use lexer_token::Span;
+use text::Utf8Check;
+use text::check_utf8;
 use text_classes::APOSTROPHE;
 use text_classes::COMMENT_START_SYMBOL;
 use text_classes::QUOTATION_MARK;
@@ -50,10 +54,27 @@ pub(crate) fn look_at(v: Edition, doc: &[u8], at: usize) -> Look
                 seen(Asks::Nothing, at + 1)
             }
         }
-        COMMENT_START_SYMBOL => seen(Asks::Characters, comment_run(doc, at + 1)),
+        COMMENT_START_SYMBOL => look_comment(doc, at),
         APOSTROPHE => look_literal(doc, at),
         QUOTATION_MARK => look_basic(v, doc, at),
         _ => seen(Asks::Characters, atom_run(doc, at + 1)),
+    }
+}
+
+// At a comment's sign: most comments are ASCII, and are found to be so where their end is looked for. Of any other the rest is
+// checked here, so that the bytes before are not gone over again; where it is not UTF-8, the token is asked for it as a whole.
+fn look_comment(doc: &[u8], at: usize) -> Look
+    requires { ⌜ (at < length (now doc)) × (getD (now doc) at 0 ≡ 35) ⌝ }
+    ensures { λ r. ⌜ ((v : Edition) → Looked v at (drop at (now (doc .entry))) r) ⌝ }
+{
+    let i = comment_front(doc, at + 1);
+    if is_comment_end(doc, i) {
+        return seen(Asks::Nothing, i);
+    }
+    let end = comment_run(doc, i);
+    match check_utf8(&doc[i..end]) {
+        Utf8Check::Valid => seen(Asks::Nothing, end),
+        Utf8Check::Refused(_) => seen(Asks::Characters, end),
     }
 }
 

@@ -10,9 +10,9 @@ use lib.Seq.{drop-drop}
 use Rattle.text_classes.specs.Classes.{wschar}
 use Rattle.text_classes.specs.Runs.{run}
 use Rattle.text_classes.proofs.RunLaws.{there}
-use Rattle.lexer_scans.specs.Extents.{inComment, inAtom}
+use Rattle.lexer_scans.specs.Extents.{inAtom}
 use Rattle.lexer_scans.proofs.MarkLaws.{stands-at}
-use Rattle.built_broken.proofs.LookLaws.{one-byte, blanks, cr-lf, cr-alone, comment, atom, one-front, two-front, blank-front, nothing, characters}
+use Rattle.built_broken.proofs.LookLaws.{one-byte, blanks, cr-lf, cr-alone, atom, one-front, two-front, blank-front, nothing, characters}
 use borrow.Author.Needs.{needs}
 use Rattle.built_broken.proofs.look.look_at.Statement.{statement}
 use Rattle.built_broken.proofs.look.look_at.Tie as tie
@@ -53,14 +53,8 @@ add-seen-3 c = search needs
 seen-requires-4 : tie.Need-seen-requires-4
 seen-requires-4 c κs = search needs
 
-add-comment-run : tie.Need-add-comment-run
-add-comment-run c = search needs
-
-comment-run-requires : tie.Need-comment-run-requires
-comment-run-requires c κs = search needs
-
-seen-requires-5 : tie.Need-seen-requires-5
-seen-requires-5 c κs = search needs
+look-comment-requires : tie.Need-look-comment-requires
+look-comment-requires c κs = (c .before .before .before .pre, c .match .keys4)
 
 look-literal-requires : tie.Need-look-literal-requires
 look-literal-requires c κs = (c .before .before .before .pre, c .match .keys5)
@@ -74,8 +68,8 @@ add-atom-run c = search needs
 atom-run-requires : tie.Need-atom-run-requires
 atom-run-requires c κs = search needs
 
-seen-requires-6 : tie.Need-seen-requires-6
-seen-requires-6 c κs = search needs
+seen-requires-5 : tie.Need-seen-requires-5
+seen-requires-5 c κs = search needs
 
 returns : tie.Need-returns
 returns c =
@@ -114,11 +108,7 @@ returns-4 c =
     nothing doc at h (c .before .before .before .before .before .before .args .v) (c .seen4 .result) 1 (cr-alone doc at h key other) (one-front doc at h (omega arith)) (c .seen4 .ensures .0) (c .seen4 .ensures .1)
 
 returns-5 : tie.Need-returns-5
-returns-5 c =
-    let doc = c .before .before .before .before .before .args .doc .now in
-    let at = c .before .before .before .before .before .args .at in
-    characters doc at (c .before .before .before .before .before .pre) (c .before .before .before .before .before .args .v) (c .seen5 .result) (suc (run inComment (drop 1 (drop at doc)))) (comment doc at (c .before .before .before .before .before .pre) (c .before .before .match .keys4))
-    (c .seen5 .ensures .0) (c .seen5 .ensures .1 ∙ c .before .comment-run .ensures ∙ simp drop-drop (omega arith))
+returns-5 c = c .look-comment .ensures (c .before .before .before .before .args .v)
 
 returns-6 : tie.Need-returns-6
 returns-6 c = c .look-literal .ensures (c .before .before .before .before .args .v)
@@ -132,8 +122,8 @@ returns-8 c =
     let at = c .before .before .before .before .before .args .at in
     let no = c .before .before .match .rest in
     let other = atom doc at (c .before .before .before .before .before .pre) (no .0 .0 .0 .0 .0 .1) (no .0 .0 .0 .0 .1) (no .0 .0 .0 .1) (no .0 .0 .1) (no .0 .1) (no .1) in
-    characters doc at (c .before .before .before .before .before .pre) (c .before .before .before .before .before .args .v) (c .seen6 .result) (suc (run inAtom (drop 1 (drop at doc)))) other
-    (c .seen6 .ensures .0) (c .seen6 .ensures .1 ∙ c .before .atom-run .ensures ∙ simp drop-drop (omega arith))
+    characters doc at (c .before .before .before .before .before .pre) (c .before .before .before .before .before .args .v) (c .seen5 .result) (suc (run inAtom (drop 1 (drop at doc)))) other
+    (c .seen5 .ensures .0) (c .seen5 .ensures .1 ∙ c .before .atom-run .ensures ∙ simp drop-drop (omega arith))
 
 pub look-at-spec : {M : Type 1} → statement M
 look-at-spec =
@@ -151,14 +141,12 @@ look-at-spec =
     seen-requires-3
     add-seen-3
     seen-requires-4
-    add-comment-run
-    comment-run-requires
-    seen-requires-5
+    look-comment-requires
     look-literal-requires
     look-basic-requires
     add-atom-run
     atom-run-requires
-    seen-requires-6
+    seen-requires-5
     returns
     returns-2
     returns-3
