@@ -2,7 +2,7 @@
 // `decoder_rules`.
 ghost use mathlib.Core.Path.{_≡_};
 ghost use mathlib.Core.Bool.{true};
-ghost use Prim.Native.Nat.{_+_, _/_, _≤_};
+ghost use Prim.Native.Nat.{_+_, _/_, _≤_, _<_};
 ghost use lib.ListN.{length};
 ghost use Rattle.text_refusals.specs.Refusals.{limit};
 ghost use Rattle.text.specs.Told.{checkFault};
@@ -15,9 +15,12 @@ ghost use Rattle.decoder_rules.proofs.PlainLaws.{Named, Plain, Copied};
 ghost use Rattle.decoder_marks.specs.Opening.{openedOf};
 ghost use Rattle.decoder_rules.proofs.KeyLaws.{KeyCopied};
 ghost use Rattle.decoder_rules.proofs.StoreLaws.{Stored};
+ghost use Rattle.decoder_short.specs.Letters.{ShortCopied};
 
+mod engine;
 mod write;
 
+use crate::engine::run_by;
 use crate::write::Counts;
 use crate::write::copy_in;
 use crate::write::count;
@@ -34,6 +37,7 @@ pub use decoder_rules::Decoded;
 use decoder_rules::Edition;
 use decoder_rules::Encoding;
 use decoder_scans::plain_run;
+use decoder_short::copy_short;
 use lexer_token::TokenKind;
 use text::Utf8Check;
 use text::check_utf8;
@@ -100,6 +104,35 @@ pub fn decode_in(
     decode_checked(text, edition, kind, output, errors)
 }
 
+// The same, where each byte of the body is looked up in the table of crate `table_classes`. No text is copied ahead of the
+// check, as these shortcuts test ranges.
+pub fn decode_by_table(
+    text: &[u8],
+    edition: usize,
+    kind: usize,
+    output: &mut [u8],
+    errors: &mut [[usize; 3]],
+) -> Decoded
+    ensures answer { λ r.
+        ⌜ r ≡ decodeIn (now (text .entry)) edition kind (length (now (output .entry))) (length (now (errors .entry))) ⌝ }
+    ensures output { λ r.
+        ⌜ now (output .exit) ≡ after r (bytesBy (choiceBy edition kind) (now (text .entry))) (now (output .entry)) ⌝ }
+    ensures records { λ r.
+        ⌜ now (errors .exit) ≡ after r (errorsBy (choiceBy edition kind) (now (text .entry))) (now (errors .entry)) ⌝ }
+    ensures number { λ r.
+        ⌜ decodedNumber r ≡ decodeRefusal (now (text .entry)) edition kind (length (now (output .entry))) (length (now (errors .entry))) ⌝ }
+    ensures value { λ r.
+        ⌜ decodedValue r ≡ decodeReturned (now (text .entry)) edition kind (length (now (output .entry))) (length (now (errors .entry))) ⌝ }
+    ensures noted { λ r.
+        ⌜ decodedErrors r ≡ decodeNoted (now (text .entry)) edition kind (length (now (output .entry))) (length (now (errors .entry))) ⌝ }
+    ensures length { λ r. ⌜ decodedLength r ≡ checkFault (now (text .entry)) ⌝ }
+{
+    match check_utf8(text) {
+        Utf8Check::Refused(r) => Decoded::Refused(r),
+        Utf8Check::Valid => decode_by(true, choice_by(edition, kind), text, output, errors),
+    }
+}
+
 // `copy_plain` where the number names an edition: editions differ in no text that it copies. Else nothing is copied.
 fn copy_named(edition: usize, kind: usize, text: &[u8], output: &mut [u8]) -> usize
     ensures { λ r.
@@ -120,7 +153,7 @@ fn is_edition(number: usize) -> bool
     }
 }
 
-// Any text: the check comes first.
+// Any text: the check comes first, but for a plain key and for a short string whose escapes are of one letter.
 fn decode_checked(
     text: &[u8],
     edition: usize,
@@ -144,10 +177,19 @@ fn decode_checked(
             };
         }
     }
+    if kind == TokenKind::BASIC_STRING {
+        let n = copy_escaped(edition, text, output);
+        if n < text.len() {
+            return Decoded::Written {
+                bytes: n,
+                errors: 0,
+            };
+        }
+    }
     let check = check_utf8(text);
     match check {
         Utf8Check::Refused(r) => Decoded::Refused(r),
-        Utf8Check::Valid => decode_by(choice_by(edition, kind), text, output, errors),
+        Utf8Check::Valid => decode_by(false, choice_by(edition, kind), text, output, errors),
     }
 }
 
@@ -172,7 +214,24 @@ fn copy_key(edition: usize, text: &[u8], output: &mut [u8]) -> usize
     copy_in(text, n, output, 0)
 }
 
-fn decode_by(choice: Choice, text: &[u8], output: &mut [u8], errors: &mut [[usize; 3]]) -> Decoded
+// `copy_short` where the number names an edition: editions differ in no text that it writes. Else nothing is written.
+fn copy_escaped(edition: usize, text: &[u8], output: &mut [u8]) -> usize
+    ensures { λ r.
+        ⌜ (r < length (now (text .entry)) → Named edition) × ShortCopied (now (text .entry)) (now (output .entry)) r (now (output .exit)) ⌝ }
+{
+    if !is_edition(edition) {
+        return text.len();
+    }
+    copy_short(text, output)
+}
+
+fn decode_by(
+    table: bool,
+    choice: Choice,
+    text: &[u8],
+    output: &mut [u8],
+    errors: &mut [[usize; 3]],
+) -> Decoded
     requires { ⌜ length (now text) ≤ limit ⌝ }
     ensures answer { λ r.
         ⌜ r ≡ decodedBy Valid choice (now (text .entry)) (length (now (output .entry))) (length (now (errors .entry))) ⌝ }
@@ -181,12 +240,18 @@ fn decode_by(choice: Choice, text: &[u8], output: &mut [u8], errors: &mut [[usiz
 {
     match choice {
         Choice::Unknown(r) => Decoded::Refused(r),
-        Choice::Known(e) => decode_as(e, text, output, errors),
+        Choice::Known(e) => decode_as(table, e, text, output, errors),
     }
 }
 
 // The counting pass is left out where the lent memory cannot be too short.
-fn decode_as(e: Encoding, text: &[u8], output: &mut [u8], errors: &mut [[usize; 3]]) -> Decoded
+fn decode_as(
+    table: bool,
+    e: Encoding,
+    text: &[u8],
+    output: &mut [u8],
+    errors: &mut [[usize; 3]],
+) -> Decoded
     requires { ⌜ length (now text) ≤ limit ⌝ }
     ensures answer { λ r.
         ⌜ r ≡ decodedBy Valid (Known e) (now (text .entry)) (length (now (output .entry))) (length (now (errors .entry))) ⌝ }
@@ -195,7 +260,7 @@ fn decode_as(e: Encoding, text: &[u8], output: &mut [u8], errors: &mut [[usize; 
 {
     let opened = open_text(e, text);
     if !is_roomy(text.len(), output.len(), errors.len()) {
-        let need = needed(e, opened, text);
+        let need = needed(table, e, opened, text);
         if output.len() < need.bytes {
             return Decoded::Refused(Refusal::ShortOutput { needed: need.bytes });
         }
@@ -205,7 +270,7 @@ fn decode_as(e: Encoding, text: &[u8], output: &mut [u8], errors: &mut [[usize; 
             });
         }
     }
-    let done = fill(e, opened, text, output, errors);
+    let done = fill(table, e, opened, text, output, errors);
     Decoded::Written {
         bytes: done.bytes,
         errors: done.errors,
@@ -224,14 +289,14 @@ fn is_roomy(n: usize, o: usize, m: usize) -> bool
 }
 
 // How many bytes and errors an opened text has.
-fn needed(e: Encoding, opened: Opened, text: &[u8]) -> Counts
+fn needed(table: bool, e: Encoding, opened: Opened, text: &[u8]) -> Counts
     requires { ⌜ (length (now text) ≤ limit) × (opened ≡ openedOf e (now text)) ⌝ }
     ensures bytes { λ r. ⌜ r .bytes ≡ length (bytesOf e (now (text .entry))) ⌝ }
     ensures errors { λ r. ⌜ r .errors ≡ length (errorsOf e (now (text .entry))) ⌝ }
 {
     let opening = opened.opening;
     let closing = opened.closing;
-    let c = count(e, opened.body, text);
+    let c = count(table, e, opened.body, text);
     Counts {
         bytes: c.bytes,
         errors: noted(opening) + (noted(closing) + c.errors),
@@ -241,6 +306,7 @@ fn needed(e: Encoding, opened: Opened, text: &[u8]) -> Counts
 // Writes them to the front of the lent memory. What stands for itself at the front of the body, which most often is all of it,
 // is copied at once.
 fn fill(
+    table: bool,
     e: Encoding,
     opened: Opened,
     text: &[u8],
@@ -263,7 +329,7 @@ fn fill(
     let end = body.end;
     let m = note(opening, errors, 0);
     let m2 = note(closing, errors, m);
-    let plain = plain_run(e, &text[at..end]);
+    let plain = run_by(table, e, &text[at..end]);
     let o = copy_in(&text[at..end], plain, output, 0);
-    write(e, past(body, plain), text, output, o, errors, m2)
+    write(table, e, past(body, plain), text, output, o, errors, m2)
 }

@@ -11,16 +11,16 @@ ghost use Rattle.decoder_rules.specs.Pieces.{gives, errorAt, notesOf, copyPiece
 ghost use Rattle.decoder_rules.proofs.Fine.{Encodable, FineAt};
 ghost use Rattle.decoder_rules.proofs.StoreLaws.{Stored};
 ghost use Rattle.decoder_pieces.specs.Steps.{bodyAfter, bytesLeft, errorsLeft};
-ghost use Rattle.decoder.specs.Few.{FewAt};
+use crate::engine::escape_by;
+use crate::engine::few_by;
+use crate::engine::step_by;
 use decoder_pieces::Body;
 use decoder_pieces::BodyStep;
-use decoder_pieces::escape_at;
 use decoder_rules::DecodeError;
 use decoder_rules::Encoding;
 use decoder_rules::Given;
 use decoder_rules::Piece;
 use decoder_rules::Verdict;
-use decoder_scans::plain_few;
 use text_scalars::encode;
 
 // How many bytes, and how many errors.
@@ -146,7 +146,7 @@ fn put_error(
 
 // How many bytes the pieces of the body `start` give, and how many errors they have. The loop's own test only spares the
 // last step, which would say the end.
-pub(crate) fn count(e: Encoding, start: Body, text: &[u8]) -> Counts
+pub(crate) fn count(table: bool, e: Encoding, start: Body, text: &[u8]) -> Counts
     requires { ⌜ length (now text) ≤ limit ⌝ }
     ensures { λ r.
         ⌜ (r .bytes ≡ length (bytesLeft e (now (text .entry)) start))
@@ -157,7 +157,7 @@ pub(crate) fn count(e: Encoding, start: Body, text: &[u8]) -> Counts
     let mut n = 0;
     let mut m = 0;
     while body.at < body.end {
-        match body.step(e, text) {
+        match step_by(table, body, e, text) {
             BodyStep::End => break,
             BodyStep::Piece(p, next) => {
                 let verdict = p.verdict;
@@ -176,6 +176,7 @@ pub(crate) fn count(e: Encoding, start: Body, text: &[u8]) -> Counts
 // Writes what they give to the output from o0 on, and their errors to the records from m0 on. A short run of bytes that
 // stand for themselves and an escape that stands for a character are the common pieces, and written without one being made.
 pub(crate) fn write(
+    table: bool,
     e: Encoding,
     start: Body,
     text: &[u8],
@@ -199,19 +200,19 @@ pub(crate) fn write(
         let at = body.at;
         let end = body.end;
         let s = &text[at..end];
-        let n = few_at(e, body.dropping, s);
+        let n = few_by(table, e, body.dropping, s);
         if 0 < n {
             o = copy_few(s, n, output, o);
             body = past(body, n);
             continue;
         }
-        let escape = escape_at(e, s);
+        let escape = escape_by(table, e, s);
         if 0 < escape.take {
             o = put_char(escape.char, output, o);
             body = past(body, escape.take);
             continue;
         }
-        match body.step(e, text) {
+        match step_by(table, body, e, text) {
             BodyStep::End => break,
             BodyStep::Piece(p, next) => {
                 let verdict = p.verdict;
@@ -237,15 +238,4 @@ pub(crate) fn past(body: Body, n: usize) -> Body
         end: body.end,
         dropping: false,
     }
-}
-
-// How many bytes at the front of s are a run that stands for itself, where it is shorter than eight; 0 for any other piece.
-fn few_at(e: Encoding, dropping: bool, s: &[u8]) -> usize
-    ensures { λ r. ⌜ (0 < r → FewAt e dropping (now (s .entry)) r) ⌝ }
-{
-    if dropping {
-        return 0;
-    }
-    let n = plain_few(e, s);
-    if n < 8 { n } else { 0 }
 }

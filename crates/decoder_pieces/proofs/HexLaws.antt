@@ -33,7 +33,7 @@ value-test : (b : ℕ) → b < 0x80 → true ≡ (not (hexdig b) || ltb (hexValu
 unfolding hexdig hexValue
 value-test b h = class-is true (λ b. not (hexdig b) || ltb (hexValue b) 16) 0 0x80 tt b (omega arith) h
 
-value-small : (b : ℕ) → hexdig b ≡ true → hexValue b < 16
+pub value-small : (b : ℕ) → hexdig b ≡ true → hexValue b < 16
 value-small b e = ltb-true _ _ (sym (rw e at (value-test b (hexdig-low b e))))
 
 -- what `hex_value` says of a byte tells whether it is a digit

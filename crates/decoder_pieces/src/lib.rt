@@ -6,7 +6,6 @@ ghost use lib.ListN.{length};
 ghost use Rattle.decoder_rules.specs.Bodies.{pieceOf};
 
 mod body;
-mod piece;
 mod string;
 
 pub use crate::body::Body;

@@ -7,3 +7,21 @@ use Rattle.decoder_rules.proofs as promised
 
 pub number : OneAnswer promised.DecodeError.number.Reads.Learnt
 number κs a x y s t p q = p ∙ sym q
+
+pub copy-piece : OneAnswer promised.making.copy_piece.Reads.Learnt
+copy-piece κs a x y s t p q = p ∙ sym q
+
+pub bad-copy : OneAnswer promised.making.bad_copy.Reads.Learnt
+bad-copy κs a x y s t p q = p ∙ sym q
+
+pub char-piece : OneAnswer promised.making.char_piece.Reads.Learnt
+char-piece κs a x y s t p q = p ∙ sym q
+
+pub bad-char : OneAnswer promised.making.bad_char.Reads.Learnt
+bad-char κs a x y s t p q = p ∙ sym q
+
+pub drop-piece : OneAnswer promised.making.drop_piece.Reads.Learnt
+drop-piece κs a x y s t p q = p ∙ sym q
+
+pub bad-drop : OneAnswer promised.making.bad_drop.Reads.Learnt
+bad-drop κs a x y s t p q = p ∙ sym q

@@ -1,10 +1,19 @@
 // What the decoders speak of: the five encodings, the errors of decoding, the pieces of a body, the
-// ends of a text, and the call's answer. These types are the rules' own as well as the code's; the one
-// function here says an error's number.
+// ends of a text, and the call's answer. These types are the rules' own as well as the code's; the
+// functions here say an error's number, and make pieces (making.rt).
 // Rules: specs/Encodings.antt, Pieces.antt, Escapes.antt, Bodies.antt, Marks.antt,
 // Decoding.antt.
 ghost use mathlib.Core.Path.{_≡_};
 ghost use Rattle.decoder_rules.specs.Pieces.{errorNumber};
+
+mod making;
+
+pub use crate::making::bad_char;
+pub use crate::making::bad_copy;
+pub use crate::making::bad_drop;
+pub use crate::making::char_piece;
+pub use crate::making::copy_piece;
+pub use crate::making::drop_piece;
 use text_refusals::Refusal;
 
 // The edition of TOML that a basic string is written in: 1.0 or 1.1.

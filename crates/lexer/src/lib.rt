@@ -1,6 +1,7 @@
-// The lexer: a document's tokens one at a time, by a cursor, or all at once, into lent records.
-// Rules: specs/Lines.antt, Table.antt, Tokens.antt, Steps.antt, Whole.antt.
+// The lexer: a document's tokens one at a time, by a cursor, or all at once, into lent records; by either of two engines, which
+// differ in how they read a token's bytes and in nothing else. Rules: specs/Lines.antt, Table.antt, Tokens.antt, Steps.antt, Whole.antt.
 mod lines;
+mod table;
 
 ghost use mathlib.Core.Path.{_≡_};
 ghost use Prim.Native.Nat.{_+_, _≤_, _<_};
@@ -19,6 +20,7 @@ use lexer_token::Record;
 use lexer_token::Span;
 use lexer_token::Token;
 use lexer_token::TokenKind;
+use table_classes::Engine;
 use text::Utf8Check;
 use text_classes::APOSTROPHE;
 use text_classes::COMMENT_START_SYMBOL;
@@ -101,6 +103,40 @@ impl Cursor {
         let end = token.span.end;
         Step::Token(token, cursor_of(end, next.line, ended))
     }
+
+    // The same by either engine.
+    pub fn step_by(self, engine: Engine, doc: &[u8]) -> Step
+        ensures answer { λ r. ⌜ r ≡ stepOf (now (doc .entry)) self ⌝ }
+        ensures number { λ r. ⌜ stepNumber r ≡ stepRefusal (now (doc .entry)) self ⌝ }
+        ensures value { λ r. ⌜ stepValue r ≡ stepReturned (now (doc .entry)) self ⌝ }
+    {
+        match engine {
+            Engine::Ranges => self.step(doc),
+            Engine::Table => self.table_step(doc),
+        }
+    }
+
+    // By the table. Bytes are read only where a token begins at the cursor; what else there is, refusals and the end, is `step`'s.
+    fn table_step(self, doc: &[u8]) -> Step
+        ensures answer { λ r. ⌜ r ≡ stepOf (now (doc .entry)) self ⌝ }
+        ensures number { λ r. ⌜ stepNumber r ≡ stepRefusal (now (doc .entry)) self ⌝ }
+        ensures value { λ r. ⌜ stepValue r ≡ stepReturned (now (doc .entry)) self ⌝ }
+    {
+        let place = self.place;
+        if LIMIT < doc.len() {
+            return self.step(doc);
+        }
+        if doc.len() <= place {
+            return self.step(doc);
+        }
+        if place + 1 < self.line {
+            return self.step(doc);
+        }
+        let next = table::table_token(doc, place, self.line);
+        let token = next.token;
+        let end = token.span.end;
+        Step::Token(token, cursor_of(end, next.line, self.ended))
+    }
 }
 
 fn cursor_of(place: usize, line: usize, ended: bool) -> Cursor
@@ -117,22 +153,33 @@ pub fn lex(doc: &[u8], records: &mut [Record]) -> Lexed
     ensures length { λ r. ⌜ lexedLength r ≡ checkFault (now (doc .entry)) ⌝ }
     ensures memory { λ _. ⌜ now (records .exit) ≡ lexMemory (now (doc .entry)) (now (records .entry)) ⌝ }
 {
+    lex_by(Engine::Ranges, doc, records)
+}
+
+// The same by either engine.
+pub fn lex_by(engine: Engine, doc: &[u8], records: &mut [Record]) -> Lexed
+    ensures answer { λ r. ⌜ r ≡ lexAnswer (now (doc .entry)) (length (now (records .entry))) ⌝ }
+    ensures number { λ r. ⌜ lexedNumber r ≡ lexRefusal (now (doc .entry)) (length (now (records .entry))) ⌝ }
+    ensures value { λ r. ⌜ lexedValue r ≡ lexReturned (now (doc .entry)) ⌝ }
+    ensures length { λ r. ⌜ lexedLength r ≡ checkFault (now (doc .entry)) ⌝ }
+    ensures memory { λ _. ⌜ now (records .exit) ≡ lexMemory (now (doc .entry)) (now (records .entry)) ⌝ }
+{
     if let Utf8Check::Refused(refusal) = text::check_utf8(doc) {
         return Lexed::Refused(refusal);
     }
     // No document has more tokens than bytes and one: so many records need no counting.
     if doc.len() < records.len() {
-        return Lexed::Tokens(fill(doc, records));
+        return Lexed::Tokens(fill(engine, doc, records));
     }
-    let needed = count(doc);
+    let needed = count(engine, doc);
     if records.len() < needed {
         return Lexed::Refused(Refusal::FewTokens { needed });
     }
-    Lexed::Tokens(fill(doc, records))
+    Lexed::Tokens(fill(engine, doc, records))
 }
 
 // How many tokens the document has, Eof counted: in parts of 64 bytes, whose records are let go.
-fn count(doc: &[u8]) -> usize
+fn count(engine: Engine, doc: &[u8]) -> usize
     ensures { λ r. ⌜ r ≡ tokenCount (now (doc .entry)) ⌝ }
 {
     let mut spare = [[0usize; 4]; 64];
@@ -145,7 +192,7 @@ fn count(doc: &[u8]) -> usize
         } else {
             doc.len()
         };
-        let part = lex_until(doc, at, line, stop, &mut spare);
+        let part = lex_until(engine, doc, at, line, stop, &mut spare);
         passed += part.count;
         line = part.line;
         at = part.place;
@@ -154,12 +201,12 @@ fn count(doc: &[u8]) -> usize
 }
 
 // The tokens into records that are enough: how many.
-fn fill(doc: &[u8], records: &mut [Record]) -> usize
+fn fill(engine: Engine, doc: &[u8], records: &mut [Record]) -> usize
     requires { ⌜ tokenCount (now doc) ≤ length (now records) ⌝ }
     ensures count { λ r. ⌜ r ≡ tokenCount (now (doc .entry)) ⌝ }
     ensures memory { λ _. ⌜ now (records .exit) ≡ recordsOver (now (doc .entry)) (now (records .entry)) ⌝ }
 {
-    let all = lex_until(doc, start_of(doc), 1, doc.len(), records);
+    let all = lex_until(engine, doc, start_of(doc), 1, doc.len(), records);
     let n = all.count;
     records[n] = token_of(TokenKind::Eof, doc.len(), doc.len(), all.line).as_record();
     n + 1
@@ -215,7 +262,7 @@ fn by_loop(doc: &[u8], at: usize, line: usize, kind: TokenKind) -> Next
     ensures { λ r. ⌜ r ≡ nextAt at line (drop at (now (doc .entry))) ⌝ }
 {
     let mut one = [[0usize; 4]; 1];
-    let passed = lex_until(doc, at, line, at + 1, &mut one);
+    let passed = lex_until(Engine::Ranges, doc, at, line, at + 1, &mut one);
     next_of(token_of(kind, at, passed.place, line), passed.line)
 }
 
@@ -227,8 +274,9 @@ struct TokensPassed {
 }
 
 // The tokens that begin at `start` or after it, and before `stop`: how many, each written into its
-// record. The only caller of `process_token`, which is compiled into this loop.
+// record. The only caller of `token_by`, and so of `process_token`, which is compiled into this loop.
 fn lex_until(
+    engine: Engine,
     doc: &[u8],
     start: usize,
     first: usize,
@@ -245,7 +293,7 @@ fn lex_until(
     let mut line = first;
     let mut n: usize = 0;
     while at < stop {
-        let next = process_token(doc, at, line);
+        let next = token_by(engine, doc, at, line);
         let token = next.token;
         records[n] = token.as_record();
         n += 1;
@@ -256,6 +304,17 @@ fn lex_until(
         count: n,
         place: at,
         line,
+    }
+}
+
+// One token for the loop, by either engine.
+fn token_by(engine: Engine, doc: &[u8], at: usize, line: usize) -> Next
+    requires { ⌜ (at < length (now doc)) × (line ≤ at + 1) ⌝ }
+    ensures { λ r. ⌜ r ≡ nextAt at line (drop at (now (doc .entry))) ⌝ }
+{
+    match engine {
+        Engine::Ranges => process_token(doc, at, line),
+        Engine::Table => table::table_token(doc, at, line),
     }
 }
 

@@ -32,53 +32,53 @@ parts c =
     simp length-append at (ap length (opened-errors (a .e) (a .text .now) (a .opened) (c .pre .1)))
 
 -- once the plain run is known: the start, and what the run says of the body
-abbrev Begin : tie.After-plain-run → tie.Start
+abbrev Begin : tie.After-run-by → tie.Start
 Begin c = c .before .before .before .before .before .before .before .before .before .before .before
 
 -- where each mark's error was written
-abbrev First : tie.After-plain-run → tie.After-note
+abbrev First : tie.After-run-by → tie.After-note
 First c = c .before .before .before .before .before .before
 
-abbrev Second : tie.After-plain-run → tie.After-note2
+abbrev Second : tie.After-run-by → tie.After-note2
 Second c = c .before .before .before
 
 -- what is left after it
-abbrev Left : tie.After-plain-run → Body
-Left c = bodyAfter (Begin c .args .opened .body) (copyPiece (c .plain-run .result))
+abbrev Left : tie.After-run-by → Body
+Left c = bodyAfter (Begin c .args .opened .body) (copyPiece (c .run-by .result))
 
-fits : (c : tie.After-plain-run)
-    → let b = Begin c .args .opened .body in let k = c .plain-run .result in
+fits : (c : tie.After-run-by)
+    → let b = Begin c .args .opened .body in let k = c .run-by .result in
     (k ≤ length (bodyBytes b (Begin c .args .text .now))) × (b .at + k ≤ b .end)
 fits c =
     let a = Begin c .args in
     let outside = opened-outside (a .e) (a .text .now) (a .opened) (Begin c .pre .1) in
-    plain-fits (a .e) (a .text .now) (a .opened .body) outside (fit (Begin c) .0) (c .plain-run .result) (c .plain-run .ensures)
+    plain-fits (a .e) (a .text .now) (a .opened .body) outside (fit (Begin c) .0) (c .run-by .result) (c .run-by .ensures)
 
 -- the bytes in two parts, with their lengths, and the errors
-bytes-two : (c : tie.After-plain-run)
+bytes-two : (c : tie.After-run-by)
     → let a = Begin c .args in let t = a .text .now in
-    bytesOf (a .e) t ≡ take (c .plain-run .result) (bodyBytes (a .opened .body) t) ++ bytesLeft (a .e) t (Left c)
+    bytesOf (a .e) t ≡ take (c .run-by .result) (bodyBytes (a .opened .body) t) ++ bytesLeft (a .e) t (Left c)
 bytes-two c =
     let a = Begin c .args in
     let t = a .text .now in
     let outside = opened-outside (a .e) t (a .opened) (Begin c .pre .1) in
     opened-bytes (a .e) t (a .opened) (Begin c .pre .1)
-    ∙ bytes-after (a .e) t (a .opened .body) outside (fit (Begin c) .0) (c .plain-run .result) (c .plain-run .ensures)
+    ∙ bytes-after (a .e) t (a .opened .body) outside (fit (Begin c) .0) (c .run-by .result) (c .run-by .ensures)
 
-sizes : (c : tie.After-plain-run)
+sizes : (c : tie.After-run-by)
     → let a = Begin c .args in let t = a .text .now in
-    length (bytesOf (a .e) t) ≡ c .plain-run .result + length (bytesLeft (a .e) t (Left c))
+    length (bytesOf (a .e) t) ≡ c .run-by .result + length (bytesLeft (a .e) t (Left c))
 sizes c =
     let body = bodyBytes (Begin c .args .opened .body) (Begin c .args .text .now) in
     let sum = simp length-append at (ap length (bytes-two c)) in
-    omega (arith, sum, length-take-le (c .plain-run .result) body (fits c .0))
+    omega (arith, sum, length-take-le (c .run-by .result) body (fits c .0))
 
-errors-two : (c : tie.After-plain-run)
+errors-two : (c : tie.After-run-by)
     → let a = Begin c .args in let t = a .text .now in errorsLeft (a .e) t (a .opened .body) ≡ errorsLeft (a .e) t (Left c)
 errors-two c =
     let a = Begin c .args in
     let outside = opened-outside (a .e) (a .text .now) (a .opened) (Begin c .pre .1) in
-    errors-after (a .e) (a .text .now) (a .opened .body) outside (fit (Begin c) .0) (c .plain-run .result) (c .plain-run .ensures)
+    errors-after (a .e) (a .text .now) (a .opened .body) outside (fit (Begin c) .0) (c .run-by .result) (c .run-by .ensures)
 
 note-requires : tie.Need-note-requires
 note-requires c κs = omega (arith, parts (c .before .before .before .before), c .before .before .before .before .pre .3)
@@ -90,17 +90,17 @@ note-requires-2 c κs =
     let pre = c .before .before .before .before .before .before .before .pre in
     omega (arith, parts start, note .ensures .place, note .kept .1 .0, pre .3)
 
-sub-plain-run : tie.Need-sub-plain-run
-sub-plain-run c = fit (c .before .before .before .before .before .before .before .before .before) .0
+sub-run-by : tie.Need-sub-run-by
+sub-run-by c = fit (c .before .before .before .before .before .before .before .before .before) .0
 
-part-plain-run-start : tie.Need-part-plain-run-start
-part-plain-run-start c = fit (c .before .before .before .before .before .before .before .before .before) .0
+part-run-by-start : tie.Need-part-run-by-start
+part-run-by-start c = fit (c .before .before .before .before .before .before .before .before .before) .0
 
-part-plain-run-end : tie.Need-part-plain-run-end
-part-plain-run-end c = fit (c .before .before .before .before .before .before .before .before .before) .1
+part-run-by-end : tie.Need-part-run-by-end
+part-run-by-end c = fit (c .before .before .before .before .before .before .before .before .before) .1
 
-plain-run-requires : tie.Need-plain-run-requires
-plain-run-requires c κs = search needs
+run-by-requires : tie.Need-run-by-requires
+run-by-requires c κs = search needs
 
 sub-copy-in : tie.Need-sub-copy-in
 sub-copy-in c = fit (c .before .before .before .before .before .before .before .before .before .before .before) .0
@@ -129,7 +129,7 @@ write-requires c κs =
     let note2 = Second run .note2 in
     let copy = c .before .before .before .before .before .copy-in in
     let body = bodyBytes (start .args .opened .body) (start .args .text .now) in
-    let size = length-take-le (run .plain-run .result) body (fits run .0) in
+    let size = length-take-le (run .run-by .result) body (fits run .0) in
     let places : note2 .result ≡ length (notesOf (start .args .opened .opening)) + length (notesOf (start .args .opened .closing))
     = omega (arith, note .ensures .place, note2 .ensures .place) in
     rw (c .before .before .past .ensures) (
@@ -163,10 +163,10 @@ fill-spec =
     (tie.spec
     note-requires
     note-requires-2
-    sub-plain-run
-    part-plain-run-start
-    part-plain-run-end
-    plain-run-requires
+    sub-run-by
+    part-run-by-start
+    part-run-by-end
+    run-by-requires
     sub-copy-in
     part-copy-in-start
     part-copy-in-end

@@ -31,11 +31,11 @@ noted-requires c κs = search needs
 noted-requires-2 : tie.Need-noted-requires-2
 noted-requires-2 c κs = search needs
 
-add-t9 : tie.Need-add-t9
-add-t9 c = omega (arith, few (c .before))
-
 add-t10 : tie.Need-add-t10
 add-t10 c = omega (arith, few (c .before))
+
+add-t11 : tie.Need-add-t11
+add-t11 c = omega (arith, few (c .before))
 
 returns : tie.Need-returns
 returns c =
@@ -51,4 +51,4 @@ returns c =
 
 pub needed-spec : {M : Type 1} → statement M
 needed-spec =
-    tie.close (tie.spec count-requires noted-requires noted-requires-2 add-t9 add-t10 returns)
+    tie.close (tie.spec count-requires noted-requires noted-requires-2 add-t10 add-t11 returns)

@@ -19,7 +19,7 @@ abbrev old : tie.After-lex-until → List (List ℕ)
 old u = u .before .before .before .before .args .records .now
 
 abbrev new : tie.After-lex-until → List (List ℕ)
-new u = u .lex-until .last .1 .1 .1 .1 .0
+new u = u .lex-until .last .1 .1 .1 .1 .1 .0
 
 -- all tokens before Eof are passed
 passed : (u : tie.After-lex-until)
@@ -46,8 +46,8 @@ token-of-requires c κs = search needs
 as-record-requires : tie.Need-as-record-requires
 as-record-requires c κs = search needs
 
-mul-t12 : tie.Need-mul-t12
-mul-t12 c = omega (arith, all (c .before .before .before))
+mul-t13 : tie.Need-mul-t13
+mul-t13 c = omega (arith, all (c .before .before .before))
 
 slice-set-from-records : tie.Need-slice-set-from-records
 slice-set-from-records c =
@@ -75,7 +75,7 @@ fill-spec =
     lex-until-requires
     token-of-requires
     as-record-requires
-    mul-t12
+    mul-t13
     slice-set-from-records
     add-result
     same-length

@@ -14,11 +14,11 @@ use Rattle.lexer.proofs.lex_until.Statement.{statement}
 use Rattle.lexer.proofs.lex_until.Tie as tie
 
 abbrev Inv-loop : tie.InvT-loop
-Inv-loop doc start first stop records₀ at₀ line₀ n₀ records at line n =
+Inv-loop engine doc start first stop records₀ at₀ line₀ n₀ records at line n =
     Underway doc stop start first records₀ at line n records
 
 abbrev μ-loop : tie.MeasureT-loop
-μ-loop doc start first stop records₀ at₀ line₀ n₀ records at line n = length doc - at
+μ-loop engine doc start first stop records₀ at₀ line₀ n₀ records at line n = length doc - at
 
 loop-holds : tie.Need-loop-holds Inv-loop μ-loop
 loop-holds c =
@@ -33,8 +33,8 @@ loop-holds c =
       stores = refl;
     }
 
-process-token-requires : tie.Need-process-token-requires Inv-loop μ-loop
-process-token-requires c κs = (omega arith, omega arith)
+token-by-requires : tie.Need-token-by-requires Inv-loop μ-loop
+token-by-requires c κs = (omega arith, omega arith)
 
 as-record-requires : tie.Need-as-record-requires Inv-loop μ-loop
 as-record-requires c κs = search needs
@@ -58,13 +58,13 @@ room c =
     (start c .pre .3)
 
 -- the place after its token
-end : (c : Turn) → c .before .before .process-token .result .token .span .end ≡ endAt (start c .args .doc .now) (now c .loop .at)
-end c = ap (λ (e : Next). e .token .span .end) (c .before .before .process-token .ensures)
+end : (c : Turn) → c .before .before .token-by .result .token .span .end ≡ endAt (start c .args .doc .now) (now c .loop .at)
+end c = ap (λ (e : Next). e .token .span .end) (c .before .before .token-by .ensures)
 
 -- ---- the needs of such a turn
 
-mul-t13 : tie.Need-mul-t13 Inv-loop μ-loop
-mul-t13 c = omega (arith, room c)
+mul-t14 : tie.Need-mul-t14 Inv-loop μ-loop
+mul-t14 c = omega (arith, room c)
 
 slice-set-from-records : tie.Need-slice-set-from-records Inv-loop μ-loop
 slice-set-from-records c = omega (arith, room c)
@@ -81,7 +81,7 @@ loop-less c =
 loop-again : tie.Need-loop-again Inv-loop μ-loop
 loop-again c =
     let is = start c .args in
-    let here = c .before .before .process-token .ensures in
+    let here = c .before .before .token-by .ensures in
     let on = ap (λ (e : Next). e .line) here in
     let record-is = c .as-record .ensures ∙ ap (λ (e : Next). recordOf (e .token)) here in
     turned-by (is .doc .now) (is .stop) (is .start) (is .first) (is .records .now) (now c .loop .inv) (omega arith) (omega arith)
@@ -102,9 +102,9 @@ lex-until-spec =
     Inv-loop
     μ-loop
     loop-holds
-    process-token-requires
+    token-by-requires
     as-record-requires
-    mul-t13
+    mul-t14
     slice-set-from-records
     add-n
     loop-less

@@ -18,10 +18,10 @@ use Rattle.decoder.proofs.write.count.Statement.{statement}
 use Rattle.decoder.proofs.write.count.Tie as tie
 
 abbrev Inv-loop : tie.InvT-loop
-Inv-loop e text start n₀ m₀ body n m = CountedTo e text start body n m
+Inv-loop table e text start n₀ m₀ body n m = CountedTo e text start body n m
 
 abbrev μ-loop : tie.MeasureT-loop
-μ-loop e text start n₀ m₀ body n m = length (bodyBytes body text)
+μ-loop table e text start n₀ m₀ body n m = length (bodyBytes body text)
 
 -- the body has no more bytes than the text
 within : (c : tie.At-loop Inv-loop μ-loop)
@@ -39,7 +39,7 @@ Head c = c .before .before .before .before .before
 taken : (c : tie.After-p Inv-loop μ-loop)
     → let a = Begin c .args in let g = c .p .given .0 in
     bodyStep (a .e) (a .text .now) (Head c .loop .body) ≡ Taken (g .0) (g .1 .0)
-taken c = sym (c .before .before .step .ensures) ∙ c .p .given .1
+taken c = sym (c .before .before .step-by .ensures) ∙ c .p .given .1
 
 turned : (c : tie.After-p Inv-loop μ-loop)
     → let a = Begin c .args in let b = Head c .loop .body in
@@ -74,8 +74,8 @@ loop-holds c =
     let a = c .before .args in
     count-start (pieceOf (a .e)) (a .start .dropping) (a .start .at) (bodyBytes (a .start) (a .text .now))
 
-step-requires : tie.Need-step-requires Inv-loop μ-loop
-step-requires c κs = search needs
+step-by-requires : tie.Need-step-by-requires Inv-loop μ-loop
+step-by-requires c κs = search needs
 
 enum-told : tie.Need-enum-told Inv-loop μ-loop
 enum-told c = search needs
@@ -119,7 +119,7 @@ returns c =
 returns-2 : tie.Need-returns-2 Inv-loop μ-loop
 returns-2 c =
     let head = c .before .before .before .before .before in
-    let step′ = c .before .before .step in
+    let step′ = c .before .before .step-by in
     let a = c .before .before .before .before .before .before .before .args in
     let l = c .before .before .before .before .before .loop in
     let step = sym (step′ .ensures) ∙ c .enum-told .given .1 in
@@ -133,7 +133,7 @@ count-spec =
     Inv-loop
     μ-loop
     loop-holds
-    step-requires
+    step-by-requires
     enum-told
     enum-known-p
     width-requires

@@ -21,11 +21,11 @@ use Rattle.decoder.proofs.write.write.Statement.{statement}
 use Rattle.decoder.proofs.write.write.Tie as tie
 
 abbrev Inv-loop : tie.InvT-loop
-Inv-loop e text output₀ o0 records₀ m0 start o₀ m₀ output records body o m =
+Inv-loop table e text output₀ o0 records₀ m0 start o₀ m₀ output records body o m =
     (body .end ≤ length text) × WrittenTo e text start output₀ o0 records₀ m0 output records body o m
 
 abbrev μ-loop : tie.MeasureT-loop
-μ-loop e text output₀ o0 records₀ m0 start o₀ m₀ output records body o m = length (bodyBytes body text)
+μ-loop table e text output₀ o0 records₀ m0 start o₀ m₀ output records body o m = length (bodyBytes body text)
 
 -- within a turn, once its bytes are at hand: the function's start, and the loop's head
 abbrev Begin : tie.After-s Inv-loop μ-loop → tie.Start Inv-loop μ-loop
@@ -54,20 +54,20 @@ Reads c p =
     let b = Head c .loop .body in
     Turn (pieceOf (Begin c .args .e)) (b .dropping) (b .at) (bodyBytes b (Begin c .args .text .now)) p
 
-short : (c : tie.Then2 Inv-loop μ-loop) → Reads (InShort c) (copyPiece (c .before .few-at .result))
-short c = record { more = more (InShort c); reads = sym (c .before .few-at .ensures (c .if2 .taken) .piece _) }
+short : (c : tie.Then2 Inv-loop μ-loop) → Reads (InShort c) (copyPiece (c .before .few-by .result))
+short c = record { more = more (InShort c); reads = sym (c .before .few-by .ensures (c .if2 .taken) .piece _) }
 
 escaped : (c : tie.Then3 Inv-loop μ-loop)
-    → let x = c .before .before .escape-at .result in Reads (InEscape c) (charPiece (x .take) (x .char))
+    → let x = c .before .before .escape-by .result in Reads (InEscape c) (charPiece (x .take) (x .char))
 escaped c =
     let b = Head (InEscape c) .loop .body in
-    let x = c .before .before .escape-at in
-    escape-turn (Begin (InEscape c) .args .e) (b .dropping) (b .at) _ (more (InEscape c)) (x .result) (x .ensures) (c .if3 .taken)
+    let x = c .before .before .escape-by in
+    escape-turn (Begin (InEscape c) .args .e) (b .dropping) (b .at) _ (more (InEscape c)) (x .result) (x .ensures (c .if3 .taken)) (c .if3 .taken)
 
 taken : (c : tie.After-p Inv-loop μ-loop)
     → let a = Begin (InAny c) .args in let g = c .p .given .0 in
     bodyStep (a .e) (a .text .now) (Head (InAny c) .loop .body) ≡ Taken (g .0) (g .1 .0)
-taken c = sym (c .before .before .step .ensures) ∙ c .p .given .1
+taken c = sym (c .before .before .step-by .ensures) ∙ c .p .given .1
 
 any : (c : tie.After-p Inv-loop μ-loop) → Reads (InAny c) (c .p .given .0 .0)
 any c =
@@ -99,11 +99,11 @@ less c p turn = shorter (Begin c .args .e) (Begin c .args .text .now) (Head c .l
 
 -- a short run's length
 short-size : (c : tie.Then2 Inv-loop μ-loop)
-    → let n = c .before .few-at .result in
+    → let n = c .before .few-by .result in
     let bytes = bodyBytes (Head (InShort c) .loop .body) (Begin (InShort c) .args .text .now) in
     (n ≤ length bytes) × (n ≡ length (gives (copyPiece n) bytes))
 short-size c =
-    let n = c .before .few-at .result in
+    let n = c .before .few-by .result in
     let bytes = bodyBytes (Head (InShort c) .loop .body) (Begin (InShort c) .args .text .now) in
     let fits = turn-fine (piece-fine (Begin (InShort c) .args .e)) (short c) .fits in
     (fits, sym (ap length (given-copy n bytes) ∙ length-take-le n bytes fits))
@@ -126,13 +126,13 @@ part-s-start c = omega (arith, c .before .before .loop .inv .0)
 part-s-end : tie.Need-part-s-end Inv-loop μ-loop
 part-s-end c = c .before .before .loop .inv .0
 
-few-at-requires : tie.Need-few-at-requires Inv-loop μ-loop
-few-at-requires c κs = search needs
+few-by-requires : tie.Need-few-by-requires Inv-loop μ-loop
+few-by-requires c κs = search needs
 
 copy-few-requires : tie.Need-copy-few-requires Inv-loop μ-loop
 copy-few-requires c κs =
     let t = c .before in
-    let few = t .before .few-at .ensures (t .if2 .taken) in
+    let few = t .before .few-by .ensures (t .if2 .taken) in
     let size = short-size t in
     (omega (arith, few .short), size .0, omega (arith, room (InShort t) _ (short t) .0, size .1))
 
@@ -151,8 +151,8 @@ loop-again c =
     let on = write-quiet (a .e) (a .text .now) (a .start) (l .body) _ (short t) (l .inv .1) in
     rw (c .past .ensures) (l .inv .0, on (rw given-copy stored) refl)
 
-escape-at-requires : tie.Need-escape-at-requires Inv-loop μ-loop
-escape-at-requires c κs = search needs
+escape-by-requires : tie.Need-escape-by-requires Inv-loop μ-loop
+escape-by-requires c κs = search needs
 
 put-char-requires : tie.Need-put-char-requires Inv-loop μ-loop
 put-char-requires c κs =
@@ -175,8 +175,8 @@ loop-again-2 c =
     let on = write-quiet (a .e) (a .text .now) (a .start) (l .body) _ (escaped t) (l .inv .1) in
     rw (c .past2 .ensures) (l .inv .0, on (rw given-char stored) refl)
 
-step-requires : tie.Need-step-requires Inv-loop μ-loop
-step-requires c κs = search needs
+step-by-requires : tie.Need-step-by-requires Inv-loop μ-loop
+step-by-requires c κs = search needs
 
 enum-told : tie.Need-enum-told Inv-loop μ-loop
 enum-told c = search needs
@@ -233,7 +233,7 @@ returns-2 c =
     let turn = c .before .before .before .before .before .before .before .before in
     let a = Begin turn .args in
     let l = Head turn .loop in
-    let step = sym (c .before .before .step .ensures) ∙ c .enum-told .given .1 in
+    let step = sym (c .before .before .step-by .ensures) ∙ c .enum-told .given .1 in
     write-end (none-left (a .e) (a .text .now) (l .body) step) (l .inv .1)
 
 pub write-spec : {M : Type 1} → statement M
@@ -246,17 +246,17 @@ write-spec =
     sub-s
     part-s-start
     part-s-end
-    few-at-requires
+    few-by-requires
     copy-few-requires
     past-requires
     loop-less
     loop-again
-    escape-at-requires
+    escape-by-requires
     put-char-requires
     past-requires-2
     loop-less-2
     loop-again-2
-    step-requires
+    step-by-requires
     enum-told
     enum-known-p
     emit-requires

@@ -1,13 +1,13 @@
-// The three ways to make a piece, each without an error and with one.
+// The three ways to make a piece, each without an error and with one: for the decoders of both engines. Rule: specs/Pieces.antt.
 ghost use mathlib.Core.Path.{_≡_};
 ghost use Rattle.decoder_rules.specs.Pieces.{copyPiece, badCopy, charPiece, badChar, dropPiece, badDrop};
-use decoder_rules::DecodeError;
-use decoder_rules::Given;
-use decoder_rules::Piece;
-use decoder_rules::Verdict;
+use crate::DecodeError;
+use crate::Given;
+use crate::Piece;
+use crate::Verdict;
 
 // n bytes as they are.
-pub(crate) fn copy_piece(n: usize) -> Piece
+pub fn copy_piece(n: usize) -> Piece
     ensures { λ r. ⌜ r ≡ copyPiece n ⌝ }
 {
     Piece {
@@ -18,7 +18,7 @@ pub(crate) fn copy_piece(n: usize) -> Piece
     }
 }
 
-pub(crate) fn bad_copy(n: usize, error: DecodeError, start: usize, end: usize) -> Piece
+pub fn bad_copy(n: usize, error: DecodeError, start: usize, end: usize) -> Piece
     ensures { λ r. ⌜ r ≡ badCopy n error start end ⌝ }
 {
     Piece {
@@ -30,7 +30,7 @@ pub(crate) fn bad_copy(n: usize, error: DecodeError, start: usize, end: usize) -
 }
 
 // A character for n bytes.
-pub(crate) fn char_piece(n: usize, c: u32) -> Piece
+pub fn char_piece(n: usize, c: u32) -> Piece
     ensures { λ r. ⌜ r ≡ charPiece n c ⌝ }
 {
     Piece {
@@ -41,7 +41,7 @@ pub(crate) fn char_piece(n: usize, c: u32) -> Piece
     }
 }
 
-pub(crate) fn bad_char(n: usize, c: u32, error: DecodeError, place: usize) -> Piece
+pub fn bad_char(n: usize, c: u32, error: DecodeError, place: usize) -> Piece
     ensures { λ r. ⌜ r ≡ badChar n c error place ⌝ }
 {
     Piece {
@@ -57,7 +57,7 @@ pub(crate) fn bad_char(n: usize, c: u32, error: DecodeError, place: usize) -> Pi
 }
 
 // Nothing for n bytes of a line-ending escape.
-pub(crate) fn drop_piece(n: usize) -> Piece
+pub fn drop_piece(n: usize) -> Piece
     ensures { λ r. ⌜ r ≡ dropPiece n ⌝ }
 {
     Piece {
@@ -68,7 +68,7 @@ pub(crate) fn drop_piece(n: usize) -> Piece
     }
 }
 
-pub(crate) fn bad_drop(n: usize, error: DecodeError, place: usize) -> Piece
+pub fn bad_drop(n: usize, error: DecodeError, place: usize) -> Piece
     ensures { λ r. ⌜ r ≡ badDrop n error place ⌝ }
 {
     Piece {

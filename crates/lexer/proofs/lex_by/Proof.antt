@@ -1,4 +1,4 @@
--- `lex` is right because the check's refusals are its own, and so many records are lent as are written: where there are
+-- `lex_by` is right because the check's refusals are its own, and so many records are lent as are written: where there are
 -- more than bytes, because tokens number at most the bytes plus one.
 -- Assumes nothing.
 use Prim.Native.Nat.{ℕ}
@@ -12,8 +12,8 @@ use Rattle.lexer.proofs.WholeLaws.{lex-broken, lex-few, lex-answered}
 use Rattle.lexer.proofs.NumberLaws.{lexed}
 use borrow.Author.Needs.{needs}
 use native.Mathlib.Omega.{arith}
-use Rattle.lexer.proofs.lex.Statement.{statement}
-use Rattle.lexer.proofs.lex.Tie as tie
+use Rattle.lexer.proofs.lex_by.Statement.{statement}
+use Rattle.lexer.proofs.lex_by.Tie as tie
 
 -- past the check's refusals the document is valid
 valid : (c : tie.After-enum-told) → checkOf (c .before .before .before .before .args .doc .now) ≡ Valid
@@ -71,8 +71,8 @@ returns-4 c =
     let is = lex-answered doc old (valid (c .before .before .before .before .before .before)) (omega arith) in
     lexed doc old _ _ (ap Tokens (c .before .fill2 .ensures .0) ∙ is .0) (c .before .fill2 .ensures .1 ∙ is .1)
 
-pub lex-spec : {M : Type 1} → statement M
-lex-spec =
+pub lex-by-spec : {M : Type 1} → statement M
+lex-by-spec =
     tie.close
     (tie.spec
     check-utf8-requires

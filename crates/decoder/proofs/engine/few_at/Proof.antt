@@ -4,8 +4,8 @@ use mathlib.Core.Path.{refl}
 use native.Mathlib.Omega.{arith}
 use borrow.Author.Needs.{needs}
 use Rattle.decoder_pieces.proofs.EscapeAtLaws.{few-piece}
-use Rattle.decoder.proofs.write.few_at.Statement.{statement}
-use Rattle.decoder.proofs.write.few_at.Tie as tie
+use Rattle.decoder.proofs.engine.few_at.Statement.{statement}
+use Rattle.decoder.proofs.engine.few_at.Tie as tie
 
 returns : tie.Need-returns
 returns c = λ h. absurd (omega arith)

@@ -1,0 +1,4 @@
+pub mod FrontLaws
+pub mod LetterLaws
+pub mod DigitLaws
+pub mod OneAnswer
