@@ -33,7 +33,7 @@ struct Work {
     size_t doc_bytes, encoded_bytes = 0, parsed_bytes; // the bytes that are read: of the document, by decoding, by toml++
 
     explicit Work(const Document &document)
-        : doc(document.text), out(GALOXUMI_MOST_BYTES(doc.size())), tokens(GALOXUMI_MOST_TOKENS(doc.size())),
+        : doc(document.text), out(GALOXUMI_MOST_BYTES(doc.size())), tokens(GALOXUMI_MOST_TOKENS(std::max(doc.size(), size_t{4096}))),
           errors(GALOXUMI_MOST_ERRORS(doc.size())),
           doc_bytes(doc.size()), parsed_bytes(parses() ? doc.size() : 0)
     {
@@ -66,6 +66,21 @@ struct Work {
         } catch (const toml::parse_error &) {
             return false;
         }
+    }
+
+    // In parts of a page, each lent as many tokens as it can give, and the closing word.
+    size_t parts()
+    {
+        const size_t page = 4096;
+        size_t given = 0;
+        galoxumi_parts state = galoxumi_parts_start();
+        for (size_t at = 0; at < doc.size(); at += page) {
+            const size_t len = std::min(page, doc.size() - at);
+            galoxumi_fed fed = galoxumi_parts_feed(&state, bytes() + at, len, tokens.data(), GALOXUMI_MOST_OF_PART(page));
+            given += fed.answer.value;
+            state = fed.state;
+        }
+        return given + galoxumi_parts_close(&state, tokens.data(), GALOXUMI_MOST_AT_CLOSE).answer.value;
     }
 
     // One step a token, Eof the last.
@@ -103,13 +118,14 @@ const std::vector<Phase> phases = {
     {"from_utf8", &Work::rust_check, &Work::doc_bytes},
     {"UTF-8 check", &Work::check, &Work::doc_bytes},
     {"lexing", &Work::lex, &Work::doc_bytes},
+    {"parts", &Work::parts, &Work::doc_bytes},
     {"step", &Work::walk, &Work::doc_bytes},
     {"position", &Work::position, &Work::doc_bytes},
     {"decoding", &Work::decode, &Work::encoded_bytes},
     {"first broken", &Work::broken, &Work::doc_bytes},
     {"toml++ parse", &Work::parse, &Work::parsed_bytes},
 };
-enum { MEMCPY, FROM_UTF8, CHECK, LEXING, STEP, POSITION, DECODING, BROKEN, PARSE };
+enum { MEMCPY, FROM_UTF8, CHECK, LEXING, PARTS, STEP, POSITION, DECODING, BROKEN, PARSE };
 
 // Takes what a phase computes, so that the compiler does not leave the computation out.
 volatile size_t sink;
@@ -320,6 +336,9 @@ void count_calls()
     count("galoxumi_lex" + on, [=] { return galoxumi_lex(doc, len, few_tokens, 16).value; });
     count("galoxumi_start" + on, [=] { return galoxumi_start(doc, len).cursor.place; });
     count("galoxumi_step, first token" + on, [=] { return galoxumi_step(doc, len, 0, 0, 1).found; });
+    const galoxumi_parts state = galoxumi_parts_start();
+    count("galoxumi_parts_feed" + on, [=] { return galoxumi_parts_feed(&state, doc, len, few_tokens, 16).answer.value; });
+    count("galoxumi_parts_feed, one byte|`a`", [=] { return galoxumi_parts_feed(&state, doc, 1, few_tokens, 16).answer.value; });
     count("galoxumi_position, at the end" + on, [=] { return galoxumi_position(doc, len, len).column; });
     for (const auto &short_text : short_texts) {
         count_decode(short_text);

@@ -25,9 +25,9 @@ extern "C" {
 #endif
 
 /* The version of this header, and of the archive that it is installed with. */
-#define GALOXUMI_VERSION "0.9.0"
-#define GALOXUMI_VERSION_MAJOR 0
-#define GALOXUMI_VERSION_MINOR 9
+#define GALOXUMI_VERSION "1.0.0"
+#define GALOXUMI_VERSION_MAJOR 1
+#define GALOXUMI_VERSION_MINOR 0
 #define GALOXUMI_VERSION_PATCH 0
 
 /* The most bytes that a document, a text to decode or a value to write may have. */
@@ -37,13 +37,16 @@ extern "C" {
 #define GALOXUMI_DEPTH 64
 
 /* How much to lend, by the bytes of what is read, so that no call finds it too little, and none counts first: tokens to
- * galoxumi_lex; output and errors to a decode; output to galoxumi_write_value; output and records to galoxumi_put_right. */
+ * galoxumi_lex; output and errors to a decode; output to galoxumi_write_value; output and records to galoxumi_put_right; tokens
+ * to galoxumi_parts_feed, and to galoxumi_parts_close. */
 #define GALOXUMI_MOST_TOKENS(doc_len) ((doc_len) + 1)
 #define GALOXUMI_MOST_BYTES(text_len) ((text_len) + (text_len) / 2)
 #define GALOXUMI_MOST_ERRORS(text_len) ((text_len) + 2)
 #define GALOXUMI_MOST_WRITTEN(value_len) (6 * (value_len) + 2)
 #define GALOXUMI_MOST_MENDED(doc_len) (6 * (doc_len))
 #define GALOXUMI_MOST_REPLACED(doc_len) (doc_len)
+#define GALOXUMI_MOST_OF_PART(part_len) ((part_len) + 1)
+#define GALOXUMI_MOST_AT_CLOSE 2
 
 /* Why a call did not answer. Beside each: when it is given, and the value returned with it. */
 enum galoxumi_refusal {
@@ -52,7 +55,7 @@ enum galoxumi_refusal {
     /* More than GALOXUMI_LIMIT bytes, read or, in galoxumi_put_right, to be written; GALOXUMI_LIMIT. In galoxumi_tally: more than
      * GALOXUMI_MOST_TALLIED; that number. */
     GALOXUMI_TOO_LONG = 2,
-    GALOXUMI_FEW_TOKENS = 3,   /* fewer tokens are lent than there are, Eof counted; the tokens needed */
+    GALOXUMI_FEW_TOKENS = 3,   /* fewer tokens are lent than the call gives, Eof counted; the tokens needed */
     GALOXUMI_SHORT_OUTPUT = 4, /* the output is shorter than what is to be written; the bytes needed */
     GALOXUMI_FEW_ERRORS = 5,   /* fewer errors are lent than there are; the errors needed */
     /* A place beyond the document; for a cursor also a line past its place plus 1; for a span also a start after the end, or
@@ -60,6 +63,7 @@ enum galoxumi_refusal {
      * tokens; in those on values: a run that passes the tokens or starts after its end; the number of tokens. */
     GALOXUMI_OUT_OF_PLACE = 6,
     GALOXUMI_NO_KIND = 7,      /* a number that is no kind that the call knows, or the number of no error; that number */
+    GALOXUMI_AFTER_END = 8,    /* a part, or the closing word, after the end; 0 */
     GALOXUMI_NO_EDITION = 9,   /* a number that is no edition of TOML; that number */
     GALOXUMI_TOO_DEEP = 10,    /* more than GALOXUMI_DEPTH brackets are open at once; GALOXUMI_DEPTH */
     GALOXUMI_NO_REVIEWER = 11, /* a number that is no reviewer's: neither 0 nor 1; that number */
@@ -401,6 +405,62 @@ typedef struct {
  * nothing else; with 13, given where any total would pass 64 bits, also a count of refused documents, the totals come back as
  * they were. In which order documents are added changes no total, as long as none is refused with 13. */
 galoxumi_tallied galoxumi_tally(const uint8_t *doc, size_t doc_len, const galoxumi_totals *totals);
+
+/* A document that comes in parts, cut anywhere. What was handed in so far is a state, which the caller keeps between two calls:
+ * a struct of numbers, in which nothing of the parts is kept. It may be copied, stored and handed in again. The fields need not
+ * be looked at. A state made by hand is answered too, as what its numbers say: `mode` is what is in progress, 0 to 27; `start` and
+ * `first` are the place and the line of the token in progress, `at` and `line` those of the next byte; `left` is how many bytes of
+ * the character in progress are still to come, 0 for none, and `low` and `high` are the bounds of the next of them, where a number
+ * over 255 counts as 255; `valid` is the place up to which whole characters stand; `ended` is 0 until nothing more is taken. Another
+ * number for `mode`, an `ended` that is not 0, or a `line` past `at` plus 1 is a state after the end: refusal 8. */
+typedef struct {
+    size_t mode;
+    size_t start;
+    size_t first;
+    size_t at;
+    size_t line;
+    size_t left;
+    size_t low;
+    size_t high;
+    size_t valid;
+    size_t ended;
+} galoxumi_parts;
+
+/* The state before the first part. */
+galoxumi_parts galoxumi_parts_start(void);
+
+/* What a call answers, and the state after it: value is the count of tokens that it gives. */
+typedef struct {
+    galoxumi_answer answer;
+    galoxumi_parts state;
+} galoxumi_fed;
+
+/* A part of the document: the tokens that it gives, into the lent ones from the front; those after them keep their contents. Each
+ * token is given as soon as no further bytes could change it, and not sooner; places and lines are those of the parts joined. The
+ * state handed in is only read.
+ *
+ * Refusals 8; then 2, where the parts joined pass GALOXUMI_LIMIT; then 1, where no further bytes could make them UTF-8, with the
+ * numbers that galoxumi_check_utf8 gives of the parts joined; then 3. After 2 and 1 the state that comes back takes nothing more;
+ * after 3 it is as before, and the same part may be handed in again with more tokens lent. One more than the part has bytes always
+ * suffices, and where so many are lent nothing is counted first, which saves a pass.
+ *
+ *     galoxumi_parts state = galoxumi_parts_start();
+ *     while ((n = read(0, part, sizeof part)) > 0) {
+ *         galoxumi_fed fed = galoxumi_parts_feed(&state, part, n, tokens, GALOXUMI_MOST_OF_PART(sizeof part));
+ *         if (fed.answer.refusal != GALOXUMI_ANSWERED)
+ *             return 1;
+ *         state = fed.state;
+ *         use(tokens, fed.answer.value);
+ *     }
+ */
+galoxumi_fed galoxumi_parts_feed(const galoxumi_parts *state, const uint8_t *part, size_t part_len, galoxumi_token *tokens,
+                                 size_t tokens_len);
+
+/* The closing word, after the last part: the token in progress, if there is one, and Eof. All the tokens that were given are then
+ * those that galoxumi_lex gives of the parts joined, wherever they were cut. The state that comes back takes nothing more. Refusals
+ * 8; then 2, which only a state made by hand can get; then 1, where the parts joined end inside a character; then 3, with the state
+ * as before. Two tokens always suffice. */
+galoxumi_fed galoxumi_parts_close(const galoxumi_parts *state, galoxumi_token *tokens, size_t tokens_len);
 
 #ifdef __cplusplus
 }

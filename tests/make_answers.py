@@ -450,6 +450,63 @@ def broken_strings():
     named = [call('brokenin', edition, doc) for edition in (0, 9, 10, 11, 12, MAX) for doc in (b'', b"'", b'\xff', b'"\\e"', b'"\\e" \xff')]
     return by_reference(*[call('broken', doc) for doc in pairs + cuts + short + damaged + large],
                         *[call('brokenin', edition, doc) for doc in escapes for edition in (10, 11)], *named)
+
+
+# what a byte more can do to each kind of token; marks of each number; a byte order mark, whole and not
+CUT = [b'', b'a = "b"\n', BOM + b'a\n', BOM[:2] + b'a', BOM, BOM + BOM, b'\xef\xbb\xbb', b'\r', b'\r\n', b'\r\r\n\n', b'#a\rb', b"'a\r\n", b'"a\\', b'"a\\"\n"', b'"\\\\"',
+       b"'''a\n'''''", b"'''a''''''", b'"""\\"""\n"""', b'"""a""\\"""""', b"'''\\'''", b'""\n""a', b"''''", b'[[a.b]]\r\nc={d=[1,2]}',
+       '\u00e9 = "\u20ac" # \U0001f600\n'.encode(), b'\t \n\n \t', b'"a\n\n\'b\nc', b"'''\n\n", b'"""\r\n\\\n"""\n']
+
+# characters of each length and wrong ones, whole and cut
+DAMAGED = ['\u00e9'.encode(), '\u20ac'.encode(), '\U0001f600'.encode(), b'\xe0\xa0\x80', b'\xed\x9f\xbf', b'\xf4\x8f\xbf\xbf', b'\x80', b'\xc1\x80', b'\xc3\xc3\xa9',
+           b'\xe0\x9f\xbf', b'\xe2\x82', b'\xe2\x82a', b'\xed\xa0\x80', b'\xf0\x8f\xbf\xbf', b'\xf0\x90\x80', b'\xf0\x90\x80"', b'\xf4\x90\x80\x80', b'\xf5\x80', b'\xff']
+
+
+# what may follow: every byte, and texts of two and three bytes
+LONGER = (b'',) + tuple(bytes([b]) for b in range(256)) + tuple(bytes(t) for n in (2, 3) for t in itertools.product(b'\'"\\\na', repeat=n))
+
+
+def cuts(doc):
+    """Every two places at which a document can be cut."""
+    return [(first, second) for second in range(len(doc) + 1) for first in range(second + 1)]
+
+
+def in_bytes(doc):
+    """The line of a document that comes byte by byte, once what it gives is what it must be: in all, the tokens of whole lexing; and
+    what is decided is decided for every byte that may follow, and for longer texts."""
+    if not reference.check(doc):
+        given = [token.split(' @')[0] for token in reference.each_byte(doc).split('; ')]
+        if '; '.join(given) != reference.lexline(doc):
+            sys.exit('%s comes to other tokens byte by byte' % doc.hex())
+    if len(doc) < 4:
+        if reference.decided(doc) != reference.decided(doc, LONGER):
+            sys.exit('what is decided of %s is not decided by single bytes' % doc.hex())
+    return call('bytes', doc)
+
+
+def parted():
+    """Documents that come in parts: every cut, and each byte a part; records about those that a call needs; damaged characters, cut in
+    each place; the refusals in their order."""
+    scoped = [bytes.fromhex(line.split()[1].decode().replace('-', '')) for line, _ in scope() if line.startswith(b'lex ')]
+    short = [bytes(t) for n in range(5) for t in itertools.product(b'\'"\\\n\ra', repeat=n)]
+    wider = [bytes(t) for n in range(4) for t in itertools.product(b'\'"\\\n\r au#.', repeat=n)]
+    marks = [before + mark * n + after for mark in (b"'", b'"') for n in range(1, 9) for before in (b'', mark * 3 + b'a') for after in (b'', b'\n', b'a')]
+    leads = [b'a' + bytes([lead]) + tail for lead in range(0x80, 0x100) for tail in (b'', b'x', b'\x80', b'\x9f\x80', b'\xa0\x80x', b'\x90\x80\x80')]
+    damaged = [before + chars + after for chars in DAMAGED for before, after in ((b'', b''), (b'"', b'"\n'), (b'a.', b'.'), (b"'''\n", b''))]
+    lines = [in_bytes(doc) for doc in scoped + CUT + short + wider + marks + leads + damaged + [MANIFEST]]
+    lines += [call('parts', *cut, doc) for doc in scoped + CUT + [doc for doc in short if len(doc) < 4] + marks + damaged + [MANIFEST] for cut in cuts(doc)]
+    lines += [call('parts', *places, doc) for doc in (b'', b'a=1', '\u00e9'.encode()) for places in ((0, 9), (9, 0), (2, 1), (MAX, MAX), (0, MAX), (MAX, 0))]
+    # a call that has too few records, and those after it; a faulty character and too few; a faulty one and the end before
+    for doc in CUT + [b'...', b'. .\n', b'a.b.c', b'"\xc3\xa9".', b'.\xc3', b'.\xff.', b'\xff', b'.\xe2\x82', b'a\xff\xff']:
+        for cut in cuts(doc) if len(doc) < 6 else ((0, len(doc)), (1, 2), (len(doc) // 2, len(doc)), (0, 3)):
+            lines += [call('partscap', room, *cut, doc) for room in (0, 1, 2, 3)]
+    dots = b'.' * 65536
+    lines += [call('partscap', 0, 0, 0, dots), call('partscap', 65535, 65536, 65536, dots), call('partscap', 2, 1, 3, dots)]
+    lines += [call('parts', 1, 32768, b'#' + b'a' * 65535), call('parts', 32768, 65535, b'"' + b'\xc3\xa9' * 32767 + b'"'),
+              call('parts', 65535, 65536, b"'''" + b'\n' * 65533), call('parts', 2, 65535, b' ' * 65535 + b'\xc3')]
+    return by_reference(*lines)
+
+
 def tallied():
     """Figures: each kind and each error, alone and together; every document and string of the suite; from zeros and from totals
     that the next one fills; the refusals in their order; and the longest document."""
@@ -507,20 +564,35 @@ def wrong_lines():
         b'deccap 39 98305 65539 -', b'deccap 39 98306 0 -', b'deccap 39 0 65540 -', b'deccap 5 98306 65540 ff',
         b'value', b'value 0 -', b'value 0 0', b'value 0 0 0 -', b'value x 0 -', b'value 0 0 5', b'value 0 0 5B', b'values 0 0 -', b'valuein 0 0 -',
         b'valuein 10 0 0', b'valuein 10 0 x -', b'valuein 18446744073709551616 0 0 -', b'valueins 10 0 0 -',
+        b'parts', b'parts 0 -', b'parts 0 0', b'parts 0 0 0 -', b'parts x 0 -', b'parts 0 0 6', b'parts 0 0 6G', b'part 0 0 -', b'partsx 0 0 -',
+        b'parts 18446744073709551616 0 -', b'partscap 0 0 -', b'partscap 0 0 0', b'partscap 65539 0 0 -', b'partscap 65540 0 0 -', b'partscap 65540 0 0 6',
+        b'partscap x 0 0 -', b'partscap 0 0 0 0 -', b'partscap', b'partscaps 0 0 0 -', b'bytes', b'bytes 0 -', b'bytes - -', b'bytes 6', b'byte -', b'bytess -',
+        b'tlex', b'tlex 0 -', b'tlex 6', b'tlexs -', b'tlexline', b'tlexlin -', b'tdec -', b'tdec x -', b'tdec 34 6', b'tdecin 34 -', b'tdecin 10 34 0 -',
+        b'tdecins 10 34 -', b'tstep 0 0 -', b'tstep 0 2 1 -', b'tstep 0 0 x -', b'tsteps 0 0 1 -', b'tlexcap 1 -', b'tpos 0 -',
         over, over + b'0', b'lex 6', b'lex ' + over, b'desc 4')
 
 
 SECTIONS = [scope, valid_cases, left_out_cases, later_cases, invalid_utf8, invalid_strings, vectors, lent_records, lent_output, sizes, cursors, lines, spans,
-            positions, kinds, editions, faults, joined, values, reviewers, runs, broken_strings, tallied, mended_documents, every_byte, short_texts,
-            wrong_lines]
+            positions, kinds, editions, faults, joined, values, reviewers, runs, broken_strings, tallied, mended_documents, parted, every_byte,
+            short_texts, wrong_lines]
+
+
+def by_table(lines):
+    """Each line above that lexes, decodes or steps, asked of the second engine too: the answer is the same."""
+    out = []
+    for line, answer in lines:
+        name, _, rest = line.partition(b' ')
+        if name in reference.TABLE and not answer.startswith(b'? '):
+            out.append((reference.TABLE[name] + b' ' + rest, answer))
+    return out
 
 
 def main():
     lines = []
-    for section in SECTIONS:
+    for section in SECTIONS + [lambda: by_table(lines)]:
         made = section()
         lines += made
-        print('%6d  %s' % (len(made), section.__name__))
+        print('%6d  %s' % (len(made), 'by_table' if section.__name__ == '<lambda>' else section.__name__))
     print('%6d  lines' % len(lines))
     made = {CRATE / 'stdin': b'\n'.join(line for line, _ in lines),
             CRATE / 'stdout': b''.join(line + b' => ' + answer + b'\n' for line, answer in lines),

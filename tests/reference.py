@@ -8,6 +8,7 @@ with the proved code (no pieces, no blocks, no tables), so that the two do not s
 
     tests/reference.py < calls > answers
 """
+import functools
 import itertools
 import re
 import sys
@@ -600,6 +601,106 @@ def tally(doc):
     return tallyon(0, doc)
 
 
+# ---- documents that come in parts
+
+# What may follow a prefix, to see which of its tokens are decided: nothing, or one byte. One byte is enough. Only the last token of
+# a prefix can be undecided: one that ends before the prefix does has its end shown by the byte after it, and what follows cannot
+# move that byte. The last token of the prefix reaches up to the prefix's end. If some further bytes change it, then the first of
+# them alone does: either that byte belongs to the token, and the token is longer already; or it does not, and then the token has
+# ended before a byte that stands, and nothing after that byte matters to it. And a byte order mark is begun by bytes that are an
+# Atom until it is whole, and an `a` makes that Atom longer. The bytes are those that the rules name, one for each class of them.
+# tests/make_answers.py holds this to all bytes and to longer extensions.
+FURTHER = (b'',) + tuple(bytes([b]) for b in b'.= \t#\r\n\'"\\a\xbb\xbf')
+
+
+def common(lists):
+    """The longest list with which all of them begin."""
+    first, *rest = lists
+    agreed = itertools.takewhile(lambda i: all(other[i:i + 1] == first[i:i + 1] for other in rest), range(len(first)))
+    return [first[i] for i in agreed]
+
+
+@functools.lru_cache(1024)
+def decided(prefix, further=FURTHER):
+    """The tokens that all further bytes leave the same. Their lines follow from what stands before them."""
+    return common([tokens(prefix + more) for more in further])
+
+
+def mendable(prefix):
+    """Whether some further bytes make the prefix UTF-8: it is, or a tail of one to three continuation bytes makes it so."""
+    tails = [b''] + [bytes([b]) + b'\x80' * n for b in (0x80, 0x90, 0xA0) for n in range(3)]
+    return any(valid_prefix(prefix + tail) == len(prefix + tail) for tail in tails)
+
+
+class Parts:
+    """What was handed in so far, how many tokens were given, and whether it has ended."""
+
+    def __init__(self):
+        self.joined, self.given, self.ended = b'', 0, False
+
+    def end(self, *refusal):
+        self.ended = True
+        return refusal, []
+
+    def give(self, joined, all_tokens, room):
+        new = all_tokens[self.given:]
+        if room < len(new):
+            return (3, len(new)), []
+        self.joined, self.given = joined, len(all_tokens)
+        return None, [(*t, line_of(joined, t[1])) for t in new]
+
+    def feed(self, part, room):
+        """The refusal, or None, and the tokens that the part gives."""
+        joined = self.joined + part
+        if self.ended:
+            return (8, 0), []
+        if len(joined) > LIMIT:
+            return self.end(2, LIMIT)
+        if not mendable(joined):
+            return self.end(1, valid_prefix(joined), fault_length(joined))
+        return self.give(joined, decided(joined), room)
+
+    def close(self, room):
+        """The same of the closing word."""
+        if self.ended:
+            return (8, 0), []
+        if valid_prefix(self.joined) < len(self.joined):
+            return self.end(1, valid_prefix(self.joined), fault_length(self.joined))
+        refusal, new = self.give(self.joined, tokens(self.joined), room)
+        self.ended = not refusal
+        return refusal, new
+
+
+def told(refusal):
+    return 'refused ' + ' '.join(map(str, refusal))
+
+
+def partscap(room, first, second, doc):
+    """Three parts and the closing word. A place past the end counts as the end, a second place before the first as the first."""
+    first = min(first, len(doc))
+    second = max(first, min(second, len(doc)))
+    state = Parts()
+    answers = [state.feed(part, room) for part in (doc[:first], doc[first:second], doc[second:])] + [state.close(room)]
+    return ' | '.join(told(refusal) if refusal else records(new) for refusal, new in answers)
+
+
+def parts(first, second, doc):
+    return partscap(len(doc) + 2, first, second, doc)
+
+
+def each_byte(doc):
+    """Each byte a part, then the closing word, up to a refusal."""
+    state, out = Parts(), []
+    for n in range(len(doc) + 1):
+        refusal, new = state.feed(doc[n:n + 1], 2) if n < len(doc) else state.close(2)
+        when = ' @%d' % (n + 1) if n < len(doc) else ' @end'
+        out += [' '.join(map(str, token)) + when for token in new]
+        if refusal:
+            out.append(told(refusal) + when)
+            break
+    return '; '.join(out)
+
+
 # For each name its function and the words after it: n a number, b a flag, r records lent, o output lent, w output lent for a text that is written, x bytes in hex.
 CALLS = {b'lex': (lex, 'x'), b'lexline': (lexline, 'x'), b'lexcap': (lexcap, 'rx'), b'dec': (dec, 'nx'), b'deccap': (deccap, 'norx'),
          b'decin': (decin, 'nnx'), b'utf8': (utf8, 'x'), b'fault': (fault, 'x'),
@@ -608,7 +709,12 @@ CALLS = {b'lex': (lex, 'x'), b'lexline': (lexline, 'x'), b'lexcap': (lexcap, 'rx
          b'write': (write, 'x'), b'writecap': (writecap, 'wx'),
          b'tick': (tick, 'nnrx'), b'untick': (untick, 'nnrx'), b'ticked': (ticked, 'nnrx'), b'ticks': (ticks, 'nrx'),
          b'value': (value, 'nnx'), b'valuein': (valuein, 'nnnx'), b'broken': (broken, 'x'), b'brokenin': (broken_in, 'nx'),
-         b'tally': (tally, 'x'), b'tallyon': (tallyon, 'nx'), b'mend': (mend, 'x'), b'mendin': (mendin, 'nx'), b'mendcap': (mendcap, 'wrx')}
+         b'tally': (tally, 'x'), b'tallyon': (tallyon, 'nx'), b'mend': (mend, 'x'), b'mendin': (mendin, 'nx'), b'mendcap': (mendcap, 'wrx'),
+         b'parts': (parts, 'nnx'), b'partscap': (partscap, 'rnnx'), b'bytes': (each_byte, 'x')}
+
+# The second engine answers as the first does: only how it reads a byte differs, and here that is a set either way.
+TABLE = {b'lex': b'tlex', b'lexline': b'tlexline', b'dec': b'tdec', b'decin': b'tdecin', b'stepline': b'tstep'}
+CALLS.update({by_table: CALLS[name] for name, by_table in TABLE.items()})
 
 # The most that the program takes: bytes of a line, of a document, of output, of a text that is written; records.
 LINE, DOCUMENT, OUTPUT, WRITTEN, RECORDS = 131200, 65536, 98305, 393219, 65539

@@ -51,7 +51,7 @@ is_old() {
 build_archive() {
     is_old "$archive" crates.txt crates || return 0
     need rt "the archive is missing or old, and the Rattle kit builds it"
-    echo 'proving and building the library: some seven minutes where nothing is proved yet' >&2
+    echo 'proving and building the library: some twelve minutes where nothing is proved yet' >&2
     mkdir -p target/staticlib
     { rt staticlib galoxumi 2>&1; echo "$?" >target/staticlib/status; } | tee target/staticlib/log |
         sed -u -n 's/^rt: \([a-z_0-9]* proved\)/  \1/p' >&2

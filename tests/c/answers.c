@@ -327,6 +327,69 @@ static void tallyon(struct call c)
     tally_on(c, c.n[0]);
 }
 
+static void put_tokens(FILE *to, const galoxumi_token *t, size_t count)
+{
+    if (count == 0)
+        fputc('-', to);
+    for (size_t i = 0; i < count; i++)
+        fprintf(to, "%s%zu %zu %zu %zu", i == 0 ? "" : "; ", t[i].kind, t[i].start, t[i].end, t[i].line);
+}
+
+static size_t least(size_t a, size_t b)
+{
+    return a < b ? a : b;
+}
+
+/* The parts before, between and from two places on, and the closing word, with so many tokens lent to each call. */
+static void in_parts(struct call c, size_t room, size_t first, size_t second)
+{
+    size_t places[4] = {0, least(first, c.len), least(second, c.len), c.len};
+    galoxumi_token *t = lent(room, sizeof *t);
+    galoxumi_parts state = galoxumi_parts_start();
+    if (places[2] < places[1])
+        places[2] = places[1];
+    for (size_t i = 0; i < 4; i++) {
+        galoxumi_fed fed = i < 3 ? galoxumi_parts_feed(&state, c.doc + places[i], places[i + 1] - places[i], t, room)
+                                 : galoxumi_parts_close(&state, t, room);
+        state = fed.state;
+        fputs(i == 0 ? "" : " | ", c.to);
+        if (!refused(c.to, fed.answer))
+            put_tokens(c.to, t, fed.answer.value);
+    }
+    free(t);
+}
+
+static void parts(struct call c) { in_parts(c, GALOXUMI_MOST_OF_PART(c.len) + 1, c.n[0], c.n[1]); }
+static void partscap(struct call c) { in_parts(c, c.n[0], c.n[1], c.n[2]); }
+
+/* Each byte a part, and the closing word, up to a refusal. */
+static void bytes(struct call c)
+{
+    galoxumi_parts state = galoxumi_parts_start();
+    const char *joint = "";
+    for (size_t n = 0; n <= c.len; n++) {
+        galoxumi_token t[2];
+        char when[32] = " @end";
+        galoxumi_fed fed = n < c.len ? galoxumi_parts_feed(&state, c.doc + n, 1, t, GALOXUMI_MOST_OF_PART(1))
+                                     : galoxumi_parts_close(&state, t, GALOXUMI_MOST_AT_CLOSE);
+        state = fed.state;
+        if (n < c.len)
+            snprintf(when, sizeof when, " @%zu", n + 1);
+        if (fed.answer.refusal != GALOXUMI_ANSWERED) {
+            fputs(joint, c.to);
+            refused(c.to, fed.answer);
+            fputs(when, c.to);
+            return;
+        }
+        for (size_t i = 0; i < fed.answer.value; i++) {
+            fputs(joint, c.to);
+            put_tokens(c.to, t + i, 1);
+            fputs(when, c.to);
+            joint = "; ";
+        }
+    }
+}
+
 /* Each call: its name, how many numbers it has, and whether bytes follow them. */
 static struct {
     const char *name;
@@ -340,7 +403,8 @@ static struct {
     {"desc", 1, 0, desc},     {"tick", 3, 1, tick},         {"untick", 3, 1, untick}, {"ticked", 3, 1, ticked},
     {"ticks", 2, 1, ticks},   {"value", 2, 1, value},       {"valuein", 3, 1, valuein}, {"broken", 0, 1, broken},
     {"brokenin", 1, 1, brokenin}, {"tally", 0, 1, tally},   {"tallyon", 1, 1, tallyon}, {"mend", 0, 1, mend},
-    {"mendin", 1, 1, mendin}, {"mendcap", 2, 1, mendcap},
+    {"mendin", 1, 1, mendin}, {"mendcap", 2, 1, mendcap},   {"parts", 2, 1, parts},   {"partscap", 3, 1, partscap},
+    {"bytes", 0, 1, bytes},
 };
 enum { KNOWN = sizeof CALLS / sizeof *CALLS };
 

@@ -427,6 +427,11 @@ static void at_the_limit(struct memory m, size_t len)
     EXPECT(answers(galoxumi_write_value(m.doc, len, m.out, len + 2), 0, len + 2) && m.out[0] == '\'' && m.out[len + 1] == '\'');
     EXPECT(answers(galoxumi_write_value(m.doc, len, m.out, len + 1), 4, len + 2));
     EXPECT(breaks_nowhere(galoxumi_first_broken(m.doc, len), 0, 0, 0));
+    galoxumi_parts state = galoxumi_parts_start();
+    galoxumi_fed half = galoxumi_parts_feed(&state, m.doc, len / 2, m.tokens, 0);
+    half = galoxumi_parts_feed(&half.state, m.doc + len / 2, len - len / 2, m.tokens, 1);
+    EXPECT(answers(half.answer, 0, 1) && is_token(m.tokens[0], 34, 0, len, 1));
+    EXPECT(answers(galoxumi_parts_close(&half.state, m.tokens, 1).answer, 0, 1) && is_token(m.tokens[0], 4, len, len, 1));
     FROM("docs/RULES.md, the refusals: 1 at the last byte");
     m.doc[len - 1] = 0xC3;
     EXPECT(answers(galoxumi_check_utf8(m.doc, len), 1, len - 1));
@@ -462,6 +467,13 @@ static void past_the_limit(struct memory m, size_t len)
     d = galoxumi_decode_in(m.doc, len, 12, 34, m.out, LIMIT, m.errors, LIMIT);
     EXPECT(answers(d.answer, 2, LIMIT) && d.errors == 0);
     EXPECT(breaks_nowhere(galoxumi_first_broken_in(m.doc, len, 12), 2, LIMIT, 0));
+    galoxumi_parts state = galoxumi_parts_start();
+    galoxumi_fed fed = galoxumi_parts_feed(&state, m.doc, len, m.tokens, 0);
+    EXPECT(answers(fed.answer, 2, LIMIT) && fed.state.ended == 1);
+    memset(m.doc + 1, '.', len - 1);
+    fed = galoxumi_parts_feed(&state, m.doc + 1, len - 1, m.tokens, len);
+    m.tokens[0].kind = 7;
+    EXPECT(answers(fed.answer, 0, len - 1) && answers(galoxumi_parts_feed(&fed.state, m.doc, 1, m.tokens, 0).answer, 2, LIMIT));
     EXPECT(m.out[0] == 0xA5 && m.errors[0].number == 7 && m.tokens[0].kind == 7);
 }
 
@@ -899,6 +911,133 @@ static void figures_refused(void)
     EXPECT(tallied(dots, 65536, UINT64_MAX - 65535, 13, SIZE_MAX).tokens[0] == UINT64_MAX - 65535);
 }
 
+/* ---- documents in parts */
+
+/* Hands a part in and goes on from the state that comes back: how many tokens it gives, where it answers. */
+static size_t fed(galoxumi_parts *state, const uint8_t *part, size_t len, galoxumi_token *tokens, size_t room, size_t refusal, size_t value)
+{
+    galoxumi_parts before = *state;
+    galoxumi_fed f = galoxumi_parts_feed(&before, part, len, tokens, room);
+    EXPECT(answers(f.answer, refusal, value) && memcmp(&before, state, sizeof before) == 0);
+    *state = f.state;
+    return f.answer.value;
+}
+
+/* The same of the closing word. */
+static size_t shut(galoxumi_parts *state, galoxumi_token *tokens, size_t room, size_t refusal, size_t value)
+{
+    galoxumi_fed f = galoxumi_parts_close(state, tokens, room);
+    EXPECT(answers(f.answer, refusal, value));
+    *state = f.state;
+    return f.answer.value;
+}
+
+/* In three parts, with every two cuts: in all the tokens of whole lexing. */
+static int cut_anywhere(const uint8_t *doc, size_t len)
+{
+    galoxumi_token whole[64], given[64];
+    size_t count = galoxumi_lex(doc, len, whole, 64).value;
+    for (size_t second = 0; second <= len; second++) {
+        for (size_t first = 0; first <= second; first++) {
+            galoxumi_parts state = galoxumi_parts_start();
+            size_t places[4] = {0, first, second, len}, n = 0;
+            memset(given, 0xA5, sizeof given);
+            for (size_t i = 0; i < 4; i++) {
+                galoxumi_fed f = i < 3 ? galoxumi_parts_feed(&state, doc + places[i], places[i + 1] - places[i], given + n, 64 - n)
+                                       : galoxumi_parts_close(&state, given + n, 64 - n);
+                if (f.answer.refusal != GALOXUMI_ANSWERED)
+                    return 0;
+                n += f.answer.value;
+                state = f.state;
+            }
+            if (n != count || memcmp(given, whole, n * sizeof *whole) != 0)
+                return 0;
+        }
+    }
+    return 1;
+}
+
+static void parts(void)
+{
+    galoxumi_token t[4];
+    galoxumi_parts state = galoxumi_parts_start();
+    FROM("crates/built_parts/specs/Feeding.antt: nothing is in progress, on line 1; ten numbers");
+    EXPECT(sizeof state == 10 * sizeof(size_t) && state.mode == 0 && state.at == 0 && state.line == 1 && state.left == 0 && state.ended == 0);
+    FROM("docs/TRACE.md, c2: as soon as all further bytes would leave it the same, and not sooner");
+    EXPECT(fed(&state, BYTES("a"), t, 4, 0, 0) == 0);
+    EXPECT(fed(&state, BYTES(" ="), t, 4, 0, 3) == 3 && is_token(t[0], 3, 0, 1, 1) && is_token(t[2], 61, 2, 3, 1));
+    EXPECT(fed(&state, BYTES("\"\""), t, 4, 0, 0) == 0);
+    EXPECT(fed(&state, BYTES("\n"), t, 4, 0, 2) == 2 && is_token(t[0], 34, 3, 5, 1) && is_token(t[1], 10, 5, 6, 1));
+    EXPECT(fed(&state, BYTES("\r"), t, 4, 0, 0) == 0);
+    EXPECT(fed(&state, BYTES("\n'b'"), t, 4, 0, 2) == 2 && is_token(t[0], 10, 6, 8, 2) && is_token(t[1], 39, 8, 11, 3));
+    EXPECT(fed(&state, NULL, 0, NULL, 0, 0, 0) == 0);
+    FROM("docs/TRACE.md, c3: after the closing word, the tokens of the joined bytes");
+    EXPECT(fed(&state, BYTES("#c"), t, 4, 0, 0) == 0);
+    EXPECT(shut(&state, t, 2, 0, 2) == 2 && is_token(t[0], 35, 11, 13, 3) && is_token(t[1], 4, 13, 13, 3));
+    EXPECT(cut_anywhere(BYTES("")) && cut_anywhere(BYTES("\xEF\xBB\xBF" "a")) && cut_anywhere(BYTES("\xEF\xBB\xBB")));
+    EXPECT(cut_anywhere(BYTES("a = \"b\\\"\xC3\xA9\"\r\n# \xF0\x9F\x98\x80\n")) && cut_anywhere(BYTES("'''a\n'''''''\r\r\n\"\"\"\\\"\"\"\n\"\"\"")));
+}
+
+static void parts_refused(void)
+{
+    galoxumi_token t[4], old[4];
+    memset(old, 0xA5, sizeof old);
+    memcpy(t, old, sizeof old);
+    FROM("docs/TRACE.md, c7: 3 with the records that the call needs, and the state as before; the same call with enough goes on");
+    galoxumi_parts state = galoxumi_parts_start(), before;
+    fed(&state, BYTES("a"), t, 0, 0, 0);
+    before = state;
+    fed(&state, BYTES(" ="), t, 2, 3, 3);
+    EXPECT(memcmp(&state, &before, sizeof state) == 0 && memcmp(t, old, sizeof old) == 0);
+    fed(&state, BYTES(" ="), t, 3, 0, 3);
+    before = state;
+    shut(&state, t, 0, 3, 1);
+    EXPECT(memcmp(&state, &before, sizeof state) == 0);
+    FROM("docs/TRACE.md, c6 and c5: 1 at the first part after which nothing could mend it, with its two numbers, before 3; then 8 with 0");
+    before = state;
+    fed(&state, BYTES("\xE2\x82"), t, 0, 0, 0);
+    galoxumi_fed f = galoxumi_parts_feed(&state, BYTES(".\xFF"), t, 0);
+    EXPECT(answers(f.answer, GALOXUMI_NOT_UTF8, 3) && f.answer.length == 2 && f.state.ended == 1);
+    f = galoxumi_parts_feed(&f.state, BYTES("\xFF"), t, 0);
+    EXPECT(answers(f.answer, GALOXUMI_AFTER_END, 0) && answers(galoxumi_parts_close(&f.state, t, 0).answer, 8, 0));
+    f = galoxumi_parts_close(&state, t, 0);
+    EXPECT(answers(f.answer, 1, 3) && f.answer.length == 0 && answers(galoxumi_parts_close(&f.state, t, 4).answer, 8, 0));
+    state = before;
+    shut(&state, t, 4, 0, 1);
+    fed(&state, BYTES(""), t, 4, 8, 0);
+    shut(&state, t, 0, 8, 0);
+    FROM("include/galoxumi.h: a state made by hand; crates/built_parts/specs/Feeding.antt: a line past the place plus 1");
+    before = galoxumi_parts_start();
+    state = before;
+    state.mode = 28;
+    fed(&state, BYTES("\xFF"), t, 0, 8, 0);
+    state = before;
+    state.mode = SIZE_MAX;
+    shut(&state, t, 0, 8, 0);
+    state = before;
+    state.ended = 7;
+    shut(&state, t, 0, 8, 0);
+    state = before;
+    state.line = 2;
+    fed(&state, BYTES("a"), t, 0, 8, 0);
+    state = (galoxumi_parts){3, 0, 0, 9, 5, 0, 0, 0, 9, 0};
+    EXPECT(fed(&state, BYTES(".\n"), t, 4, 0, 2) == 2 && is_token(t[0], 46, 9, 10, 5) && is_token(t[1], 10, 10, 11, 5));
+    EXPECT(shut(&state, t, 1, 0, 1) == 1 && is_token(t[0], 4, 11, 11, 6));
+    state = (galoxumi_parts){6, 1, 1, 2, 1, 1, 0x80, 256, 1, 0};
+    EXPECT(fed(&state, BYTES("\xFF"), t, 4, 0, 0) == 0);
+    state = (galoxumi_parts){6, 1, 1, 2, 1, 1, 0x80, 0xFE, 1, 0};
+    fed(&state, BYTES("\xFF"), t, 4, 1, 1);
+    FROM("docs/RULES.md, the refusals: 2 before 1 and 3, with 16,777,216; 8 before it");
+    state = (galoxumi_parts){3, 0, 1, LIMIT, 1, 0, 0, 0, LIMIT, 0};
+    before = state;
+    EXPECT(answers(galoxumi_parts_feed(&state, BYTES("\xFF"), t, 0).answer, 2, LIMIT));
+    EXPECT(shut(&state, t, 1, 0, 1) == 1 && is_token(t[0], 4, LIMIT, LIMIT, 1));
+    before.at = SIZE_MAX;
+    before.ended = 0;
+    shut(&before, t, 0, 2, LIMIT);
+    fed(&before, BYTES("\xFF"), t, 0, 8, 0);
+}
+
 /* NULL stands for memory of no bytes, tokens, errors or marks, read or lent. */
 static void nulls(void)
 {
@@ -987,6 +1126,8 @@ int main(void)
     RUN(first_broken);
     RUN(figures);
     RUN(figures_refused);
+    RUN(parts);
+    RUN(parts_refused);
     RUN(long_documents);
     printf("C: %d expectations held\n", held);
     printf("C: %d passed, %d failed\n", passed, failed);

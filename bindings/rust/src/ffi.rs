@@ -134,6 +134,28 @@ pub(crate) struct Pieced {
     pub body: Body,
 }
 
+/// A document that comes in parts, between two calls.
+#[derive(Copy, Clone, PartialEq, Eq, Debug)]
+#[repr(C)]
+pub(crate) struct State {
+    pub mode: usize,
+    pub start: usize,
+    pub first: usize,
+    pub at: usize,
+    pub line: usize,
+    pub left: usize,
+    pub low: usize,
+    pub high: usize,
+    pub valid: usize,
+    pub ended: usize,
+}
+
+#[repr(C)]
+pub(crate) struct Fed {
+    pub answer: Answer,
+    pub state: State,
+}
+
 mod archive {
     use super::*;
 
@@ -220,6 +242,15 @@ mod archive {
             end: usize,
         ) -> Answer;
         pub fn galoxumi_tally(doc: *const u8, doc_len: usize, totals: *const crate::Totals) -> Tallied;
+        pub fn galoxumi_parts_start() -> State;
+        pub fn galoxumi_parts_feed(
+            state: *const State,
+            part: *const u8,
+            part_len: usize,
+            records: *mut [usize; 4],
+            records_len: usize,
+        ) -> Fed;
+        pub fn galoxumi_parts_close(state: *const State, records: *mut [usize; 4], records_len: usize) -> Fed;
     }
 }
 
@@ -348,4 +379,17 @@ pub(crate) fn is_value_in(tokens: &[crate::Token], edition: usize, start: usize,
 
 pub(crate) fn tally(doc: &[u8], totals: &crate::Totals) -> Tallied {
     unsafe { archive::galoxumi_tally(doc.as_ptr(), doc.len(), totals) }
+}
+
+pub(crate) fn parts_start() -> State {
+    unsafe { archive::galoxumi_parts_start() }
+}
+
+/// Writes tokens as `lex` does.
+pub(crate) fn parts_feed(state: &State, part: &[u8], tokens: &mut [MaybeUninit<crate::Token>]) -> Fed {
+    unsafe { archive::galoxumi_parts_feed(state, part.as_ptr(), part.len(), tokens.as_mut_ptr().cast(), tokens.len()) }
+}
+
+pub(crate) fn parts_close(state: &State, tokens: &mut [MaybeUninit<crate::Token>]) -> Fed {
+    unsafe { archive::galoxumi_parts_close(state, tokens.as_mut_ptr().cast(), tokens.len()) }
 }

@@ -18,14 +18,16 @@
 //! # Ok::<(), galoxumi::Refusal>(())
 //! ```
 //!
-//! The crate is `no_std`. Without its feature `alloc`, which is on by default, the calls that answer in vectors and strings
-//! are not there, and those that end in `_into`, [`Lexer`], [`Pieces`] and [`Places`] do all of it in lent memory or in none.
+//! The feature `std`, which is on by default, adds one thing: [`TokenWriter`] is a `std::io::Write`. Without it the crate is
+//! `no_std`. Without its feature `alloc`, which `std` brings along, the calls that answer in vectors and strings are not there, and
+//! those that end in `_into`, [`Lexer`], [`Pieces`], [`TokenWriter`] and [`Places`] do all of it in lent memory or in
+//! none.
 #![no_std]
 #![deny(missing_docs)]
 
 #[cfg(feature = "alloc")]
 extern crate alloc;
-#[cfg(test)]
+#[cfg(any(test, feature = "std"))]
 extern crate std;
 
 mod broken;
@@ -35,6 +37,7 @@ mod ffi;
 mod figures;
 mod lexing;
 mod mending;
+mod parts;
 mod pieces;
 mod place;
 mod refusal;
@@ -57,6 +60,7 @@ pub use lexing::{lex_into, Lexer};
 #[cfg(feature = "alloc")]
 pub use mending::{put_right, Mended};
 pub use mending::{put_right_into, BrokenRecord, LentMended};
+pub use parts::{Parts, TokenWriter};
 pub use pieces::{key_pieces, pieces, Given, Piece, Pieces};
 pub use place::{check_span, position, text, Places, Position};
 pub use refusal::{Refusal, Sought};

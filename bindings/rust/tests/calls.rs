@@ -570,3 +570,71 @@ fn pieces_tell_their_places() {
     let mut none = pieces(b"''", Encoding::LiteralString, Edition::Toml10);
     assert_eq!((none.next(), none.next()), (None, None));
 }
+
+#[test]
+fn a_document_may_be_cut_anywhere() {
+    let doc = b"\xEF\xBB\xBFa = \"b\\\"\xC3\xA9\" # c\r\n'''d\n''''''\r";
+    let whole = lex(doc).expect("lexed");
+    for cut in 0..=doc.len() {
+        let (first, second) = doc.split_at(cut);
+        let mut parts = Parts::new();
+        let mut tokens = parts.feed(first).expect("a part");
+        tokens.extend(parts.feed(second).expect("another"));
+        assert_eq!(parts.place(), doc.len());
+        tokens.extend(parts.close().expect("the end"));
+        assert_eq!(tokens, whole);
+        assert!(parts.is_ended());
+    }
+    let mut given = Vec::new();
+    let mut writer = TokenWriter::new(|token| given.push(token));
+    doc.iter().for_each(|b| writer.write_part(&[*b]).expect("a byte"));
+    writer.finish().expect("the end");
+    assert_eq!(given, whole);
+}
+
+#[test]
+fn long_parts_are_handed_on_in_pieces() {
+    let doc = b"a = [1, '\xC3\xA9', \"\"\"\n\"\"\"] # b\n".repeat(1000);
+    let mut given = Vec::new();
+    let mut writer = TokenWriter::new(|token| given.push(token));
+    writer.write_part(&doc).expect("written");
+    assert_eq!(writer.parts().place(), doc.len());
+    writer.finish().expect("the end");
+    assert_eq!(Ok(given), lex(&doc));
+    assert_eq!(Parts::new().feed(&[b'.'; 5000]).expect("a part").len(), 5000);
+}
+
+#[test]
+fn parts_are_refused() {
+    let mut parts = Parts::new();
+    let mut tokens = [Token::default(); 3];
+    assert_eq!(parts.feed_into(b"a", &mut []), Ok(0));
+    let before = parts;
+    assert_eq!(parts.feed_into(b" =", &mut tokens[..2]), Err(Refusal::FewTokens { needed: 3 }));
+    assert_eq!(parts, before);
+    assert_eq!(parts.feed_into(b" =", &mut tokens), Ok(3));
+    assert_eq!(tokens.map(|t| t.kind()), [TokenKind::Atom, TokenKind::Whitespace, TokenKind::Equals]);
+    assert_eq!(parts.feed_into(b"\xE2\x82", &mut []), Ok(0));
+    let mut cut = parts;
+    assert_eq!(cut.close_into(&mut []), Err(Refusal::NotUtf8 { valid: 3, error_len: None }));
+    assert_eq!(parts.feed(b"."), Err(Refusal::NotUtf8 { valid: 3, error_len: NonZeroUsize::new(2) }));
+    assert_eq!(parts.feed(b"a"), Err(Refusal::AfterEnd));
+    assert_eq!(parts.close(), Err(Refusal::AfterEnd));
+    let mut long = Parts::new();
+    assert_eq!(long.feed_into(&vec![b'#'; 16_777_216], &mut []), Ok(0));
+    assert_eq!(long.feed(b"a"), Err(Refusal::TooLong));
+}
+
+#[cfg(feature = "std")]
+#[test]
+fn a_writer_is_written_to() {
+    let doc = b"a = 'b'\r\n\xC3\xA9".repeat(500);
+    let mut given = Vec::new();
+    let mut writer = TokenWriter::new(|token| given.push(token));
+    std::io::copy(&mut &doc[..], &mut writer).expect("written");
+    writer.finish().expect("the end");
+    assert_eq!(Ok(given), lex(&doc));
+    let mut writer = TokenWriter::new(|_| panic!("no token is decided"));
+    let refused = std::io::Write::write(&mut writer, b"a\xFF").expect_err("not UTF-8");
+    assert_eq!(refused.kind(), std::io::ErrorKind::InvalidData);
+}

@@ -1,8 +1,8 @@
 // Answers calls: reads standard input line by line, and writes each line, ` => ` and its answer.
 // tests/README.md says which lines there are. `answers_asking` reads what a line asks for,
-// `answers_calls` and `answers_built_calls` make the call, and `answers_spelling` writes the answer. The
-// memory that is lent to them is made here, once, and a line uses no more of it than its own length
-// asks for.
+// `answers_calls`, `answers_built_calls`, `answers_parts_calls` and `answers_table_calls` make the call, and
+// `answers_spelling` writes the answer. The memory that is lent to them is made here, once, and a line uses no more of it than
+// its own length asks for.
 ghost use Prim.Native.Nat.{_≤_};
 ghost use lib.ListN.{length};
 use answers_asking::Call;
@@ -99,6 +99,15 @@ fn reply(
             tokens,
         ),
         Call::Built(made) => answers_built_calls::built_reply(
+            made,
+            numbers,
+            doc,
+            bytes,
+            errors,
+            tokens,
+        ),
+        Call::Parts(made) => answers_parts_calls::parts_reply(made, numbers, doc, errors, tokens),
+        Call::Table(made) => answers_table_calls::table_reply(
             made,
             numbers,
             doc,

@@ -1,5 +1,6 @@
 // The lines that there are: for the name of each call, how the words after it are read. A line form is
-// a variant of its family below, and a line of `reader_line` or `built_line`.
+// a variant of its family below, and a line of `reader_line`, `built_line`, `parts_line` or
+// `table_line`.
 ghost use Prim.Native.Nat.{_≤_};
 
 // One more than the longest document that is taken, of 65,536 bytes, can need: decoded it has at most
@@ -55,9 +56,27 @@ pub enum BuiltCall {
     TallyOn,
 }
 
+// The calls over a document that comes in parts.
+pub enum PartsCall {
+    Parts,
+    PartsCap,
+    Bytes,
+}
+
+// The calls of the reader as the second engine makes them, by the table of byte classes.
+pub enum TableCall {
+    Lex,
+    LexLine,
+    Dec,
+    DecIn,
+    Step,
+}
+
 pub enum Call {
     Reader(ReaderCall),
     Built(BuiltCall),
+    Parts(PartsCall),
+    Table(TableCall),
     Unknown,
 }
 
@@ -75,7 +94,26 @@ pub(crate) fn line_of(key: usize) -> Line {
     let line = reader_line(key);
     let call = line.call;
     if let Call::Unknown = call {
-        return built_line(key);
+        return added_line(key);
+    }
+    line
+}
+
+// A line of a call that a request added.
+fn added_line(key: usize) -> Line {
+    let line = built_line(key);
+    let call = line.call;
+    if let Call::Unknown = call {
+        return later_line(key);
+    }
+    line
+}
+
+fn later_line(key: usize) -> Line {
+    let line = parts_line(key);
+    let call = line.call;
+    if let Call::Unknown = call {
+        return table_line(key);
     }
     line
 }
@@ -122,12 +160,40 @@ fn built_line(key: usize) -> Line {
     }
 }
 
+fn parts_line(key: usize) -> Line {
+    match key {
+        0x70_61_72_74_73 => parts(PartsCall::Parts, 2),
+        0x70_61_72_74_73_63_61_70 => limited(parts(PartsCall::PartsCap, 3), [RECORDS, ANY, ANY]),
+        0x62_79_74_65_73 => parts(PartsCall::Bytes, 0),
+        _ => plain(Call::Unknown, 0),
+    }
+}
+
+fn table_line(key: usize) -> Line {
+    match key {
+        0x74_6C_65_78 => table(TableCall::Lex, 0),
+        0x74_6C_65_78_6C_69_6E_65 => table(TableCall::LexLine, 0),
+        0x74_64_65_63 => table(TableCall::Dec, 1),
+        0x74_64_65_63_69_6E => table(TableCall::DecIn, 2),
+        0x74_73_74_65_70 => limited(table(TableCall::Step, 3), [ANY, FLAG, ANY]),
+        _ => plain(Call::Unknown, 0),
+    }
+}
+
 fn reader(call: ReaderCall, count: usize) -> Line {
     plain(Call::Reader(call), count)
 }
 
 fn built(call: BuiltCall, count: usize) -> Line {
     plain(Call::Built(call), count)
+}
+
+fn parts(call: PartsCall, count: usize) -> Line {
+    plain(Call::Parts(call), count)
+}
+
+fn table(call: TableCall, count: usize) -> Line {
+    plain(Call::Table(call), count)
 }
 
 // A line of so many numbers, which may be any, and a document.

@@ -24,6 +24,8 @@ pub enum Form {
     FirstBroken,
     Sound,
     Tallied,
+    Parted,
+    ByBytes,
     // why a line is no call
     TooLong,
     UnknownCall,
@@ -36,17 +38,19 @@ pub enum Form {
     Nothing,
 }
 
+// The time of what the closing word gives: no document has so many bytes.
+pub const AT_END: usize = usize::MAX;
+
 pub struct Reply {
     pub form: Form,
     pub numbers: [usize; 8],
 }
 
 // In the text of a form a `#` stands for the next number, a `$` for as many bytes in hex as that
-// number says, a `%` for as many errors, a `&` for as many tokens, and a `@` for as many tokens with
-// their lines; a `^` stands for the totals of figures, which the errors hold. A `_` stands for nothing. Any other byte is
-// written as it is.
 // number says, a `%` for as many errors, a `~` for as many errors after their tokens' spans, a `&` for as
-// many tokens, and a `@` for as many tokens with their lines. A `_` stands for nothing. Any other byte is written as it is.
+// many tokens, a `@` for as many tokens with their lines, and a `!` for as many tokens each with the time
+// at which it was given. A `^` stands for the totals of figures and a `*` for the answers of four calls,
+// both of which the errors hold. A `_` stands for nothing. Any other byte is written as it is.
 type Text = [u8; 24];
 
 const TOKENS: Text = *b"&\n______________________";
@@ -88,6 +92,10 @@ const FIRST_BROKEN: Text = *b"# # # # | # # #\n________";
 const SOUND: Text = *b"-\n______________________";
 
 const TALLIED: Text = *b"# # | ^\n________________";
+
+const PARTED: Text = *b"*\n______________________";
+
+const BY_BYTES: Text = *b"!\n______________________";
 
 const TOO_LONG: Text = *b"? too long\n_____________";
 
@@ -139,6 +147,8 @@ fn text_of(form: Form) -> Text {
         Form::FirstBroken => FIRST_BROKEN,
         Form::Sound => SOUND,
         Form::Tallied => TALLIED,
+        Form::Parted => PARTED,
+        Form::ByBytes => BY_BYTES,
         Form::TooLong => TOO_LONG,
         Form::UnknownCall => UNKNOWN_CALL,
         Form::WordCount => WORD_COUNT,
@@ -189,7 +199,7 @@ fn next_number(k: usize, b: u8) -> usize {
 
 fn takes_number(b: u8) -> bool {
     match b {
-        b'#' | b'$' | b'%' | b'~' | b'&' | b'@' => true,
+        b'#' | b'$' | b'%' | b'~' | b'&' | b'@' | b'!' => true,
         _ => false,
     }
 }
@@ -212,6 +222,8 @@ fn put_field(
         b'&' => put_tokens(out, used, tokens, number, false),
         b'@' => put_tokens(out, used, tokens, number, true),
         b'^' => put_totals(out, used, errors),
+        b'*' => put_calls(out, used, errors, tokens),
+        b'!' => put_given(out, used, errors, tokens, number),
         _ => put_byte(out, used, b),
     }
 }
@@ -333,6 +345,108 @@ fn put_total(out: &mut [u8], used: usize, place: usize, number: usize) -> usize 
         }
         _ => put_next(out, used, number),
     }
+}
+
+// The answers of four calls: of each the errors hold the refusal's number, 0 where it answered, with the
+// count of its tokens, or else the refusal's value and length. The tokens of one follow those of another.
+fn put_calls(out: &mut [u8], used: usize, calls: &[[usize; 3]], tokens: &[[usize; 4]]) -> usize {
+    let mut n = used;
+    let mut from = 0;
+    let mut i = 0;
+    while i < calls.len() && i < 4 {
+        n = put_bar(out, n, i);
+        n = put_call(out, n, calls[i], tokens, from);
+        from = after_call(calls[i], tokens, from);
+        i += 1;
+    }
+    n
+}
+
+fn put_call(
+    out: &mut [u8],
+    used: usize,
+    call: [usize; 3],
+    tokens: &[[usize; 4]],
+    from: usize,
+) -> usize {
+    if call[0] != 0 {
+        return put_refusal(out, used, call[0], call[1], call[2]);
+    }
+    if tokens.len() < from {
+        return used;
+    }
+    put_tokens(out, used, &tokens[from..], call[1], true)
+}
+
+// The place of the tokens of the next call.
+fn after_call(call: [usize; 3], tokens: &[[usize; 4]], from: usize) -> usize {
+    if call[0] != 0 {
+        return from;
+    }
+    if tokens.len() < from {
+        return from;
+    }
+    if tokens.len() - from < call[1] {
+        return from;
+    }
+    from + call[1]
+}
+
+// With refusal 1 both of its numbers.
+fn put_refusal(out: &mut [u8], used: usize, refusal: usize, value: usize, length: usize) -> usize {
+    let n = put_all(out, used, b"refused");
+    let m = put_next(out, n, refusal);
+    let k = put_next(out, m, value);
+    if refusal == 1 {
+        return put_next(out, k, length);
+    }
+    k
+}
+
+// The first `count` tokens, joined by `; `, each with the time at which it was given. Of each the errors
+// hold 0 and that time. A refusal is the last: its value in place of the token; its number, its time and
+// its length in place of the error.
+fn put_given(
+    out: &mut [u8],
+    used: usize,
+    times: &[[usize; 3]],
+    tokens: &[[usize; 4]],
+    count: usize,
+) -> usize {
+    let mut n = used;
+    let mut i = 0;
+    while i < tokens.len() && i < times.len() && i < count {
+        n = put_joint(out, n, i);
+        n = put_at(out, n, times[i], tokens[i]);
+        i += 1;
+    }
+    n
+}
+
+fn put_at(out: &mut [u8], used: usize, time: [usize; 3], token: [usize; 4]) -> usize {
+    if time[0] == 0 {
+        let n = put_token(out, used, token, true);
+        return put_time(out, n, time[1]);
+    }
+    let n = put_refusal(out, used, time[0], token[0], time[2]);
+    put_time(out, n, time[1])
+}
+
+// How many bytes had been handed in, or that it was at the end.
+fn put_time(out: &mut [u8], used: usize, time: usize) -> usize {
+    let n = put_all(out, used, b" @");
+    if time == AT_END {
+        return put_all(out, n, b"end");
+    }
+    put_number(out, n, time)
+}
+
+// What joins the answer of the call of index `i` to the one before it.
+fn put_bar(out: &mut [u8], used: usize, i: usize) -> usize {
+    if i == 0 {
+        return used;
+    }
+    put_all(out, used, b" | ")
 }
 
 // What joins the record of index `i` to the one before it.

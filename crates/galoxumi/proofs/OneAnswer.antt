@@ -95,3 +95,13 @@ galoxumi-first-broken-in κs a x y s t p q = p ∙ sym q
 
 pub galoxumi-tally : OneAnswer promised.galoxumi_tally.Reads.Learnt
 galoxumi-tally κs a x y s t p q = p ∙ sym q
+
+pub galoxumi-parts-start : OneAnswer promised.galoxumi_parts_start.Reads.Learnt
+galoxumi-parts-start κs a x y s t p q = p ∙ sym q
+
+-- the answer with the state after it, and what the records hold
+pub galoxumi-parts-feed : OneOutcome promised.galoxumi_parts_feed.Reads.Learnt (λ κs r s. r and now (s .1 .1 .0))
+galoxumi-parts-feed κs a x y s t p q = both (p .0 ∙ sym (q .0)) (p .1 ∙ sym (q .1))
+
+pub galoxumi-parts-close : OneOutcome promised.galoxumi_parts_close.Reads.Learnt (λ κs r s. r and now (s .1 .0))
+galoxumi-parts-close κs a x y s t p q = both (p .0 ∙ sym (q .0)) (p .1 ∙ sym (q .1))

@@ -1,7 +1,7 @@
 // What C and Rust link: every call as an exported function that answers in numbers. Each function
 // makes its call, and hands the answer to the function that puts it into a struct; it decides nothing
 // itself. include/galoxumi.h says in words what each answers. Definitions: specs/Numbers.antt of
-// library_numbers and of library_built.
+// library_numbers, of library_built and of library_parts.
 ghost use mathlib.Core.Path.{_≡_};
 ghost use lib.ListN.{length};
 ghost use Rattle.text.specs.CheckMeans.{checkOf};
@@ -24,7 +24,10 @@ ghost use Rattle.library_numbers.specs.Numbers.{describedNumbers, encodedNumber
 ghost use Rattle.library_pieces.specs.Numbers.{openNumbers, bodyOf, stepNumbers as pieceNumbers};
 ghost use Rattle.library_built.specs.Numbers.{writeNumbers, writtenBytes, markNumbers, readNumbers, countNumbers, ValueTold};
 ghost use Rattle.library_built.specs.Numbers.{brokenNumbers, tallyNumbers, mendAnswer, mendedBytes, mendedList};
+ghost use Rattle.built_parts.specs.Feeding.{noParts, feedOf, closeOf, feedMemory, closeMemory};
+ghost use Rattle.library_parts.specs.Numbers.{startNumbers as partsNumbers, partsFrom, fedNumbers};
 use built_figures::Totals;
+use built_parts::Parts;
 use lexer::Cursor;
 use lexer_token::Span;
 use lexer_token::TokenKind;
@@ -40,6 +43,9 @@ use library_numbers::PositionNumbers;
 use library_numbers::StartNumbers;
 use library_numbers::StepNumbers;
 use library_numbers::WordsNumbers;
+use library_parts::FedNumbers;
+use library_parts::PartsNumbers;
+use library_parts::StateNumbers;
 use library_pieces::OpenNumbers;
 use library_pieces::PieceNumbers;
 
@@ -324,4 +330,39 @@ pub extern "C" fn galoxumi_tally(doc: &[u8], totals: &Totals) -> TallyNumbers
     ensures { λ r. ⌜ r ≡ tallyNumbers (tallied (now (doc .entry)) (now (totals .entry))) ⌝ }
 {
     library_built::tallied(built_figures::tally(doc, *totals))
+}
+
+// The state before the first part of a document that comes in parts.
+#[no_mangle]
+pub extern "C" fn galoxumi_parts_start() -> PartsNumbers
+    ensures { λ r. ⌜ r ≡ partsNumbers noParts ⌝ }
+{
+    library_parts::started(Parts::start())
+}
+
+// A part. The caller may make the state of any numbers; it is read, and the one after the call is handed back.
+#[no_mangle]
+pub extern "C" fn galoxumi_parts_feed(
+    state: &StateNumbers,
+    part: &[u8],
+    records: &mut [[usize; 4]],
+) -> FedNumbers
+    ensures answer { λ r. ⌜ r
+        ≡ fedNumbers (feedOf (partsFrom (now (state .entry))) (now (part .entry)) (length (now (records .entry)))) ⌝ }
+    ensures memory { λ _. ⌜ now (records .exit)
+        ≡ feedMemory (partsFrom (now (state .entry))) (now (part .entry)) (now (records .entry)) ⌝ }
+{
+    library_parts::fed(library_parts::parts_of(*state).feed(part, records))
+}
+
+// The closing word.
+#[no_mangle]
+pub extern "C" fn galoxumi_parts_close(
+    state: &StateNumbers,
+    records: &mut [[usize; 4]],
+) -> FedNumbers
+    ensures answer { λ r. ⌜ r ≡ fedNumbers (closeOf (partsFrom (now (state .entry))) (length (now (records .entry)))) ⌝ }
+    ensures memory { λ _. ⌜ now (records .exit) ≡ closeMemory (partsFrom (now (state .entry))) (now (records .entry)) ⌝ }
+{
+    library_parts::fed(library_parts::parts_of(*state).close(records))
 }

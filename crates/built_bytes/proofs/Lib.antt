@@ -1,0 +1,3 @@
+pub mod RestLaws
+pub mod RunsLaws
+pub mod OneAnswer

@@ -1,0 +1,13 @@
+-- `run_on` is right because its two branches are the rule's.
+-- Assumes nothing.
+use Rattle.built_bytes.proofs.run_on.Statement.{statement}
+use Rattle.built_bytes.proofs.run_on.Tie as tie
+
+returns : tie.Need-returns
+returns c = simp (c .if1 .taken)
+
+returns-2 : tie.Need-returns-2
+returns-2 c = simp (c .if1 .left)
+
+pub run-on-spec : {M : Type 1} → statement M
+run-on-spec = tie.close (tie.spec returns returns-2)

@@ -1,0 +1,4 @@
+pub mod Checking
+pub mod Feeding
+pub mod Told
+pub mod Passing

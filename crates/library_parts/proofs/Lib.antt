@@ -1,0 +1,3 @@
+pub mod ModeLaws
+pub mod KeptLaws
+pub mod OneAnswer
