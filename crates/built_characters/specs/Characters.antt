@@ -1,5 +1,5 @@
 -- RULE. UTF-8 byte by byte: the character in progress between two bytes, and what one byte more does to it. The table of
--- first bytes is the Unicode standard's, `leadOf` of crate `text`.
+-- first bytes is the Unicode standard's, `leadOf` of crate `text_characters`.
 use Prim.Native.Nat.{ℕ, _-_}
 use mathlib.Core.{Bool.cond}
 use lib.{Dec.ltb}

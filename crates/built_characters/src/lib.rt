@@ -4,6 +4,7 @@ ghost use mathlib.Core.Path.{_≡_};
 ghost use Rattle.built_characters.specs.Characters.{ledBy, asAsked, characterTurn};
 ghost use Rattle.built_characters.specs.declared.CharacterTurn.the-variants.{Sound};
 ghost use Rattle.built_characters.specs.declared.Character.the-variants.{Begun};
+use text_characters::lead_of;
 
 // The character in progress between two bytes: none; or so many bytes are still to come, the next from `low` to `high`.
 pub enum Character {
@@ -37,41 +38,19 @@ impl Character {
     }
 }
 
-// The first byte of a character, by the Unicode standard's table 3-7.
+// The first byte of a character, by the table of first bytes.
 fn led_by(b: u8) -> CharacterTurn
     ensures { λ r. ⌜ r ≡ ledBy b ⌝ }
 {
-    if b < 0x80 {
-        return CharacterTurn::Sound(Character::Whole);
-    }
-    if b < 0xC2 {
+    let lead = lead_of(b);
+    let n = lead.0;
+    if n < 1 {
         return CharacterTurn::Broken;
     }
-    if b < 0xE0 {
-        return asks_for(1, 0x80, 0xBF);
+    if n < 2 {
+        return CharacterTurn::Sound(Character::Whole);
     }
-    if b < 0xE1 {
-        return asks_for(2, 0xA0, 0xBF);
-    }
-    if b < 0xED {
-        return asks_for(2, 0x80, 0xBF);
-    }
-    if b < 0xEE {
-        return asks_for(2, 0x80, 0x9F);
-    }
-    if b < 0xF0 {
-        return asks_for(2, 0x80, 0xBF);
-    }
-    if b < 0xF1 {
-        return asks_for(3, 0x90, 0xBF);
-    }
-    if b < 0xF4 {
-        return asks_for(3, 0x80, 0xBF);
-    }
-    if b < 0xF5 {
-        return asks_for(3, 0x80, 0x8F);
-    }
-    CharacterTurn::Broken
+    asks_for(n - 1, lead.1, lead.2)
 }
 
 fn asks_for(left: usize, low: u8, high: u8) -> CharacterTurn

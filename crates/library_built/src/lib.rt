@@ -15,6 +15,7 @@ use built_review::TickRead;
 use built_values::ValueCheck;
 use built_writing::Wrote;
 use library_numbers::AnswerNumbers;
+use library_numbers::ErrorNumbers;
 use library_numbers::TokenNumbers;
 use library_numbers::answer_of;
 use library_numbers::refused;
@@ -95,14 +96,6 @@ pub fn value_checked(check: ValueCheck) -> AnswerNumbers
         ValueCheck::NoValue => answer_of(0),
         ValueCheck::Refused(r) => refused(r),
     }
-}
-
-// An error: its number, and from where to where it goes, counted from the token's start.
-#[repr(C)]
-pub struct ErrorNumbers {
-    pub number: usize,
-    pub start: usize,
-    pub end: usize,
 }
 
 // `found` is 1 with a broken token and its first error; without one it is 0, and so are all fields after it.

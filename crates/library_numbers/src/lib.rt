@@ -82,6 +82,14 @@ pub struct DecodeNumbers {
     pub errors: usize,
 }
 
+// An error: its number, and from where to where it goes, counted from the start of the text; zeros where there is none.
+#[repr(C)]
+pub struct ErrorNumbers {
+    pub number: usize,
+    pub start: usize,
+    pub end: usize,
+}
+
 #[repr(C)]
 pub struct DescribedNumbers {
     pub answer: AnswerNumbers,

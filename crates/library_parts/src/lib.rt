@@ -2,7 +2,6 @@
 // calls, and the answers with the state after them. Definitions: specs/Numbers.antt. That the numbers of a state stand for that
 // very state: specs/Kept.antt.
 ghost use mathlib.Core.Path.{_≡_};
-ghost use Rattle.lexer.specs.Told.{bitOf};
 ghost use Rattle.library_parts.specs.Numbers.{byQuote, modeNumber, modeOf, leftOf, lowOf, highOf, byteFrom, characterFrom, isEnded};
 ghost use Rattle.library_parts.specs.Numbers.{stateNumbers, partsFrom, startNumbers, fedNumbers};
 use built_bytes::Mode;
@@ -12,6 +11,7 @@ use built_lexing::Lexing;
 use built_parts::Fed;
 use built_parts::Parts;
 use library_numbers::AnswerNumbers;
+use library_numbers::bit;
 
 // The number of the mode; the place and the line of the first byte of the token in progress; those of the next byte; how many
 // bytes of the character in progress are still to come, 0 where none is in progress, and the least and the greatest that the next
@@ -241,10 +241,4 @@ fn byte_of(number: usize) -> u8
         return number as u8;
     }
     255
-}
-
-fn bit(b: bool) -> usize
-    ensures { λ r. ⌜ r ≡ bitOf b ⌝ }
-{
-    if b { 1 } else { 0 }
 }

@@ -11,8 +11,8 @@ use Rattle.decoder_pieces.specs.declared.{body.Body.Body, body.BodyStep.BodySte
 use Rattle.decoder_marks.specs.{Opening.openedOf}
 use Rattle.decoder_marks.specs.declared.{Opened.Opened}
 use Rattle.library_numbers.specs.{Numbers.answerOf, Numbers.refusedBy}
-use Rattle.library_numbers.specs.declared.{AnswerNumbers.AnswerNumbers}
-use Rattle.library_pieces.specs.declared.{ErrorNumbers.ErrorNumbers, BodyNumbers.BodyNumbers, OpenNumbers.OpenNumbers, GivenNumbers.GivenNumbers, PieceNumbers.PieceNumbers}
+use Rattle.library_numbers.specs.declared.{AnswerNumbers.AnswerNumbers, ErrorNumbers.ErrorNumbers}
+use Rattle.library_pieces.specs.declared.{BodyNumbers.BodyNumbers, OpenNumbers.OpenNumbers, GivenNumbers.GivenNumbers, PieceNumbers.PieceNumbers}
 
 -- an error, and none
 abbrev pub noError : ErrorNumbers

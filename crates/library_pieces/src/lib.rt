@@ -17,17 +17,10 @@ use decoder_rules::Given;
 use decoder_rules::Piece;
 use decoder_rules::Verdict;
 use library_numbers::AnswerNumbers;
+use library_numbers::ErrorNumbers;
 use library_numbers::answer_of;
 use library_numbers::bit;
 use library_numbers::refused;
-
-// An error: its number, and from where to where it goes in the text; zeros where there is none.
-#[repr(C)]
-pub struct ErrorNumbers {
-    pub number: usize,
-    pub start: usize,
-    pub end: usize,
-}
 
 // What is still to be read of a text's body: the bytes from `at` to `end`. `dropping` is 1 within a line-ending escape, else 0.
 #[repr(C)]
