@@ -3,6 +3,8 @@
 // `answers_calls`, `answers_built_calls`, `answers_parts_calls` and `answers_table_calls` make the call, and
 // `answers_spelling` writes the answer. The memory that is lent to them is made here, once, and a line uses no more of it than
 // its own length asks for.
+#![tactic(auto)]
+
 ghost use Rattle.std.specs.Prelude.{◌≤◌, length};
 
 use answers_asking::{Call, LineFault, RECORDS, Reading, Request, WRITTEN};

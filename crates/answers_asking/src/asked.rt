@@ -11,7 +11,7 @@ use crate::{lines, names, words};
 const DOCUMENT: usize = 65536;
 
 // Why a line is no call; `Nothing` where it is one.
-#[derive(Drop)]
+#[derive(Clone, Copy)]
 pub enum LineFault {
     Nothing,
     // the input has ended: there is no line
@@ -28,7 +28,7 @@ pub enum LineFault {
 }
 
 // What was read of a line; `document` is its last word, which spells the document.
-#[derive(Drop)]
+#[derive(Clone, Copy)]
 pub struct Question {
     pub fault: LineFault,
     pub call: Call,
@@ -37,7 +37,7 @@ pub struct Question {
 }
 
 // The numbers of a line, and the last word that was read for one.
-#[derive(Drop)]
+#[derive(Clone, Copy)]
 struct Numbers {
     good: bool,
     values: [usize; 3],

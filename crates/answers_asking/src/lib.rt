@@ -1,5 +1,7 @@
 // What standard input asks for, line by line: the next line is read, written to standard output, with
 // ` => ` after it, and taken apart. tests/README.md says which lines there are.
+#![tactic(auto)]
+
 mod asked;
 mod lines;
 mod names;
@@ -13,7 +15,7 @@ pub use names::{BuiltCall, Call, PartsCall, RECORDS, ReaderCall, TableCall, WRIT
 
 // What a line asks for, and how far the input was read. The document is the first `len` bytes of the
 // line's memory.
-#[derive(Drop)]
+#[derive(Clone, Copy)]
 pub struct Request {
     pub reading: Reading,
     pub asked: Question,

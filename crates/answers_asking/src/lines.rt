@@ -9,7 +9,7 @@ use libc::{STDIN_FILENO, STDOUT_FILENO};
 
 // How far the input was read: its memory holds bytes not yet taken from `at` up to `end`; `len` bytes
 // of the line are kept; `open` says whether the line goes on, `more` whether there may be more input.
-#[derive(Drop)]
+#[derive(Clone, Copy)]
 pub struct Reading {
     pub at: usize,
     pub end: usize,

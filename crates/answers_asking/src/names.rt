@@ -19,7 +19,7 @@ const ANY: usize = usize::MAX;
 pub(crate) const FLAG: usize = 1;
 
 // The calls of the reader.
-#[derive(Drop)]
+#[derive(Clone, Copy)]
 pub enum ReaderCall {
     Lex,
     LexLine,
@@ -39,7 +39,7 @@ pub enum ReaderCall {
 }
 
 // The calls that requests added.
-#[derive(Drop)]
+#[derive(Clone, Copy)]
 pub enum BuiltCall {
     Write,
     WriteCap,
@@ -59,7 +59,7 @@ pub enum BuiltCall {
 }
 
 // The calls over a document that comes in parts.
-#[derive(Drop)]
+#[derive(Clone, Copy)]
 pub enum PartsCall {
     Parts,
     PartsCap,
@@ -67,7 +67,7 @@ pub enum PartsCall {
 }
 
 // The calls of the reader as the second engine makes them, by the table of byte classes.
-#[derive(Drop)]
+#[derive(Clone, Copy)]
 pub enum TableCall {
     Lex,
     LexLine,
@@ -76,7 +76,7 @@ pub enum TableCall {
     Step,
 }
 
-#[derive(Drop)]
+#[derive(Clone, Copy)]
 pub enum Call {
     Reader(ReaderCall),
     Built(BuiltCall),
@@ -87,7 +87,7 @@ pub enum Call {
 
 // How a line of a call is read: `count` numbers follow the name, three at the most, each within its
 // limit; and then a document, where `document` says so.
-#[derive(Drop)]
+#[derive(Clone, Copy)]
 pub struct Line {
     pub call: Call,
     pub count: usize,

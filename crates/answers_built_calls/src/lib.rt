@@ -1,5 +1,7 @@
 // The calls that requests added, as lines can ask for them, a function each: answers_calls has those of
 // the reader.
+#![tactic(auto)]
+
 use answers_asking::{BuiltCall, RECORDS};
 use answers_lent::{copy, front, least};
 use answers_spelling::Reply;

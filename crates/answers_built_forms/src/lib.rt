@@ -1,5 +1,7 @@
 // The replies to lines of the calls that requests added: answers_forms has those of the reader.
 // Definitions: specs/Answers.antt.
+#![tactic(auto)]
+
 ghost use Rattle.std.specs.Prelude.{◌≡◌};
 ghost use Rattle.answers_built_forms.specs.Answers.{wrote_as, wrote_count_as, marked_as, tick_read_as, tick_count_as, value_as};
 ghost use Rattle.answers_built_forms.specs.Answers.{broken_as, broken_at, tally_as, mended_as, mended_count_as};

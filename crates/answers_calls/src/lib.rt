@@ -1,6 +1,8 @@
 // The calls of the reader that a line can ask for, a function each: it makes the call, and hands its
 // answer to answers_forms. The call's own promise says what the answer is, and answers_forms promises
 // what is written of it.
+#![tactic(auto)]
+
 use answers_asking::ReaderCall;
 use answers_lent::{copy, least};
 use answers_spelling::Reply;

@@ -1,5 +1,7 @@
 // The reply to a line: for the result of each call of the reader, and for each fault of a line, the form
 // in which it is written and the numbers that fill the form. Definitions: specs/Answers.antt.
+#![tactic(auto)]
+
 ghost use Rattle.std.specs.Prelude.{◌≡◌};
 ghost use Rattle.lexer.specs.Told.{bit_of};
 ghost use Rattle.answers_forms.specs.Answers.{filled_by, answered_by, three_by, refused_as, refused_whole, fault_as, fault_form};

@@ -1,5 +1,7 @@
 // The memory that is lent to a call of a line: no more of it than the line asks for, and no more than
 // there is.
+#![tactic(auto)]
+
 ghost use Rattle.std.specs.Prelude.{min, ◌≡◌, ◌++◌, length, take, drop};
 
 // As many as are asked for, but no more than there are.

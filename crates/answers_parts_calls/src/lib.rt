@@ -1,5 +1,7 @@
 // The calls over a document that comes in parts, as lines can ask for them. What the calls of a line came to is
 // laid out for the printing: their tokens one after another, and beside them, in place of errors, the answers.
+#![tactic(auto)]
+
 use answers_asking::PartsCall;
 use answers_forms::filled;
 use answers_lent::least;
@@ -8,7 +10,7 @@ use built_parts::{Fed, Parts};
 use lexer::Lexed;
 
 // How far a line's calls have come: the state, and how many tokens were given; `open` until a call is refused.
-#[derive(Drop)]
+#[derive(Clone, Copy)]
 struct Progress {
     parts: Parts,
     given: usize,

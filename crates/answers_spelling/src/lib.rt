@@ -1,11 +1,13 @@
 // Replies as text. A reply is a form and the numbers that fill it; its text is collected in a buffer,
 // which is written to standard output whenever it is full.
+#![tactic(auto)]
+
 ghost use Rattle.std.specs.Prelude.{◌≡◌};
 
 use libc::STDOUT_FILENO;
 
 // How a reply is written. The numbers that tests/README.md lists for a call fill it in their order.
-#[derive(Drop)]
+#[derive(Clone, Copy)]
 pub enum Form {
     Tokens,
     TokenLines,
@@ -43,7 +45,7 @@ pub enum Form {
 // The time of what the closing word gives: no document has so many bytes.
 pub const AT_END: usize = usize::MAX;
 
-#[derive(Drop)]
+#[derive(Clone, Copy)]
 pub struct Reply {
     pub form: Form,
     pub numbers: [usize; 8],

@@ -1,5 +1,7 @@
 // The calls of the reader as the second engine makes them, by the table of byte classes, as lines can ask for them. Each is
 // answered as the call of `answers_calls` that it is like.
+#![tactic(auto)]
+
 use answers_asking::TableCall;
 use answers_spelling::Reply;
 use lexer::Cursor;

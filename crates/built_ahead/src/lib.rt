@@ -1,6 +1,8 @@
 // Ahead of the next byte of a part: where the token in progress, or the one that begins at a place, ends within the part, as
 // whole lexing scans it; and what is in progress at the part's end of one that goes on. Nothing here counts the places and
 // lines of the document: crate `built_lexing` does. What this promises: specs/Ahead.antt.
+#![tactic(auto)]
+
 ghost use Rattle.std.specs.Prelude.{◌≡◌, false, ◌+◌, ◌-◌, ◌≤◌, ◌<◌, length, drop};
 ghost use Rattle.lexer_scans.specs.Extents.{line_tail, ml_tail};
 ghost use Rattle.lexer_token.specs.declared.TokenKind.TheVariants.{Newline};
@@ -15,7 +17,7 @@ use text_classes::{APOSTROPHE, COMMENT_START_SYMBOL, ESCAPE, QUOTATION_MARK, is_
 
 // What stands ahead: the token ends at the place `end`, and no further part could change it; or it goes on, or may go on, and is in
 // the mode `mode` at the place `end`. With the LFs on the way.
-#[derive(Drop)]
+#[derive(Clone, Copy)]
 pub enum Ahead {
     Whole {
         kind: TokenKind,

@@ -1,6 +1,8 @@
 // `first_broken`: the first string token of a document that decodes with an error, and its first error; or that there is
 // none. It goes from token to token, and no further than the one that decides; no memory is lent and nothing is written.
 // Rule: specs/Broken.antt.
+#![tactic(auto)]
+
 ghost use Rattle.std.specs.Prelude.{◌≡◌, true, false, [], ◌∷◌, ◌+◌, ◌≤◌, ◌<◌, length, take, drop};
 ghost use Rattle.text_refusals.specs.Refusals.{limit};
 ghost use Rattle.text_scalars.specs.Utf8.{Utf8};
@@ -28,7 +30,7 @@ use text::{Utf8Check, check_utf8};
 use text_refusals::{LIMIT, Refusal};
 
 // An error as `decode` records it: its number, and from where to where it goes, counted from the token's start.
-#[derive(Drop)]
+#[derive(Clone, Copy)]
 pub struct FirstError {
     pub number: usize,
     pub start: usize,
@@ -36,7 +38,7 @@ pub struct FirstError {
 }
 
 // What the calls answer: the first broken token and its first error, that no string is broken, or why neither is told.
-#[derive(Drop)]
+#[derive(Clone, Copy)]
 pub enum FirstBroken {
     Broken(Token, FirstError),
     Sound,

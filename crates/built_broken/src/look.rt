@@ -18,7 +18,7 @@ use text_classes::{APOSTROPHE, COMMENT_START_SYMBOL, QUOTATION_MARK, is_at, is_t
 
 // What is to be asked of a token: nothing, as it is UTF-8 and has no error; whether it is UTF-8; or that, and what is wrong with it,
 // decoded by an encoding.
-#[derive(Drop)]
+#[derive(Clone, Copy)]
 pub(crate) enum Asks {
     Nothing,
     Characters,
@@ -26,7 +26,7 @@ pub(crate) enum Asks {
 }
 
 // That, and where the token ends.
-#[derive(Drop)]
+#[derive(Clone, Copy)]
 pub(crate) struct Look {
     pub asks: Asks,
     pub end: usize,

@@ -1,5 +1,7 @@
 // One byte at a time: what is in progress between two bytes of a document that comes in parts, and what one byte more
 // does to it. Nothing here counts places or lines: crate `built_lexing` does. Rule: specs/Turns.antt.
+#![tactic(auto)]
+
 ghost use Rattle.std.specs.Prelude.{◌≡◌, cond};
 ghost use Rattle.lexer_scans.specs.Extents.{eol, hides, closes};
 ghost use Rattle.built_bytes.specs.Turns.{mark_of, line_kind, ml_kind, opening, run_on, in_line, in_ml, turn_of, pending_of};
@@ -11,14 +13,14 @@ use text_classes::{
 };
 
 // The mark of a string.
-#[derive(Drop)]
+#[derive(Clone, Copy)]
 pub enum Quote {
     Apostrophe,
     Quotation,
 }
 
 // What is in progress between two bytes.
-#[derive(Drop)]
+#[derive(Clone, Copy)]
 pub enum Mode {
     // nothing was read yet; after EF; after EF BB: what may become a byte order mark
     Start,
@@ -47,7 +49,7 @@ pub enum Mode {
 }
 
 // What one byte more does.
-#[derive(Drop)]
+#[derive(Clone, Copy)]
 pub enum Turn {
     // it is the first byte of a token that goes on
     Opens(Mode),
@@ -64,7 +66,7 @@ pub enum Turn {
 }
 
 // The token in progress where a document ends.
-#[derive(Drop)]
+#[derive(Clone, Copy)]
 pub enum Pending {
     Nothing,
     Kind(TokenKind),

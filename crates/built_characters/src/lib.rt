@@ -1,5 +1,7 @@
 // UTF-8 one byte at a time: the character in progress between two bytes of a document that comes in parts, and what one
 // byte more does to it. Nothing here counts places: crate `built_parts` does. Rule: specs/Characters.antt.
+#![tactic(auto)]
+
 ghost use Rattle.std.specs.Prelude.{◌≡◌};
 ghost use Rattle.built_characters.specs.Characters.{led_by, as_asked, character_turn};
 ghost use Rattle.built_characters.specs.declared.CharacterTurn.TheVariants.{Sound};
@@ -8,14 +10,14 @@ ghost use Rattle.built_characters.specs.declared.Character.TheVariants.{Begun};
 use text_characters::lead_of;
 
 // The character in progress between two bytes: none; or so many bytes are still to come, the next from `low` to `high`.
-#[derive(Drop)]
+#[derive(Clone, Copy)]
 pub enum Character {
     Whole,
     Begun { left: usize, low: u8, high: u8 },
 }
 
 // What one byte more does to it.
-#[derive(Drop)]
+#[derive(Clone, Copy)]
 pub enum CharacterTurn {
     Sound(Character),
     Broken,

@@ -1,6 +1,8 @@
 // Figures over documents: how many tokens of each kind a document has, how many errors of each number its strings have,
 // and how many documents are refused, added to the totals of those before it. No memory is lent: a document is walked
 // once, token by token, and each string's errors are counted as it is walked. Rule: specs/Figures.antt.
+#![tactic(auto)]
+
 ghost use Rattle.std.specs.Prelude.{◌≡◌, [], ◌∷◌, ◌+◌, ◌^◌, ◌≤◌, ◌<◌, length};
 ghost use Rattle.lexer_token.specs.KindNumbers.{kind_number};
 ghost use Rattle.decoder_rules.specs.Decoding.{errors_of};
@@ -37,7 +39,7 @@ pub const TOO_LONG: usize = 32;
 const LARGEST: u64 = 18446744073709551615;
 
 // What became of a document; beside each, its number, and after the semicolon the value returned.
-#[derive(Drop)]
+#[derive(Clone, Copy)]
 pub enum Adding {
     // 0; 0
     Added,
@@ -48,7 +50,7 @@ pub enum Adding {
 }
 
 // The totals afterwards beside that.
-#[derive(Drop)]
+#[derive(Clone, Copy)]
 pub struct Tallied {
     pub answer: Adding,
     pub totals: Totals,

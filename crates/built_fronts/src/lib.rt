@@ -1,6 +1,8 @@
 // Most tokens are told sound by one look at their bytes: an atom of ASCII, and a string on one line without an error. Each look says
 // how far that is known, and its caller asks further where it stops before the token's end. Rules: Extents.antt of crate
 // `lexer_scans`, Decoding.antt of crate `decoder_rules`.
+#![tactic(auto)]
+
 ghost use Rattle.std.specs.Prelude.{◌≡◌, ◌+◌, ◌<◌, ◌≤◌, true, false, length, drop};
 ghost use Rattle.text_classes.specs.Runs.{run};
 ghost use Rattle.text_classes.proofs.RunLaws.{Block};
@@ -62,7 +64,7 @@ fn is_ascii_atom(b: u8) -> bool
 }
 
 // The strings on one line.
-#[derive(Drop)]
+#[derive(Clone, Copy)]
 pub enum Line {
     Literal,
     Basic,

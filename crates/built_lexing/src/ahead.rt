@@ -7,7 +7,7 @@ use crate::states::{Given, Lexing, idle_at, lexing_of, token_of};
 use built_ahead::Ahead;
 
 // The token in progress that was taken whole, if one was, and the state and the place after it.
-#[derive(Drop)]
+#[derive(Clone, Copy)]
 pub(crate) struct Leapt {
     pub given: Given,
     pub next: Lexing,

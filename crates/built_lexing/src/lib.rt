@@ -1,6 +1,8 @@
 // The tokens of a part of a document, from a state on that the caller keeps, and those of its end. The state has places and
 // lines; nothing of the parts is kept in it, and nothing is asked here about characters.
 // Rules: specs/States.antt, Filling.antt.
+#![tactic(auto)]
+
 mod ahead;
 mod states;
 mod whole;
@@ -19,7 +21,7 @@ use text_refusals::LIMIT;
 
 // What a part comes to: its tokens are in the records, with the state after it; or there are fewer records than tokens; or it
 // is not taken, since its bytes pass the limit, or no bytes lead to the state.
-#[derive(Drop)]
+#[derive(Clone, Copy)]
 pub enum PartLexed {
     Put { count: usize, next: Lexing },
     Few { needed: usize },
@@ -27,7 +29,7 @@ pub enum PartLexed {
 }
 
 // How many tokens a part gave, and the state after it.
-#[derive(Drop)]
+#[derive(Clone, Copy)]
 struct Filled {
     count: usize,
     next: Lexing,

@@ -10,7 +10,7 @@ use built_bytes::{Mode, Pending, Turn};
 use lexer_token::{Span, Token, TokenKind};
 
 // What is in progress; the place and the line of its first byte; and those of the next byte.
-#[derive(Drop)]
+#[derive(Clone, Copy)]
 pub struct Lexing {
     pub mode: Mode,
     pub start: usize,
@@ -20,14 +20,14 @@ pub struct Lexing {
 }
 
 // A token, or none.
-#[derive(Drop)]
+#[derive(Clone, Copy)]
 pub enum Given {
     Nothing,
     One(Token),
 }
 
 // What a byte does: the token that ended before it, the token that ends with it, and the state after it.
-#[derive(Drop)]
+#[derive(Clone, Copy)]
 pub struct Moved {
     pub before: Given,
     pub through: Given,

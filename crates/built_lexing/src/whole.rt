@@ -11,7 +11,7 @@ use built_bytes::Mode;
 use lexer_token::Record;
 
 // How many tokens there are after those that were passed, and the state and the place there.
-#[derive(Drop)]
+#[derive(Clone, Copy)]
 pub(crate) struct Passed {
     pub count: usize,
     pub next: Lexing,

@@ -1,5 +1,7 @@
 // `put_right`: a document copied with its broken strings replaced by strings that can be read, and a list of what was wrong.
 // Rule: specs/Mending.antt.
+#![tactic(auto)]
+
 ghost use Rattle.std.specs.Prelude.{◌≡◌, ◌+◌, ◌*◌, ◌<◌, ◌≤◌, true, length, drop};
 ghost use Rattle.text_refusals.specs.Refusals.{limit};
 ghost use Rattle.text.specs.Told.{check_fault};
@@ -23,7 +25,7 @@ use text::{Utf8Check, check_utf8};
 use text_refusals::{LIMIT, Refusal};
 
 // What `put_right` answers: how many bytes and records were written, or why nothing was.
-#[derive(Drop)]
+#[derive(Clone, Copy)]
 pub enum Mended {
     Written { bytes: usize, records: usize },
     Refused(Refusal),
@@ -121,7 +123,7 @@ fn is_roomy(n: usize, o: usize, m: usize) -> bool
 }
 
 // A token, and the line after it.
-#[derive(Drop)]
+#[derive(Clone, Copy)]
 struct Next {
     token: Token,
     line: usize,
@@ -150,7 +152,7 @@ fn token_at(doc: &[u8], at: usize, line: usize) -> Next
 }
 
 // What reading a token as a string finds: that it reports an error, by which encoding; or that it is to stay as it is.
-#[derive(Drop)]
+#[derive(Clone, Copy)]
 enum Reading {
     Broken(Encoding),
     Whole,

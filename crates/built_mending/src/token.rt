@@ -17,7 +17,7 @@ use decoder_rules::{DecodeError, Encoding, Given, Piece, Verdict};
 use lexer_token::Span;
 
 // Bytes and records: how many, or the places after those that were stored.
-#[derive(Drop)]
+#[derive(Clone, Copy)]
 pub(crate) struct Counts {
     pub bytes: usize,
     pub records: usize,

@@ -8,14 +8,14 @@ use text::Utf8Check;
 
 // What bytes come to: the character in progress after them, and the place up to which whole characters stand; or that
 // place and the length of a faulty sequence that nothing could mend.
-#[derive(Drop)]
+#[derive(Clone, Copy)]
 pub enum Checked {
     Good { character: Character, valid: usize },
     Bad { valid: usize, length: usize },
 }
 
 // The place up to which whole characters stand, or that and the length of a faulty sequence there.
-#[derive(Drop)]
+#[derive(Clone, Copy)]
 enum CharsPassed {
     UpTo(usize),
     Fault { valid: usize, length: usize },

@@ -1,6 +1,8 @@
 // A document that comes in parts, cut anywhere: each token is given as soon as no further bytes could change it, and after a
 // closing word the tokens are those of the parts joined. The caller keeps the state, in which nothing of the parts is kept.
 // Rules: specs/Checking.antt, Feeding.antt.
+#![tactic(auto)]
+
 mod checks;
 
 ghost use Rattle.std.specs.Prelude.{◌≡◌, length};
@@ -18,7 +20,7 @@ use text_refusals::{LIMIT, Refusal};
 
 // The state between two parts: what is in progress of the tokens; of the characters, with the place up to which whole ones
 // stand; and whether nothing more is taken.
-#[derive(Drop)]
+#[derive(Clone, Copy)]
 pub struct Parts {
     pub lexing: Lexing,
     pub character: Character,
@@ -27,7 +29,7 @@ pub struct Parts {
 }
 
 // What a call answers, with the state after it.
-#[derive(Drop)]
+#[derive(Clone, Copy)]
 pub struct Fed {
     pub answer: Lexed,
     pub parts: Parts,

@@ -1,6 +1,8 @@
 // Two reviewers tick off the tokens of one document. Beside the token records lies a lent table of marks, a byte for
 // each record, in which each reviewer has a bit. What the records hold does not matter here: only how many there are.
 // Rule: specs/Review.antt.
+#![tactic(auto)]
+
 ghost use Rattle.std.specs.Prelude.{◌≡◌, cond, ◌+◌, ◌^◌, ◌≤◌, ◌<◌, length, take, drop};
 ghost use Rattle.built_review.specs.Review.{mark_answer, marks_with, ticked_marks, unticked_marks, read_answer, ticks_in, count_answer};
 ghost use Rattle.built_review.specs.Told.{mark_number, mark_value, mark_refusal, mark_returned, read_number, read_value, read_returned, count_number, count_value, count_refusal, count_returned};
@@ -9,14 +11,14 @@ use lexer_token::Record;
 use text_refusals::Refusal;
 
 // What setting and clearing a tick answer.
-#[derive(Drop)]
+#[derive(Clone, Copy)]
 pub enum Marking {
     Done,
     Refused(Refusal),
 }
 
 // Whether a reviewer has ticked a token.
-#[derive(Drop)]
+#[derive(Clone, Copy)]
 pub enum TickRead {
     Ticked,
     Unticked,
@@ -24,7 +26,7 @@ pub enum TickRead {
 }
 
 // How many tokens a reviewer has ticked.
-#[derive(Drop)]
+#[derive(Clone, Copy)]
 pub enum TickCount {
     Ticks(usize),
     Refused(Refusal),

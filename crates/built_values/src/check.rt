@@ -14,14 +14,14 @@ use decoder_rules::Edition;
 use lexer_token::{Record, TokenKind};
 
 // How far a rule reaches: up to a place, which is not included.
-#[derive(Drop)]
+#[derive(Clone, Copy)]
 pub enum Taken {
     UpTo(usize),
     Nothing,
 }
 
 // What follows an item of an array or an inline table, with the place after it.
-#[derive(Drop)]
+#[derive(Clone, Copy)]
 pub enum After {
     Closed(usize),
     Separated(usize),

@@ -10,7 +10,7 @@ ghost use Rattle.built_values.specs.Checkers.{is_string, is_scalar_part, is_simp
 use lexer_token::{Record, TokenKind};
 
 // A run of tokens that a rule takes whole.
-#[derive(Drop)]
+#[derive(Clone, Copy)]
 pub enum Run {
     // ws
     Blanks,

@@ -1,5 +1,7 @@
 // Is a run of tokens one value? Its brackets, commas, comments and newlines are held to the rules of TOML; what its
 // tokens hold is not looked at. Rules: specs/Values.antt, Depth.antt, Answers.antt.
+#![tactic(auto)]
+
 ghost use Rattle.built_values.specs.Answers.{kinds_of, Judged, ValueAnswer};
 ghost use Rattle.built_values.specs.Told.{value_number, value_value, value_refusal, value_returned};
 ghost use Rattle.std.specs.Prelude.{◌≡◌};
@@ -18,7 +20,7 @@ use lexer_token::Record;
 use text_refusals::Refusal;
 
 // Whether a run is one value.
-#[derive(Drop)]
+#[derive(Clone, Copy)]
 pub enum ValueCheck {
     Value,
     NoValue,

@@ -1,5 +1,7 @@
 // `write_value`: the shortest literal or basic string that has a value, into lent memory.
 // Rule: specs/Writing.antt.
+#![tactic(auto)]
+
 ghost use Rattle.std.specs.Prelude.{◌≡◌, ◌+◌, ◌≤◌, length};
 ghost use Rattle.text_refusals.specs.Refusals.{limit};
 ghost use Rattle.text.specs.Told.{check_fault};
@@ -20,7 +22,7 @@ use text::{Utf8Check, check_utf8};
 use text_refusals::Refusal;
 
 // What `write_value` answers: how many bytes the text has that was written, or why nothing was.
-#[derive(Drop)]
+#[derive(Clone, Copy)]
 pub enum Wrote {
     Text { bytes: usize },
     Refused(Refusal),
@@ -57,7 +59,7 @@ fn write_checked(value: &[u8], output: &mut [u8]) -> Wrote
 }
 
 // Which kind of string is written into so many bytes, or how many it needs.
-#[derive(Drop)]
+#[derive(Clone, Copy)]
 pub(crate) enum Plan {
     Literal,
     Basic,

@@ -13,7 +13,7 @@ use decoder_scans::plain_run;
 use text_classes::is_basic_unescaped;
 
 // How a byte that does not stand for itself is spelt: by a letter after a backslash, or by the digits of its code.
-#[derive(Drop)]
+#[derive(Clone, Copy)]
 pub enum Spelling {
     Short(u8),
     Coded,

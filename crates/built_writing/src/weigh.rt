@@ -16,7 +16,7 @@ use std::num::wrapping_sub_u8;
 use text_classes::{APOSTROPHE, ESCAPE, QUOTATION_MARK};
 
 // The bytes up to place `end`, all of which a literal string could hold, have so many bytes in a basic string.
-#[derive(Drop)]
+#[derive(Clone, Copy)]
 pub(crate) struct Front {
     pub end: usize,
     pub bytes: usize,

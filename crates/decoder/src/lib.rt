@@ -1,5 +1,7 @@
 // `decode`: the text of a string token or a key, into lent memory. Rule: Decoding.antt of crate
 // `decoder_rules`.
+#![tactic(auto)]
+
 ghost use Rattle.std.specs.Prelude.{◌≡◌, true, ◌<◌, length};
 ghost use Rattle.text.specs.Told.{check_fault};
 ghost use Rattle.text.specs.declared.utf8.Utf8Check.TheVariants.{Valid};

@@ -1,6 +1,8 @@
 // What is known of a text before its body is read: the encoding that it is decoded by (choice.rt), its marks, and where
 // its body starts and ends. `open_text` is the way in: it gives each mark's error and the body, which `Body::step` of crate
 // `decoder_pieces` reads on. Rules: Marks.antt and Decoding.antt of crate `decoder_rules`.
+#![tactic(auto)]
+
 ghost use Rattle.std.specs.Prelude.{◌≡◌, true, ◌+◌, ◌≤◌, length};
 ghost use Rattle.decoder_rules.specs.Encodings.{mark_error};
 ghost use Rattle.decoder_rules.specs.Decoding.{missing};
@@ -16,7 +18,7 @@ use lexer_token::Span;
 use text_classes::{APOSTROPHE, QUOTATION_MARK, is_triple};
 
 // A text that is opened: what is wrong with its opening mark, and with its closing one, and the body between them.
-#[derive(Drop)]
+#[derive(Clone, Copy)]
 pub struct Opened {
     pub opening: Verdict,
     pub closing: Verdict,

@@ -8,7 +8,7 @@ use decoder_rules::{Encoding, Piece};
 
 // What is still to be read of a text's body: the bytes from place `at` of the text to `end`, as far as the text has them;
 // and whether they are within a line-ending escape, which drops blanks.
-#[derive(Drop)]
+#[derive(Clone, Copy)]
 pub struct Body {
     pub at: usize,
     pub end: usize,
@@ -16,7 +16,7 @@ pub struct Body {
 }
 
 // What a step answers: the piece at the front and the body after it, or that no byte is left.
-#[derive(Drop)]
+#[derive(Clone, Copy)]
 pub enum BodyStep {
     Piece(Piece, Body),
     End,

@@ -1,5 +1,7 @@
 // The pieces of a body: the first one by the five decoders of string.rt, and from one to the next in body.rt. Rules:
 // Bodies.antt and Escapes.antt of crate `decoder_rules`.
+#![tactic(auto)]
+
 ghost use Rattle.std.specs.Prelude.{◌≡◌, ◌+◌, ◌^◌, ◌<◌, length};
 ghost use Rattle.decoder_rules.specs.Bodies.{piece_of};
 

@@ -71,7 +71,7 @@ pub(crate) fn decode_basic_string(v: Edition, s: &[u8], at: usize) -> Piece
 
 // An escape that stands for a character: how many bytes it has, its backslash among them, and the character. No bytes
 // where it stands for none.
-#[derive(Drop)]
+#[derive(Clone, Copy)]
 pub struct Escape {
     pub take: usize,
     pub char: u32,
@@ -207,7 +207,7 @@ fn hexescape(s: &[u8], digits: usize, at: usize) -> Piece
 }
 
 // The digits that `rest` begins with, up to as many as are asked for: how many, and their value.
-#[derive(Drop)]
+#[derive(Clone, Copy)]
 struct Hex {
     found: usize,
     value: u32,

@@ -3,6 +3,8 @@
 // `plain_decodes` in PlainLaws.antt of crate `decoder_rules`. Printable ASCII is asked for, and the body
 // copied, eight or four bytes at a time; the last such part reaches back over bytes that were met
 // before. A short line with a tab or with characters beyond ASCII is asked for one by one.
+#![tactic(auto)]
+
 ghost use Rattle.std.specs.Prelude.{◌≡◌, ◌+◌, ◌<◌, ◌≤◌, true, ◌++◌, length, drop};
 ghost use Rattle.decoder_rules.specs.Encodings.{plain};
 ghost use Rattle.decoder_rules.proofs.PlainLaws.{OwnLine, Clear, ClearIn, LineMarks, line_of, Least, Plain, middle, Copied, Part, Held};

@@ -2,6 +2,8 @@
 // the table, as `table` says; all else of a decode is the same code for both. The shortcuts of the loop that writes belong to the
 // ranges; the table reads piece by piece. A bool is passed by value: so the compiler sees which engine a library has, and
 // leaves the other one out.
+#![tactic(auto)]
+
 ghost use Rattle.std.specs.Prelude.{◌≡◌, List, ℕ, ◌≤◌, length};
 ghost use Rattle.text_classes.specs.Runs.{run};
 ghost use Rattle.decoder_rules.specs.Encodings.{plain};
@@ -66,7 +68,7 @@ pub fn escape_by(table: bool, e: Encoding, s: &[u8]) -> Escape
 }
 
 // How many bytes, and how many errors.
-#[derive(Drop)]
+#[derive(Clone, Copy)]
 pub struct Counts {
     pub bytes: usize,
     pub errors: usize,

@@ -3,6 +3,8 @@
 // functions here say an error's number, and make pieces (making.rt).
 // Rules: specs/Encodings.antt, Pieces.antt, Escapes.antt, Bodies.antt, Marks.antt,
 // Decoding.antt.
+#![tactic(auto)]
+
 ghost use Rattle.std.specs.Prelude.{◌≡◌};
 ghost use Rattle.decoder_rules.specs.Pieces.{error_number};
 
@@ -12,7 +14,7 @@ pub use crate::making::{bad_char, bad_copy, bad_drop, char_piece, copy_piece, dr
 use text_refusals::Refusal;
 
 // The edition of TOML that a basic string is written in: 1.0 or 1.1.
-#[derive(Drop)]
+#[derive(Clone, Copy)]
 pub enum Edition {
     Toml10,
     Toml11,
@@ -26,7 +28,7 @@ impl Edition {
 
 // How a text is read: the Rust's `Encoding`, and the key. Only the basic kinds have escapes, and
 // escapes are all that the editions differ in.
-#[derive(Drop)]
+#[derive(Clone, Copy)]
 pub enum Encoding {
     LiteralString,
     BasicString(Edition),
@@ -36,14 +38,14 @@ pub enum Encoding {
 }
 
 // What a kind number and an edition's number ask for.
-#[derive(Drop)]
+#[derive(Clone, Copy)]
 pub enum Choice {
     Known(Encoding),
     Unknown(Refusal),
 }
 
 // What is wrong in a text; beside each, its number.
-#[derive(Drop)]
+#[derive(Clone, Copy)]
 pub enum DecodeError {
     // 1: a quote mark of a literal string is missing
     LiteralMissingQuote,
@@ -103,7 +105,7 @@ impl DecodeError {
 }
 
 // Whether a piece or a mark has an error, and from where to where that goes.
-#[derive(Drop)]
+#[derive(Clone, Copy)]
 pub enum Verdict {
     Clean,
     Wrong {
@@ -115,7 +117,7 @@ pub enum Verdict {
 
 // What the letter after a backslash is for: it stands for a character, it asks for so many hex
 // digits, or it is none of the edition's.
-#[derive(Drop)]
+#[derive(Clone, Copy)]
 pub enum Letter {
     Stands(u32),
     Asks(usize),
@@ -123,7 +125,7 @@ pub enum Letter {
 }
 
 // What a piece gives: the bytes that it takes, a character, or nothing.
-#[derive(Drop)]
+#[derive(Clone, Copy)]
 pub enum Given {
     Copy,
     Char(u32),
@@ -132,7 +134,7 @@ pub enum Given {
 
 // A piece of a body: how many bytes it takes, what it gives, its error if any, and whether what
 // follows is within a line-ending escape, which drops blanks.
-#[derive(Drop)]
+#[derive(Clone, Copy)]
 pub struct Piece {
     pub take: usize,
     pub given: Given,
@@ -141,7 +143,7 @@ pub struct Piece {
 }
 
 // Which marks of a text are there, and where its body starts and ends.
-#[derive(Drop)]
+#[derive(Clone, Copy)]
 pub struct Ends {
     pub opened: bool,
     pub closed: bool,
@@ -150,7 +152,7 @@ pub struct Ends {
 }
 
 // What `decode` answers: how many bytes and error records were written, or why nothing was.
-#[derive(Drop)]
+#[derive(Clone, Copy)]
 pub enum Decoded {
     Written { bytes: usize, errors: usize },
     Refused(Refusal),

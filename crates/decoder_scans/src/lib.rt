@@ -1,5 +1,7 @@
 // Runs of bytes: those that stand for themselves, sixteen and eight at a time, and the others one
 // by one. Rule: the byte sets in Encodings.antt of crate `decoder_rules`.
+#![tactic(auto)]
+
 ghost use Rattle.std.specs.Prelude.{◌≡◌, ◌+◌, ◌<◌, ◌≤◌, true, length, take, drop, slice_index};
 ghost use Rattle.text_classes.specs.Runs.{run};
 ghost use Rattle.text_classes.proofs.RunLaws.{Block, SameEnd};
@@ -48,7 +50,7 @@ fn is_mlb_invalid(b: u8) -> bool
 }
 
 // The byte sets that are scanned one by one.
-#[derive(Drop)]
+#[derive(Clone, Copy)]
 pub enum Set {
     BasicInvalid,
     MlbInvalid,
@@ -81,7 +83,7 @@ pub fn run_from(set: Set, s: &[u8], start: usize) -> usize
 
 // The bytes that stand for themselves: a bit for each below 40, a bit for each from 40 to 7F, and whether all from 80 on
 // do.
-#[derive(Drop)]
+#[derive(Clone, Copy)]
 struct Mask {
     pub low: u64,
     pub mid: u64,
@@ -198,7 +200,7 @@ fn plain_blocks(e: Encoding, s: &[u8], start: usize, n: usize) -> usize
 
 // What a block is given up at, besides DEL: two bytes, the bytes below `low`, and those of which, with the bits of `flip`
 // turned, `span` begin at `from`. With the tab's bits turned the tab is 0 and the other controls 1 to 1F.
-#[derive(Drop)]
+#[derive(Clone, Copy)]
 struct Stops {
     pub first: u8,
     pub second: u8,

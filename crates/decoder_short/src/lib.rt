@@ -1,5 +1,7 @@
 // A short basic string with escapes of one letter: it is gone over once, before the check, and then written from what is
 // known of it. Law: `short_decodes` in proofs/ShortLaws.antt.
+#![tactic(auto)]
+
 ghost use Rattle.std.specs.Prelude.{◌≡◌, ◌≤◌, length};
 ghost use Rattle.decoder_short.specs.Letters.{letter_char, Marked, SimpleTo, Short, ShortCopied};
 

@@ -1,6 +1,8 @@
 // The words for each error of decoding: toml_parser's message, and the list of what it expects at the
 // error's place. One text is given at a time, by its number: 0 for the message, then the list's.
 // Rules: specs/ErrorNumbers.antt, Words.antt.
+#![tactic(auto)]
+
 ghost use Rattle.std.specs.Prelude.{◌≡◌, ◌≤◌, [], ◌∷◌, length};
 ghost use Rattle.lexer_token.specs.Told.{answer_number, answer_value};
 ghost use Rattle.decoder_words.specs.ErrorNumbers.{error_of_number};
@@ -14,7 +16,7 @@ use lexer_token::Answer;
 use text_refusals::Refusal;
 
 // What a number is read as.
-#[derive(Drop)]
+#[derive(Clone, Copy)]
 pub enum ErrorRead {
     Error(DecodeError),
     Refused(Refusal),
@@ -22,7 +24,7 @@ pub enum ErrorRead {
 
 // What a text of an error is: its message; a text that is expected; words for what is expected; or no
 // text, where the list has ended.
-#[derive(Drop)]
+#[derive(Clone, Copy)]
 pub enum Said {
     Message,
     Literal,
@@ -31,7 +33,7 @@ pub enum Said {
 }
 
 // A text, and what it is: the first `len` of `bytes`, the rest zero.
-#[derive(Drop)]
+#[derive(Clone, Copy)]
 pub struct Phrase {
     pub said: Said,
     pub len: usize,
@@ -40,7 +42,7 @@ pub struct Phrase {
 
 // A text of an error, as a phrase has it, and how many things the error expects. Where refused there is
 // no text, and all numbers are zero.
-#[derive(Drop)]
+#[derive(Clone, Copy)]
 pub struct Words {
     pub answer: Answer,
     pub expected: usize,

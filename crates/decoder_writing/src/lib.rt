@@ -1,5 +1,7 @@
 // A text decoded by an encoding, into lent memory: what every call of crate `decoder` comes to, but for the texts that it copies
 // at once. Rule: Decoding.antt of crate `decoder_rules`. write.rt has what stores.
+#![tactic(auto)]
+
 ghost use Rattle.std.specs.Prelude.{◌≡◌, true, ◌+◌, ◌/◌, ◌≤◌, ◌<◌, ◌^◌, length};
 ghost use Rattle.decoder_rules.specs.Decoding.{bytes_of, errors_of, fitted, after};
 ghost use Rattle.decoder_rules.proofs.StoreLaws.{Stored};

@@ -2,14 +2,14 @@
 ghost use Rattle.std.specs.Prelude.{◌≤◌, length};
 
 // What reading a file comes to.
-#[derive(Drop)]
+#[derive(Clone, Copy)]
 pub(crate) enum FileRead {
     Bytes(usize),
     Failed,
 }
 
 // How far a file was read: `len` bytes are there, and there may be more.
-#[derive(Drop)]
+#[derive(Clone, Copy)]
 struct Filling {
     len: usize,
     open: bool,

@@ -1,6 +1,8 @@
 // The work of the program `figures`: names are read (names.rt), each file is opened, read (files.rt) and counted by
 // `built_figures::tally`, and what it has is written (layout.rt). What a program reads and writes is tested, not proved; proved
 // is that this ends and stays in its memory. Nothing is said of a file's contents beyond its first 65,537 bytes.
+#![tactic(auto)]
+
 ghost use Rattle.std.specs.Prelude.{◌≡◌};
 
 mod files;

@@ -3,7 +3,7 @@ use libc::STDIN_FILENO;
 
 // How far the input was read: its memory holds bytes not yet taken from `at` up to `end`; `len` bytes of the name are kept;
 // `open` says whether the name goes on, `more` whether there may be more input.
-#[derive(Drop)]
+#[derive(Clone, Copy)]
 pub(crate) struct Reading {
     pub at: usize,
     pub end: usize,

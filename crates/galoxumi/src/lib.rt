@@ -2,6 +2,8 @@
 // makes its call, and hands the answer to the function that puts it into a struct; it decides nothing
 // itself. include/galoxumi.h says in words what each answers. Definitions: specs/Numbers.antt of
 // library_numbers, of library_built and of library_parts.
+#![tactic(auto)]
+
 ghost use Rattle.std.specs.Prelude.{◌≡◌, length};
 ghost use Rattle.text.specs.CheckMeans.{check_of};
 ghost use Rattle.lexer_token.specs.Descriptions.{description_of};

@@ -1,5 +1,7 @@
 // The lexer: a document's tokens one at a time, by a cursor, or all at once, into lent records; by either of two engines, which
 // differ in how they read a token's bytes and in nothing else. Rules: specs/Lines.antt, Table.antt, Tokens.antt, Steps.antt, Whole.antt.
+#![tactic(auto)]
+
 mod lines;
 mod table;
 
@@ -21,7 +23,7 @@ use text_classes::{APOSTROPHE, COMMENT_START_SYMBOL, QUOTATION_MARK, is_at, is_t
 use text_refusals::{LIMIT, Refusal};
 
 // Where the next token begins, on which line, and whether Eof was given.
-#[derive(Drop)]
+#[derive(Clone, Copy)]
 pub struct Cursor {
     pub place: usize,
     pub line: usize,
@@ -29,14 +31,14 @@ pub struct Cursor {
 }
 
 // What a start answers.
-#[derive(Drop)]
+#[derive(Clone, Copy)]
 pub enum Start {
     At(Cursor),
     Refused(Refusal),
 }
 
 // What a step answers: a token and the next cursor, the end, or why there is neither.
-#[derive(Drop)]
+#[derive(Clone, Copy)]
 pub enum Step {
     Token(Token, Cursor),
     End,
@@ -44,7 +46,7 @@ pub enum Step {
 }
 
 // What whole lexing answers: how many tokens, Eof counted.
-#[derive(Drop)]
+#[derive(Clone, Copy)]
 pub enum Lexed {
     Tokens(usize),
     Refused(Refusal),
@@ -218,7 +220,7 @@ fn fill(table: bool, doc: &[u8], records: &mut [Record]) -> usize
 }
 
 // A token, and the line after it.
-#[derive(Drop)]
+#[derive(Clone, Copy)]
 struct Next {
     token: Token,
     line: usize,
@@ -310,7 +312,7 @@ fn by_loop(doc: &[u8], at: usize, line: usize, kind: TokenKind) -> Next
 }
 
 // How many tokens were passed, and the place and the line after them.
-#[derive(Drop)]
+#[derive(Clone, Copy)]
 struct TokensPassed {
     count: usize,
     place: usize,

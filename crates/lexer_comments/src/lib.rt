@@ -1,4 +1,6 @@
 // A comment's bytes, looked at for where it ends and for UTF-8 at the same time: of most comments one look tells both.
+#![tactic(auto)]
+
 ghost use Rattle.std.specs.Prelude.{◌≡◌, ℕ, ◌+◌, ◌<◌, ◌≤◌, true, false, length, drop};
 ghost use Rattle.text_classes.specs.Runs.{run};
 ghost use Rattle.text_classes.proofs.RunLaws.{Block};

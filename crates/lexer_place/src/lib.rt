@@ -1,5 +1,7 @@
 // Places in a document: whether a span cuts it between characters, the text of a span, and the
 // line and column of an offset. Rules: specs/Spans.antt, Positions.antt.
+#![tactic(auto)]
+
 ghost use Rattle.std.specs.Prelude.{◌≡◌, ◌≤◌, length, get_or};
 ghost use Rattle.lexer_place.specs.Spans.{inside, span_answer, span_text};
 ghost use Rattle.lexer_place.specs.Told.{span_number, span_value, span_refusal, span_returned, position_number, position_value, position_refusal, position_returned};
@@ -9,7 +11,7 @@ use lexer_token::Span;
 use text_refusals::{LIMIT, Refusal};
 
 // What the span check answers.
-#[derive(Drop)]
+#[derive(Clone, Copy)]
 pub enum SpanCheck {
     Whole,
     Refused(Refusal),
@@ -66,7 +68,7 @@ pub fn text_of(doc: &[u8], span: Span) -> &[u8]
 }
 
 // Line and column, both counted from 1; a column counts characters.
-#[derive(Drop)]
+#[derive(Clone, Copy)]
 pub enum Position {
     At { line: usize, column: usize },
     Refused(Refusal),

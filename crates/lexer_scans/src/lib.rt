@@ -1,6 +1,8 @@
 // Scanning: how far a run of bytes, or a string after its opening, reaches. Each function that others call takes the
 // document and any place, and answers the place after, which beyond the end is that place itself.
 // Rules: specs/Extents.antt.
+#![tactic(auto)]
+
 ghost use Rattle.std.specs.Prelude.{◌≡◌, true, false, not, ◌+◌, ◌≤◌, ◌<◌, length, drop, get_or};
 ghost use Rattle.text_classes.specs.Classes.{wschar};
 ghost use Rattle.text_classes.specs.Runs.{run};

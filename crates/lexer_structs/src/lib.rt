@@ -1,6 +1,8 @@
 // Whole lexing into lent token structs: the same answers, the same refusals and the same
 // tokens as `lexer::lex`, which writes records of four numbers.
 // Rule: specs/TokenMemory.antt.
+#![tactic(auto)]
+
 ghost use Rattle.std.specs.Prelude.{◌≡◌, length};
 ghost use Rattle.lexer.specs.Tokens.{eof_at};
 ghost use Rattle.lexer.specs.Steps.{start_answer, start_cursor};
@@ -14,7 +16,7 @@ use lexer_token::{Span, Token, TokenKind};
 use text_refusals::Refusal;
 
 // A token, and where the next one begins.
-#[derive(Drop)]
+#[derive(Clone, Copy)]
 struct Turn {
     token: Token,
     cursor: Cursor,
@@ -22,7 +24,7 @@ struct Turn {
 
 // Whole lexing, by value: what it answers, and eight records, of which those that it did not write
 // are an Eof at place 0 of line 0.
-#[derive(Drop)]
+#[derive(Clone, Copy)]
 pub struct LexedEight {
     pub answer: Lexed,
     pub tokens: [Token; 8],

@@ -1,6 +1,8 @@
 // Tokens: the sixteen kinds with their numbers, descriptions and encodings, spans, and the one
 // place that makes a token and the one that reads it into a record of four numbers.
 // Rules: specs/KindNumbers.antt, Descriptions.antt, Encodings.antt, Records.antt.
+#![tactic(auto)]
+
 ghost use Rattle.std.specs.Prelude.{◌≡◌, [], ◌∷◌, ◌≤◌, length};
 ghost use Rattle.lexer_token.specs.KindNumbers.{kind_number, kind_of_number};
 ghost use Rattle.lexer_token.specs.Descriptions.{described_by, kind_text, description_of};
@@ -14,7 +16,7 @@ use text_refusals::Refusal;
 pub type Record = [usize; 4];
 
 // A piece of the document that was lexed, not yet judged, and the line of its first byte.
-#[derive(Drop)]
+#[derive(Clone, Copy)]
 pub struct Token {
     pub kind: TokenKind,
     pub span: Span,
@@ -39,7 +41,7 @@ impl Token {
 }
 
 // The bytes from `start` up to `end`, which is not included.
-#[derive(Drop)]
+#[derive(Clone, Copy)]
 pub struct Span {
     pub start: usize,
     pub end: usize,
@@ -60,7 +62,7 @@ impl Span {
     }
 }
 
-#[derive(Drop)]
+#[derive(Clone, Copy)]
 pub enum TokenKind {
     // within a dotted key or a float
     Dot,
@@ -89,21 +91,21 @@ pub enum TokenKind {
 }
 
 // What a number is read as.
-#[derive(Drop)]
+#[derive(Clone, Copy)]
 pub enum KindRead {
     Kind(TokenKind),
     Refused(Refusal),
 }
 
 // Whether a call answered; the values that it answers stand beside this.
-#[derive(Drop)]
+#[derive(Clone, Copy)]
 pub enum Answer {
     Found,
     Refused(Refusal),
 }
 
 // A kind in words: the first `len` of `bytes`, the rest zero; all zero where refused.
-#[derive(Drop)]
+#[derive(Clone, Copy)]
 pub struct Description {
     pub answer: Answer,
     pub len: usize,
@@ -111,7 +113,7 @@ pub struct Description {
 }
 
 // The number that a decoder takes for a kind: 0 for a kind that is no string, and where refused.
-#[derive(Drop)]
+#[derive(Clone, Copy)]
 pub struct KindEncoding {
     pub answer: Answer,
     pub number: usize,

@@ -1,5 +1,7 @@
 // The answers of the calls that requests added, as numbers: library_numbers has the reader's.
 // Definitions: specs/Numbers.antt.
+#![tactic(auto)]
+
 ghost use Rattle.std.specs.Prelude.{◌≡◌};
 ghost use Rattle.library_built.specs.Numbers.{write_numbers, mark_numbers, read_numbers, count_numbers, value_numbers};
 ghost use Rattle.library_built.specs.Numbers.{broken_numbers, unbroken_by, adding_numbers, tally_numbers, mend_numbers};
@@ -14,7 +16,7 @@ use library_numbers::{AnswerNumbers, ErrorNumbers, TokenNumbers, answer_of, refu
 
 // `answer.value` is 0 where the document was added; the totals afterwards.
 #[repr(C)]
-#[derive(Drop)]
+#[derive(Clone, Copy)]
 pub struct TallyNumbers {
     pub answer: AnswerNumbers,
     pub totals: Totals,
@@ -22,7 +24,7 @@ pub struct TallyNumbers {
 
 // `answer.value` is the count of bytes, `records` the count of records.
 #[repr(C)]
-#[derive(Drop)]
+#[derive(Clone, Copy)]
 pub struct MendNumbers {
     pub answer: AnswerNumbers,
     pub records: usize,
@@ -94,7 +96,7 @@ pub fn value_checked(check: ValueCheck) -> AnswerNumbers
 
 // `found` is 1 with a broken token and its first error; without one it is 0, and so are all fields after it.
 #[repr(C)]
-#[derive(Drop)]
+#[derive(Clone, Copy)]
 pub struct BrokenNumbers {
     pub answer: AnswerNumbers,
     pub found: usize,

@@ -1,5 +1,7 @@
 // The answers of the reader's calls as numbers, in structs that C and Rust can be handed. A function
 // goes by the cases of one answer, and decides nothing. Definitions: specs/Numbers.antt.
+#![tactic(auto)]
+
 ghost use Rattle.std.specs.Prelude.{◌≡◌};
 ghost use Rattle.lexer.specs.Steps.{cursor_of};
 ghost use Rattle.lexer.specs.Told.{bit_of};
@@ -18,7 +20,7 @@ use text_refusals::Refusal;
 // `refusal` is 0 where the call answered, else the refusal's number; `value` is the value returned with
 // it; `length` is the length of the faulty sequence with refusal 1, else 0.
 #[repr(C)]
-#[derive(Drop)]
+#[derive(Clone, Copy)]
 pub struct AnswerNumbers {
     pub refusal: usize,
     pub value: usize,
@@ -27,7 +29,7 @@ pub struct AnswerNumbers {
 
 // A cursor; `ended` is 1 where it is ended, else 0.
 #[repr(C)]
-#[derive(Drop)]
+#[derive(Clone, Copy)]
 pub struct CursorNumbers {
     pub place: usize,
     pub ended: usize,
@@ -35,14 +37,14 @@ pub struct CursorNumbers {
 }
 
 #[repr(C)]
-#[derive(Drop)]
+#[derive(Clone, Copy)]
 pub struct StartNumbers {
     pub answer: AnswerNumbers,
     pub cursor: CursorNumbers,
 }
 
 #[repr(C)]
-#[derive(Drop)]
+#[derive(Clone, Copy)]
 pub struct TokenNumbers {
     pub kind: usize,
     pub start: usize,
@@ -52,7 +54,7 @@ pub struct TokenNumbers {
 
 // `found` is 1 with a token; without one it is 0, and so are all fields after it.
 #[repr(C)]
-#[derive(Drop)]
+#[derive(Clone, Copy)]
 pub struct StepNumbers {
     pub answer: AnswerNumbers,
     pub found: usize,
@@ -62,14 +64,14 @@ pub struct StepNumbers {
 
 // A part of a document: `length` bytes from `start` on.
 #[repr(C)]
-#[derive(Drop)]
+#[derive(Clone, Copy)]
 pub struct PartNumbers {
     pub start: usize,
     pub length: usize,
 }
 
 #[repr(C)]
-#[derive(Drop)]
+#[derive(Clone, Copy)]
 pub struct PositionNumbers {
     pub answer: AnswerNumbers,
     pub line: usize,
@@ -78,7 +80,7 @@ pub struct PositionNumbers {
 
 // `answer.value` is the count of bytes, `errors` the count of errors.
 #[repr(C)]
-#[derive(Drop)]
+#[derive(Clone, Copy)]
 pub struct DecodeNumbers {
     pub answer: AnswerNumbers,
     pub errors: usize,
@@ -86,7 +88,7 @@ pub struct DecodeNumbers {
 
 // An error: its number, and from where to where it goes, counted from the start of the text; zeros where there is none.
 #[repr(C)]
-#[derive(Drop)]
+#[derive(Clone, Copy)]
 pub struct ErrorNumbers {
     pub number: usize,
     pub start: usize,
@@ -94,7 +96,7 @@ pub struct ErrorNumbers {
 }
 
 #[repr(C)]
-#[derive(Drop)]
+#[derive(Clone, Copy)]
 pub struct DescribedNumbers {
     pub answer: AnswerNumbers,
     pub length: usize,
@@ -102,7 +104,7 @@ pub struct DescribedNumbers {
 }
 
 #[repr(C)]
-#[derive(Drop)]
+#[derive(Clone, Copy)]
 pub struct EncodedNumbers {
     pub answer: AnswerNumbers,
     pub encoding: usize,
@@ -110,7 +112,7 @@ pub struct EncodedNumbers {
 
 // `said` is 0 for no text, 1 for the message, 2 for a literal and 3 for a description.
 #[repr(C)]
-#[derive(Drop)]
+#[derive(Clone, Copy)]
 pub struct WordsNumbers {
     pub answer: AnswerNumbers,
     pub expected: usize,

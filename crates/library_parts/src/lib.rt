@@ -1,6 +1,8 @@
 // The calls over a document that comes in parts, as numbers: the state, which a caller in another language keeps between two
 // calls, and the answers with the state after them. Definitions: specs/Numbers.antt. That the numbers of a state stand for that
 // very state: specs/Kept.antt.
+#![tactic(auto)]
+
 ghost use Rattle.std.specs.Prelude.{◌≡◌};
 ghost use Rattle.library_parts.specs.Numbers.{by_quote, mode_number, mode_of, left_of, low_of, high_of, byte_from, character_from, is_ended};
 ghost use Rattle.library_parts.specs.Numbers.{state_numbers, parts_from, start_numbers, fed_numbers};
@@ -18,14 +20,14 @@ pub type StateNumbers = [usize; 10];
 
 // A state by itself.
 #[repr(C)]
-#[derive(Drop)]
+#[derive(Clone, Copy)]
 pub struct PartsNumbers {
     pub state: StateNumbers,
 }
 
 // `answer.value` is the count of tokens; the state afterwards.
 #[repr(C)]
-#[derive(Drop)]
+#[derive(Clone, Copy)]
 pub struct FedNumbers {
     pub answer: AnswerNumbers,
     pub state: StateNumbers,

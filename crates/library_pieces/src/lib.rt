@@ -1,5 +1,7 @@
 // Decoding piece by piece as numbers, in structs that C and Rust can be handed: a text opened, and a step over its body.
 // Definitions: specs/Numbers.antt.
+#![tactic(auto)]
+
 ghost use Rattle.std.specs.Prelude.{◌≡◌};
 ghost use Rattle.lexer.specs.Told.{bit_of};
 ghost use Rattle.decoder_rules.specs.Encodings.{choice_by};
@@ -15,7 +17,7 @@ use library_numbers::{AnswerNumbers, ErrorNumbers, answer_of, bit, refused};
 
 // What is still to be read of a text's body: the bytes from `at` to `end`. `dropping` is 1 within a line-ending escape, else 0.
 #[repr(C)]
-#[derive(Drop)]
+#[derive(Clone, Copy)]
 pub struct BodyNumbers {
     pub at: usize,
     pub end: usize,
@@ -24,7 +26,7 @@ pub struct BodyNumbers {
 
 // What is wrong with a text's opening mark and with its closing one, and the body between them.
 #[repr(C)]
-#[derive(Drop)]
+#[derive(Clone, Copy)]
 pub struct OpenNumbers {
     pub answer: AnswerNumbers,
     pub opening: ErrorNumbers,
@@ -34,7 +36,7 @@ pub struct OpenNumbers {
 
 // What a piece gives. `given` is 0 for nothing, 1 for the bytes that it takes, 2 for the character `scalar`.
 #[repr(C)]
-#[derive(Drop)]
+#[derive(Clone, Copy)]
 pub struct GivenNumbers {
     pub given: usize,
     pub scalar: usize,
@@ -42,7 +44,7 @@ pub struct GivenNumbers {
 
 // `found` is 1 with a piece, of `take` bytes, and the body after it; at the end it is 0, and so are all fields after it.
 #[repr(C)]
-#[derive(Drop)]
+#[derive(Clone, Copy)]
 pub struct PieceNumbers {
     pub answer: AnswerNumbers,
     pub found: usize,

@@ -2,6 +2,8 @@
 // decimal, with one space between them and an LF after them. Where lexing refuses, it writes one line:
 // `refused`, the refusal's number, the value returned with it, and with refusal 1 the length too.
 // What a program prints is tested, not proved; proved is that this ends and stays in its buffers.
+#![tactic(auto)]
+
 ghost use Rattle.std.specs.Prelude.{◌≡◌, ◌+◌, ◌≤◌, length};
 
 use lexer::Lexed;

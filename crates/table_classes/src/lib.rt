@@ -1,6 +1,8 @@
 // Byte classes from a table: the class of each byte, looked up, answers which of the byte sets have it. A class is a set of bytes
 // that no rule tells apart; each byte set of crate `text_classes` is a set of classes, and each single byte that a rule names is a class.
 // Rules: specs/Classed.antt.
+#![tactic(auto)]
+
 pub mod class;
 
 ghost use Rattle.std.specs.Prelude.{◌≡◌, ◌+◌, ◌<◌, eqb, drop};
@@ -9,7 +11,7 @@ ghost use Rattle.table_classes.specs.Classed.{set_of, byte_of, class_of};
 ghost use Rattle.table_classes.specs.Masks.{mask_of, has_class, alone_of};
 
 // The byte sets.
-#[derive(Drop)]
+#[derive(Clone, Copy)]
 pub enum Set {
     // those that bear a name in crate `text_classes`
     Wschar,
@@ -39,7 +41,7 @@ pub enum Set {
 }
 
 // The single bytes that a rule names.
-#[derive(Drop)]
+#[derive(Clone, Copy)]
 pub enum Sign {
     Tab,
     Lf,

@@ -1,6 +1,8 @@
 // The second decoders: the calls of crate `decoder` under their names and with their promises, by the table of byte classes. The
 // bytes of a body are looked up, each in the table, and no range is tested; the refusals, the UTF-8 check, the marks, the loops over
 // the pieces and the lent memory are the first decoders'. Rule: Decoding.antt of crate `decoder_rules`.
+#![tactic(auto)]
+
 ghost use Rattle.std.specs.Prelude.{◌≡◌, length};
 ghost use Rattle.text.specs.Told.{check_fault};
 ghost use Rattle.decoder_rules.specs.Encodings.{choice_by};

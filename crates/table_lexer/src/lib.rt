@@ -2,6 +2,8 @@
 // bytes are looked up, each in the table, and no range is tested; the refusals, the UTF-8 check, the loop over the document, the lines
 // and the records are the first lexer's. A start reads no byte set: `Cursor::start` serves both.
 // Rules: Steps.antt and Whole.antt of crate `lexer`.
+#![tactic(auto)]
+
 ghost use Rattle.std.specs.Prelude.{◌≡◌, length};
 ghost use Rattle.text.specs.Told.{check_fault};
 ghost use Rattle.lexer.specs.Steps.{step_of};

@@ -1,5 +1,7 @@
 // Prints the byte classes on one page, from the table itself: docs/BYTES.md is what it prints. First the class of each byte, then each
 // class with its bytes and the sets that have it, then the other sets that are asked for, each with its classes.
+#![tactic(auto)]
+
 use libc::STDOUT_FILENO;
 use table_classes::{Set, class_of, is_in};
 

@@ -2,6 +2,8 @@
 // names and the same promises. Each byte is looked up, and what is asked is only whether its class is in a set, or which
 // letter's class it is; no byte is compared with another, and no range is tested. Rules: Bodies.antt and Escapes.antt of
 // crate `decoder_rules`.
+#![tactic(auto)]
+
 ghost use Rattle.std.specs.Prelude.{◌≡◌, ◌+◌, ◌<◌, ◌^◌, length};
 ghost use Rattle.decoder_rules.specs.Bodies.{piece_of};
 ghost use Rattle.decoder_pieces.specs.Steps.{body_step};

@@ -1,6 +1,8 @@
 // Scanning by the table: how far a string reaches after its opening. Each function takes the document and any place, and answers the
 // place after, which beyond the end is that place itself. Rules: Extents.antt of crate `lexer_scans`; a run of bytes of one set is
 // `class_run` of crate `table_classes` with that set.
+#![tactic(auto)]
+
 ghost use Rattle.std.specs.Prelude.{◌≡◌, false, ◌+◌, ◌≤◌, length, drop};
 ghost use Rattle.table_classes.specs.Classed.{byte_of};
 ghost use Rattle.lexer_scans.specs.Extents.{line_tail, up_to_two, ml_tail};

@@ -1,6 +1,8 @@
 // The UTF-8 check and the encoding at every boundary. The expected lines, in the file stdout, follow
 // the Unicode standard, section 3.9: table 3-6 for encodings, table 3-7 for well-formed sequences; the
 // last number of a refusal is Rust's error_len, as core::str::Utf8Error documents it, 0 for none.
+#![tactic(auto)]
+
 use libc::STDOUT_FILENO;
 use text::Utf8Check;
 use text_refusals::Refusal;

@@ -1,6 +1,8 @@
 // Prints, for each byte class, the ranges of bytes for which its function answers true, over all 256
 // bytes. The expected ranges, in the file stdout, are copied by hand from the ABNF of TOML 1.0.0, except
 // token-start, which is the lexer's own, and continuation, which is UTF-8's.
+#![tactic(auto)]
+
 use libc::STDOUT_FILENO;
 
 fn main() {

@@ -2,6 +2,8 @@
 // can hold), through the compiled code. A line for each call: the kind, the bytes and the records that are
 // lent, then the answer's number and two values, with refusal 1 a third; below it what the lent memory
 // holds afterwards, which held 2A and 0 0 0 before. The file stdout is written from the rules.
+#![tactic(auto)]
+
 ghost use Rattle.std.specs.Prelude.{◌≤◌, ◌<◌};
 
 use decoder::Decoded;

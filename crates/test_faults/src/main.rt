@@ -3,11 +3,13 @@
 // ASCII byte follows. An answer is `ok`, or the length of the longest valid prefix and that of the
 // faulty sequence. The expected lines, in the file stdout, are made by tests/faults.py from the Unicode
 // standard's table 3-7 and from what Rust documents of Utf8Error's error_len.
+#![tactic(auto)]
+
 use libc::STDOUT_FILENO;
 use text::Utf8Check;
 
 // The bytes before the one that varies: the first `n` of `a`, `b` and `c`.
-#[derive(Drop)]
+#[derive(Clone, Copy)]
 struct Opening {
     n: usize,
     a: u8,
@@ -16,7 +18,7 @@ struct Opening {
 }
 
 // What the check says of a text.
-#[derive(Drop)]
+#[derive(Clone, Copy)]
 struct Told {
     ok: bool,
     valid: usize,

@@ -1,6 +1,8 @@
 // The lister's lines for documents at the borders of what it takes: no bytes, a byte order mark alone, bytes that are not
 // UTF-8, a last character that is cut, and as many bytes as it takes, each a token of its own. An empty line stands after
 // each listing. The input that is too long is read from standard input, so it has a program of its own: test_lister_long.
+#![tactic(auto)]
+
 use libc::STDOUT_FILENO;
 
 fn main() {

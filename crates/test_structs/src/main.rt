@@ -1,5 +1,7 @@
 // Runs whole lexing into token structs: documents with their tokens, as kind, start, end and line, and a
 // document that has more tokens than records are lent. The expected lines are in the file stdout.
+#![tactic(auto)]
+
 ghost use Rattle.std.specs.Prelude.{◌≤◌};
 
 use lexer::Lexed;

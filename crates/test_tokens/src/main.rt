@@ -1,5 +1,7 @@
 // Runs the worked examples of tokens, spans and places, and each refusal but 2 (whose documents no
 // program's stack can hold), through the calls; the file `stdout` says what must come out.
+#![tactic(auto)]
+
 use lexer::{Cursor, Lexed, Start, Step};
 use lexer_place::{Position, SpanCheck};
 use lexer_token::{Answer, Span, Token, TokenKind};

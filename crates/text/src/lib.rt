@@ -1,4 +1,6 @@
 // Text: the UTF-8 check. Rules: Utf8.antt of crate `text_scalars`, specs/CheckMeans.antt.
+#![tactic(auto)]
+
 mod utf8;
 
 pub use utf8::{Utf8Check, check_utf8};

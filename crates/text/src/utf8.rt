@@ -10,7 +10,7 @@ use text_characters::{Lead, chars_run, is_among, lead_of};
 use text_refusals::{LIMIT, Refusal};
 
 // What the check answers.
-#[derive(Drop)]
+#[derive(Clone, Copy)]
 pub enum Utf8Check {
     Valid,
     Refused(Refusal),

@@ -1,5 +1,7 @@
 // Bytes below 80, which are characters by themselves: how far a run of them goes, by words and by blocks. Rules: `ascii` in
 // Utf8Read.antt of crate `text_scalars`, Runs.antt of crate `text_classes`, specs/Words.antt.
+#![tactic(auto)]
+
 ghost use Rattle.std.specs.Prelude.{◌≡◌, true, ◌+◌, ◌*◌, ◌^◌, ◌<◌, ◌≤◌, length, drop};
 ghost use Rattle.text_classes.specs.Runs.{run};
 ghost use Rattle.text_classes.proofs.RunLaws.{Block, SameEnd};

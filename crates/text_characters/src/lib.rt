@@ -1,5 +1,7 @@
 // Characters of two bytes and more: what a first byte asks for, and a run of whole characters passed over at once.
 // Rules: Utf8.antt of crate `text_scalars`, specs/Lead.antt.
+#![tactic(auto)]
+
 ghost use Rattle.std.specs.Prelude.{◌≡◌, true, false, ℕ, ◌+◌, ◌<◌, ◌≤◌, length};
 ghost use Rattle.text_scalars.specs.Utf8Read.{Along};
 ghost use Rattle.text_ascii.specs.Words.{four_at};
@@ -220,7 +222,7 @@ pub fn is_among(b: u8, low: u8, high: u8) -> bool
 
 // What a first byte says of its character: the length, 0 where none begins so, and the range of
 // the second byte.
-#[derive(Drop)]
+#[derive(Clone, Copy)]
 pub struct Lead(pub usize, pub u8, pub u8);
 
 // Beyond ASCII the length is the count of leading ones: the leading zeros of the complement. 80 to BF

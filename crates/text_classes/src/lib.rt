@@ -1,6 +1,8 @@
 // The bytes and the byte sets that toml_parser, the Rust library that this project follows, gives a name, each under its name
 // there; the bytes inside a character; and whether a byte, or three of it, stand at a place. Rules: specs/Classes.antt, a
 // definition for each set, and specs/Runs.antt.
+#![tactic(auto)]
+
 ghost use Rattle.std.specs.Prelude.{◌≡◌, drop};
 ghost use Rattle.text_classes.specs.Classes.{wschar, token_start, non_ascii, literal_char, mll_char, basic_unescaped, mlb_unescaped, digit, hexdig, unquoted_char, continuation};
 ghost use Rattle.text_classes.specs.Runs.{stands, triple};

@@ -1,4 +1,6 @@
 // The numbered refusals: what a call answers where its arguments cannot be served. Rule: specs/Refusals.antt.
+#![tactic(auto)]
+
 ghost use Rattle.std.specs.Prelude.{◌≡◌};
 ghost use Rattle.text_refusals.specs.Refusals.{refusal_number, refusal_value, refusal_length};
 
@@ -10,7 +12,7 @@ pub const DEPTH: usize = 64;
 
 // Why a call did not answer. Beside each stands its number, and after the semicolon what the value
 // returned with it is. Only the first returns a second value.
-#[derive(Drop)]
+#[derive(Clone, Copy)]
 pub enum Refusal {
     // 1: not UTF-8; the length of the longest valid prefix, and that of the faulty sequence after it,
     // 0 where the text ends inside a character

@@ -1,11 +1,13 @@
 // Scalar values: which numbers they are, and their encoding in UTF-8. Rules: specs/Utf8.antt, Encode.antt.
+#![tactic(auto)]
+
 ghost use Rattle.std.specs.Prelude.{◌≡◌, ◌+◌, ◌%◌, ◌<◌};
 ghost use Rattle.text_scalars.specs.Utf8.{encode_scalar};
 ghost use Rattle.text_scalars.specs.Utf8Read.{is_scalar};
 ghost use Rattle.text_scalars.specs.Encode.{padded, encoded_of};
 
 // The bytes of one character: the first `len` of `bytes`, the rest zero.
-#[derive(Drop)]
+#[derive(Clone, Copy)]
 pub struct Encoded {
     pub len: usize,
     pub bytes: [u8; 4],

@@ -1,2 +1,3 @@
 // No code: what the answers of `first_broken_in` say, and how far it reads, are theorems.
 // Read specs/Theorems.antt.
+#![tactic(auto)]
