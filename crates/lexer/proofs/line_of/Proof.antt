@@ -1,19 +1,28 @@
 -- `line_of` is right because it counts the LFs before the offset, or all of them where it lies beyond the end.
 -- Assumes nothing.
 use Prim.Native.Nat.{ℕ, ◌-◌, ◌≤◌}
+
 use mathlib.Core.Path.{◌≡◌, sym, ap, ◌∙◌}
+
 use mathlib.Core.Logic.{⊎_elim}
+
 use lib.ListN.{length, take, length-take}
+
 use lib.Seq.{take_all, take-length}
+
 use Rattle.lexer.specs.Lines.{line_feeds}
+
 use Rattle.lexer.proofs.LineLaws.{feeds_le}
+
 use native.Mathlib.Omega.{arith}
+
 use Rattle.lexer.proofs.line_of.Statement.{statement}
+
 use Rattle.lexer.proofs.line_of.Tie as tie
 
 -- the bytes up to the end that is chosen are those before the offset
-chosen : (c : tie.Joined1) → (c.if1.end ≤ length c.before.before.args.doc.now)
-    × (take c.if1.end c.before.before.args.doc.now
+chosen : (c : tie.Joined-offset-doc) → (c.if-offset-doc.end ≤ length c.before.before.args.doc.now)
+    × (take c.if-offset-doc.end c.before.before.args.doc.now
     ≡ take c.before.before.args.offset c.before.before.args.doc.now)
 chosen c =
     let doc = c.before.before.args.doc.now in
@@ -24,19 +33,19 @@ chosen c =
       omega (arith, w.1),
       ap (λ (n : ℕ). take n doc) w.1 ∙ take-length doc ∙ sym (take_all offset doc (omega (arith, w.0.left))),
     ))
-    c.if1.branch
+    c.if-offset-doc.branch
 
-counted : (c : tie.After-line-feeds) → c.line-feeds.result
+counted : (c : tie.After-line_feeds) → c.line_feeds.result
     ≡ line_feeds (take c.before.before.before.args.offset c.before.before.before.args.doc.now)
 counted c =
     let doc = c.before.before.before.args.doc.now in
-    let all : c.before.if1.end - 0 ≡ c.before.if1.end = omega arith in
-    c.line-feeds.ensures ∙ ap (λ (n : ℕ). line_feeds (take n doc)) all ∙ ap line_feeds (chosen c.before).1
+    let all : c.before.if-offset-doc.end - 0 ≡ c.before.if-offset-doc.end = omega arith in
+    c.line_feeds.ensures ∙ ap (λ (n : ℕ). line_feeds (take n doc)) all ∙ ap line_feeds (chosen c.before).1
 
-line-feeds-requires : tie.Need-line-feeds-requires
+line-feeds-requires : tie.Need-line_feeds-requires
 line-feeds-requires c κs = omega (arith, chosen c)
 
-add-result : tie.Need-overflow-add-result
+add-result : tie.Need-overflow_add-result
 add-result c =
     let is = c.before.before.before.args in
     omega (arith, counted c, feeds_le (take is.offset is.doc.now), length-take is.offset is.doc.now)

@@ -1,0 +1,11 @@
+-- `mended` is right because what was put right decides the form and its numbers.
+use mathlib.Core.Path.{sym, ap, ◌∙◌}
+use Rattle.answers_built_forms.specs.Answers.{mended_as}
+use borrow.Author.Rules.{rules}
+use Rattle.answers_built_forms.proofs.mended.Goals as goal
+
+pub returns-in-Written : goal.returns-in-Written
+returns-in-Written c = c.filled.ensures ∙ ap mended_as (sym c.in-Written.is)
+
+pub returns-in-Refused : goal.returns-in-Refused
+returns-in-Refused c = c.refused_whole.ensures ∙ ap mended_as (sym c.in-Refused.is)

@@ -1,0 +1,16 @@
+use Prim.Native.Nat.{◌+◌, ◌-◌}
+use mathlib.Core.Path.{◌≡◌, refl, ap}
+use native.Mathlib.Omega.{arith}
+use borrow.Author.Rules.{rules}
+use lib.ListN.{length}
+use lib.Seq.{take-length}
+use Rattle.decoder_rules.proofs.StoreLaws.{Copying, copying_start, copying_turn, copying_end}
+use Rattle.built_mending.specs.Passes.{between}
+use Rattle.built_mending.proofs.TokenLaws.{part_long}
+use Rattle.built_mending.proofs.copy_in.Given as goal
+
+abbrev pub invariant-loop-j : goal.invariant-loop-j
+invariant-loop-j l = Copying (between l.doc l.from l.to) (length (between l.doc l.from l.to)) l.initial.output l.o l.output l.j
+
+abbrev pub decreases-loop-j : goal.decreases-loop-j
+decreases-loop-j l = length (between l.doc l.from l.to) - l.j

@@ -1,0 +1,17 @@
+-- `note` is right because a verdict is clean, or has one error.
+use mathlib.Core.Path.{ap}
+use native.Mathlib.Omega.{arith}
+use borrow.Author.Rules.{rules}
+use lib.ListN.{length}
+use Rattle.decoder_rules.specs.Pieces.{notes_of}
+use Rattle.decoder_rules.proofs.StoreLaws.{store_none}
+use Rattle.built_mending.proofs.token.note.Goals as goal
+
+pub put_record-requires : goal.put_record-requires
+put_record-requires c = omega (arith, ap (λ w. length (notes_of w)) c.in-Wrong.is, c.requires)
+
+pub returns-in-Clean : goal.returns-in-Clean
+returns-in-Clean c = rw c.in-Clean.is (store_none _ _)
+
+pub returns-in-Wrong : goal.returns-in-Wrong
+returns-in-Wrong c = rw c.in-Wrong.is c.put_record.ensures

@@ -1,0 +1,65 @@
+-- `judge` is right because a run is a value where the value at its front ends with it.
+use mathlib.Core.Path.{◌≡◌, sym, subst, ◌∙◌}
+use borrow.Author.Rules.{rules}
+use Rattle.built_values.specs.Values.{Val}
+use Rattle.built_values.specs.Answers.{kinds_of, Judged}
+use Rattle.built_values.specs.Checkers.{Finds, NoPart}
+use Rattle.built_values.specs.declared.check.Taken.{Taken}
+use Rattle.built_values.proofs.CountLaws.{inside_start}
+use Rattle.built_values.proofs.DepthLaws.{deep_is, not_deep}
+use Rattle.built_values.proofs.ValueLaws.{whole_value, part_value, no_value_found}
+use Rattle.built_values.proofs.judge.Goals as goal
+
+pub returns-then-is_deep : goal.returns-then-is_deep
+returns-then-is_deep c =
+    let is = c.args in
+    let is_deep = c.is_deep in
+    let if1 = c.if-is_deep in
+    Judged.too_deep (deep_is (kinds_of is.run.now) (sym is_deep.ensures ∙ if1.true))
+
+pub value-requires : goal.value-requires
+value-requires c =
+    let is = c.args in
+    let is_deep = c.is_deep in
+    let if1 = c.if-is_deep in
+    let ks = kinds_of is.run.now in
+    inside_start ks (not_deep ks (sym is_deep.ensures ∙ if1.false))
+
+pub returns-in_default : goal.returns-in_default
+returns-in_default c =
+    let is = c.args in
+    let is_deep = c.is_deep in
+    let if1 = c.if-is_deep in
+    let item = c.value in
+    let told = c.enum_told-1 in
+    let ks = kinds_of is.run.now in
+    let none = subst (λ (t : Taken). Finds (Val is.v) NoPart ks 0 t) told.given.1 item.ensures in
+    Judged.no_value (not_deep ks (sym is_deep.ensures ∙ if1.false)) (no_value_found is.v ks none)
+
+pub returns-then-end-count : goal.returns-then-end-count
+returns-then-end-count c =
+    let is = c.args in
+    let is_deep = c.is_deep in
+    let if1 = c.if-is_deep in
+    let item = c.value in
+    let ended = c.end-1 in
+    let count = c.count in
+    let if2 = c.if-end-count in
+    let ks = kinds_of is.run.now in
+    let found = subst (λ (t : Taken). Finds (Val is.v) NoPart ks 0 t) ended.given.1 item.ensures in
+    Judged.value (not_deep ks (sym is_deep.ensures ∙ if1.false))
+    (whole_value is.v ks ended.given.0.0 found (if2.true ∙ count.ensures))
+
+pub returns : goal.returns
+returns c =
+    let is = c.args in
+    let is_deep = c.is_deep in
+    let if1 = c.if-is_deep in
+    let item = c.value in
+    let ended = c.end-1 in
+    let count = c.count in
+    let if2 = c.if-end-count in
+    let ks = kinds_of is.run.now in
+    let found = subst (λ (t : Taken). Finds (Val is.v) NoPart ks 0 t) ended.given.1 item.ensures in
+    Judged.no_value (not_deep ks (sym is_deep.ensures ∙ if1.false))
+    (part_value is.v ks ended.given.0.0 found (λ e. if2.false (e ∙ sym count.ensures)))

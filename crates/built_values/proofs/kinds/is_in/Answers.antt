@@ -1,0 +1,39 @@
+-- `is_in` is right because each run has its test, and only a comment looks at the token after it.
+use Prim.Native.Nat.{ℕ, ◌+◌}
+use mathlib.Core.Path.{◌≡◌, sym, ap, ◌∙◌}
+use mathlib.Core.Bool.{Bool, ◌&&◌, ◌||◌}
+use mathlib.Core.List.{List}
+use native.Mathlib.Omega.{arith}
+use borrow.Author.Rules.{rules}
+use lib.Dec.{eqb}
+use lib.ListN.{drop}
+use Rattle.built_values.specs.Answers.{kinds_of}
+use Rattle.built_values.specs.Checkers.{is_scalar_part, in_run}
+use Rattle.built_values.proofs.KindLaws.{length_kinds}
+use Rattle.built_values.proofs.kinds.is_in.Goals as goal
+
+pub overflow_add-i : goal.overflow_add-i
+overflow_add-i c = omega (arith, length_kinds c.args.records.now)
+
+pub returns-in-Blanks : goal.returns-in-Blanks
+returns-in-Blanks c =
+    let is = c.args in
+    let kind_at = c.kind_at-kind in
+    let told = c.enum_told-1 in
+    let rest = drop (is.i + 1) (kinds_of is.records.now) in
+    ap (λ (k : ℕ). eqb k 32) kind_at.ensures ∙ rw told.given.1
+
+pub returns-in-Lines : goal.returns-in-Lines
+returns-in-Lines c =
+    let kind_at = c.kind_at-kind in
+    let told2 = c.enum_told-in-Lines-1 in
+    let is_at = c.is_at in
+    let is-line-part = c.is_line_part in
+    is-line-part.ensures ∙ rw (kind_at.ensures, is_at.ensures, told2.given.1)
+
+pub returns-in-Parts : goal.returns-in-Parts
+returns-in-Parts c =
+    let kind_at = c.kind_at-kind in
+    let told3 = c.enum_told-in-Parts-1 in
+    let is-scalar-part = c.is_scalar_part in
+    is-scalar-part.ensures ∙ rw (kind_at.ensures, told3.given.1)

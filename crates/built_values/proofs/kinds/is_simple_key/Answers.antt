@@ -1,0 +1,17 @@
+-- `is_simple_key` is right because each number has its arm.
+use borrow.Author.Tests.{ne_eqb}
+use Rattle.built_values.proofs.kinds.is_simple_key.Goals as goal
+
+pub returns-in-3 : goal.returns-in-3
+returns-in-3 c = simp c.in-3.is
+
+pub returns-in-34 : goal.returns-in-34
+returns-in-34 c = simp c.in-34.is
+
+pub returns-in-39 : goal.returns-in-39
+returns-in-39 c = simp c.in-39.is
+
+pub returns-in_default : goal.returns-in_default
+returns-in_default c =
+    let r = c.in_default.in_default-own.rest in
+    simp (ne_eqb _ 3 r.0.0.1, ne_eqb _ 34 r.0.1, ne_eqb _ 39 r.1)

@@ -1,0 +1,26 @@
+-- `decode_in` is right because a plain text decodes to its body in either edition, and any other is decoded as it stands.
+use borrow.Author.Rules.{rules}
+use lib.ListN.{length}
+use Rattle.decoder_rules.proofs.NumberLaws.{decoded}
+use Rattle.decoder_rules.proofs.PlainLaws.{copied_some, copied_none, plain_decodes, middle_long, plain_answer, plain_output, plain_records}
+use Rattle.decoder.proofs.decode_in.Goals as goal
+
+pub returns-then-n-text : goal.returns-then-n-text
+returns-then-n-text c =
+    let a = c.args in
+    let k = copied_some c.copy_named-n.ensures c.if-n-text.true in
+    let d = plain_decodes a.text.now a.edition a.kind _ k.0.0 k.1 k.0.1 in
+    let size = middle_long _ a.text.now k.1 in
+    let o = length a.output.now in
+    let e = length a.errors.now in
+    let answer = plain_answer size d o e k.2 in
+    decoded a.text.now a.edition a.kind o e _ answer (plain_output size d _ _ k.3) (plain_records size d a.errors.now)
+
+pub returns : goal.returns
+returns c =
+    let a = c.args in
+    let d = c.decode_checked.ensures in
+    let kept = copied_none c.copy_named-n.ensures c.if-n-text.false in
+    let o = length a.output.now in
+    let e = length a.errors.now in
+    decoded a.text.now a.edition a.kind o e _ (rw kept at d.0) (rw kept at d.1.0) d.1.1

@@ -1,0 +1,30 @@
+-- `block_feeds` is right because the LFs passed and those still to come are always the same.
+use Prim.Native.Nat.{◌+◌, ◌-◌, ◌≤◌}
+use mathlib.Core.Path.{◌≡◌}
+use lib.ListN.{drop}
+use Rattle.lexer.specs.Lines.{line_feeds}
+use Rattle.lexer.proofs.LineLaws.{feeds_counted, feeds_from, feeds_on}
+use borrow.Author.Rules.{rules}
+use native.Mathlib.Omega.{arith}
+use Rattle.lexer.proofs.lines.block_feeds.Goals as goal
+
+pub loop-j-init : goal.loop-j-init
+loop-j-init c =
+    let i = c.args.i in
+    (omega arith, omega arith, omega (arith, feeds_from c.args.doc.now (i + 0) i (omega arith)))
+
+pub loop-j-preserved : goal.loop-j-preserved
+loop-j-preserved c =
+    let is = c.args in
+    let doc = is.doc.now in
+    let now = c.loop-j in
+    let at = is.i + now.j in
+    let one = feeds_counted doc at (omega arith) now.n c.if-doc-i-eq10.n (λ w. w.taken) (λ w. w.left) c.if-doc-i-eq10.branch in
+    let same = feeds_from doc (at + 1) (is.i + (now.j + 1)) (omega arith) in
+    (omega arith, omega arith, omega arith)
+
+pub returns : goal.returns
+returns c =
+    let doc = c.args.doc.now in
+    let i = c.args.i in
+    omega (arith, feeds_on doc i 128, feeds_from doc (i + c.loop-j.j) (i + 128) (omega arith))

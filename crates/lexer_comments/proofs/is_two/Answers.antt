@@ -1,0 +1,12 @@
+-- `is_two` is right because the ranges are those of the table for such a first byte.
+use mathlib.Core.Bool.{false≢true}
+use Rattle.std.proofs.Common.{rules}
+use borrow.Author.Tests.{not-false}
+use Rattle.lexer_comments.proofs.FrontLaws.{two_there}
+use Rattle.lexer_comments.proofs.is_two.Goals as goal
+
+pub returns-then-not-is_among : goal.returns-then-not-is_among
+returns-then-not-is_among c = λ e. absurd (false≢true e)
+
+pub returns : goal.returns
+returns c = λ e. two_there _ _ (c.is_among.ensures.0 (not-false _ c.if-not-is_among.false-raw)) (c.is_among-2.ensures.0 e)

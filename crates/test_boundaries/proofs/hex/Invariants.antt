@@ -1,0 +1,9 @@
+use borrow.Author.Rules.{rules}
+use Rattle.core.specs.Prelude.{◌-◌, ◌≤◌, length}
+use Rattle.test_boundaries.proofs.hex.Given as goal
+
+abbrev pub invariant-loop-i : goal.invariant-loop-i
+invariant-loop-i l = l.i ≤ length l.s
+
+abbrev pub decreases-loop-i : goal.decreases-loop-i
+decreases-loop-i l = length l.s - l.i

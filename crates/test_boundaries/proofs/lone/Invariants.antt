@@ -1,0 +1,9 @@
+use borrow.Author.Rules.{rules}
+use Rattle.core.specs.Prelude.{◌-◌}
+use Rattle.test_boundaries.proofs.lone.Given as goal
+
+abbrev pub invariant-loop-b : goal.invariant-loop-b
+invariant-loop-b l = Unit
+
+abbrev pub decreases-loop-b : goal.decreases-loop-b
+decreases-loop-b l = l.e - l.b

@@ -1,0 +1,15 @@
+use Prim.Native.Nat.{◌+◌, ◌-◌, ◌≤◌}
+use mathlib.Core.Path.{◌≡◌}
+use native.Mathlib.Omega.{arith}
+use borrow.Author.Rules.{rules}
+use lib.ListN.{length, drop}
+use Rattle.text_scalars.specs.Utf8Read.{valid_prefix}
+use Rattle.text_scalars.proofs.ReadLaws.{valid_end}
+use Rattle.text.proofs.AnswerLaws.{answer_long, answer_ascii, answer_valid, answer_broken, told}
+use Rattle.text.proofs.utf8.check_utf8.Given as goal
+
+abbrev pub invariant-loop-at : goal.invariant-loop-at
+invariant-loop-at l = (l.at ≤ length l.s) × (valid_prefix l.s ≡ l.at + valid_prefix (drop l.at l.s))
+
+abbrev pub decreases-loop-at : goal.decreases-loop-at
+decreases-loop-at l = length l.s - l.at

@@ -1,0 +1,34 @@
+-- `passed` is right because a run of ASCII is a run of characters, and so is what `chars_run` goes over; any other
+-- character is one.
+use native.Mathlib.Omega.{arith}
+use borrow.Author.Rules.{rules}
+use borrow.Author.Tests.{lt-ltb}
+use lib.ListN.{length-drop, drop}
+use Rattle.text_scalars.proofs.ReadLaws.{char_le, passed_ascii, passed_char}
+use Rattle.text.proofs.utf8.passed.Goals as goal
+
+pub returns-then-s-at-lt128 : goal.returns-then-s-at-lt128
+returns-then-s-at-lt128 c =
+    let a = c.args in
+    let first = lt-ltb _ _ c.if-s-at-lt128.true in
+    passed_ascii a.s.now a.at (omega arith) first _ c.ascii_run.ensures
+
+pub returns-then-at-after : goal.returns-then-at-after
+returns-then-at-after c =
+    let run = c.chars_run-after.ensures (omega arith) in
+    record {
+      within = run.1;
+      whole = run.2;
+      forward = run.0;
+      stuck = λ same. absurd (omega arith);
+    }
+
+pub overflow_add-result : goal.overflow_add-result
+overflow_add-result c =
+    let a = c.args in
+    omega (arith, c.char_at.ensures, char_le (drop a.at a.s.now), length-drop a.at a.s.now)
+
+pub returns : goal.returns
+returns c =
+    let a = c.args in
+    passed_char a.s.now a.at (omega arith) _ c.char_at.ensures
