@@ -43,8 +43,8 @@ pub slice_bounds-check_utf8-end : goal.slice_bounds-check_utf8-end
 slice_bounds-check_utf8-end c =
     let a = c.args in
     let k : Stopped a.doc.now a.at c.if-end-doc.stop = elim c.if-end-doc.branch [
-      then-end-doc w ↦ with_next a.doc.now a.at a.end _ c.requires.1 c.requires.2 w.if-end-doc.true w.stop-is
-    | else-end-doc w ↦ to_the_end a.doc.now a.at a.end _ c.requires.1 c.requires.2 w.if-end-doc.false w.stop-is
+      | then-end-doc w ↦ with_next a.doc.now a.at a.end _ c.requires.1 c.requires.2 w.if-end-doc.true w.stop-is
+      | else-end-doc w ↦ to_the_end a.doc.now a.at a.end _ c.requires.1 c.requires.2 w.if-end-doc.false w.stop-is
     ] in
     k.within
 
@@ -53,8 +53,8 @@ overflow_add-result c =
     let a = c.args in
     let s = drop a.at a.doc.now in
     let k : Stopped a.doc.now a.at c.if-end-doc.stop = elim c.if-end-doc.branch [
-      then-end-doc w ↦ with_next a.doc.now a.at a.end _ c.requires.1 c.requires.2 w.if-end-doc.true w.stop-is
-    | else-end-doc w ↦ to_the_end a.doc.now a.at a.end _ c.requires.1 c.requires.2 w.if-end-doc.false w.stop-is
+      | then-end-doc w ↦ with_next a.doc.now a.at a.end _ c.requires.1 c.requires.2 w.if-end-doc.true w.stop-is
+      | else-end-doc w ↦ to_the_end a.doc.now a.at a.end _ c.requires.1 c.requires.2 w.if-end-doc.false w.stop-is
     ] in
     let r = sym c.in-Refused.is ∙ c.check_utf8.ensures.answer ∙ ap check_of k.part in
     let value =
@@ -66,8 +66,8 @@ returns-in-Valid c =
     let a = c.args in
     let s = drop a.at a.doc.now in
     let k : Stopped a.doc.now a.at c.if-end-doc.stop = elim c.if-end-doc.branch [
-      then-end-doc w ↦ with_next a.doc.now a.at a.end _ c.requires.1 c.requires.2 w.if-end-doc.true w.stop-is
-    | else-end-doc w ↦ to_the_end a.doc.now a.at a.end _ c.requires.1 c.requires.2 w.if-end-doc.false w.stop-is
+      | then-end-doc w ↦ with_next a.doc.now a.at a.end _ c.requires.1 c.requires.2 w.if-end-doc.true w.stop-is
+      | else-end-doc w ↦ to_the_end a.doc.now a.at a.end _ c.requires.1 c.requires.2 w.if-end-doc.false w.stop-is
     ] in
     absurd (token_invalid a.doc.now a.at (token_len s) (omega arith) c.requires.3 (token_clean s) (token_fits s) (unread _ c.requires.4)
     (sym c.in-Valid.is ∙ c.check_utf8.ensures.answer ∙ ap check_of k.part))
@@ -77,8 +77,8 @@ returns-in-Refused c =
     let a = c.args in
     let s = drop a.at a.doc.now in
     let k : Stopped a.doc.now a.at c.if-end-doc.stop = elim c.if-end-doc.branch [
-      then-end-doc w ↦ with_next a.doc.now a.at a.end _ c.requires.1 c.requires.2 w.if-end-doc.true w.stop-is
-    | else-end-doc w ↦ to_the_end a.doc.now a.at a.end _ c.requires.1 c.requires.2 w.if-end-doc.false w.stop-is
+      | then-end-doc w ↦ with_next a.doc.now a.at a.end _ c.requires.1 c.requires.2 w.if-end-doc.true w.stop-is
+      | else-end-doc w ↦ to_the_end a.doc.now a.at a.end _ c.requires.1 c.requires.2 w.if-end-doc.false w.stop-is
     ] in
     let r = sym c.in-Refused.is ∙ c.check_utf8.ensures.answer ∙ ap check_of k.part in
     rw (c.value.ensures, c.length.ensures)
