@@ -1,7 +1,6 @@
 -- `chars_run` is right because each turn goes over one whole character, or over several of two or of four bytes.
 use Prim.Native.Nat.{◌+◌, ◌-◌}
 use mathlib.Core.Path.{◌≡◌}
-use borrow.Author.Tests.{not-false}
 use native.Mathlib.Omega.{arith}
 use lib.Count.{leading_le}
 use lib.ListN.{length, get_or}
@@ -55,7 +54,7 @@ pub loop-i-preserved-then-ones-eq3 : goal.loop-i-preserved-then-ones-eq3
 loop-i-preserved-then-ones-eq3 c =
     let a = c.args in
     let at = c.loop-i in
-    along_whole a.s.now a.start at.i 3 (omega arith) (c.is_three.ensures (not-false _ c.if-not-is_three.false-raw) _) at.invariant
+    along_whole a.s.now a.start at.i 3 (omega arith) (c.is_three.ensures c.if-not-is_three.false _) at.invariant
 
 pub returns-then-not-is_four : goal.returns-then-not-is_four
 returns-then-not-is_four c = λ h. c.loop-i.invariant
@@ -64,7 +63,7 @@ pub loop-i-preserved : goal.loop-i-preserved
 loop-i-preserved c =
     let a = c.args in
     let at = c.loop-i in
-    let four = along_whole a.s.now a.start at.i 4 (omega arith) (c.is_four.ensures (not-false _ c.if-not-is_four.false-raw)) at.invariant in
+    let four = along_whole a.s.now a.start at.i 4 (omega arith) (c.is_four.ensures c.if-not-is_four.false) at.invariant in
     let more = c.fours_run-i.ensures in
     (omega (arith, four, more), omega (arith, more), omega (arith, four, more))
 

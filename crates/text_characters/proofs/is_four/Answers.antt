@@ -1,6 +1,5 @@
 -- `is_four` is right because each byte after the first is as the first asks.
 use borrow.Author.Rules.{rules}
-use borrow.Author.Tests.{not-false}
 use mathlib.Core.Bool.{false≢true}
 use native.Mathlib.Omega.{arith}
 use Rattle.text_characters.proofs.is_four.Goals as goal
@@ -15,7 +14,7 @@ pub returns : goal.returns
 returns c =
     λ t. record {
       some = omega arith;
-      asked = c.is_second_of_four.ensures (not-false _ c.if-not-is_second_of_four.false-raw);
-      third = λ k. c.is_among.ensures.0 (not-false _ c.if-not-is_among.false-raw);
+      asked = c.is_second_of_four.ensures c.if-not-is_second_of_four.false;
+      third = λ k. c.is_among.ensures.0 c.if-not-is_among.false;
       fourth = λ k. c.is_among-2.ensures.0 t;
     }

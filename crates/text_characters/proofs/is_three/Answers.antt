@@ -1,6 +1,5 @@
 -- `is_three` is right because each byte after the first is as the first asks.
 use borrow.Author.Rules.{rules}
-use borrow.Author.Tests.{not-false}
 use mathlib.Core.Bool.{false≢true}
 use native.Mathlib.Omega.{arith}
 use Rattle.text_characters.proofs.is_three.Goals as goal
@@ -12,7 +11,7 @@ pub returns : goal.returns
 returns c =
     λ t fourth. record {
       some = omega arith;
-      asked = c.is_second_of_three.ensures (not-false _ c.if-not-is_second_of_three.false-raw);
+      asked = c.is_second_of_three.ensures c.if-not-is_second_of_three.false;
       third = λ k. c.is_among.ensures.0 t;
       fourth = λ k. absurd (omega arith);
     }
