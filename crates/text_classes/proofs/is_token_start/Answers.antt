@@ -31,14 +31,6 @@ off b h e = ap (λ (t : Bool). cond t false (token_start b)) (sym (eq-eqb _ _ e)
 abbrev bit : ℕ → Bool
 bit n = eqb (bit_and (0x2000500900002600 / 2 ^ n) 1) 1
 
-pub overflow_shr-wide : goal.overflow_shr-wide
-overflow_shr-wide c = omega (arith, and_le_r c.wide.result 63)
-
-pub returns-then-wide-eq0 : goal.returns-then-wide-eq0
-returns-then-wide-eq0 c =
-    let b = c.args.b in
-    off b (omega arith) (ap low_bit (sym c.wide.ensures) ∙ c.if-wide-eq0.true)
-
 pub returns-then-b-lt64 : goal.returns-then-b-lt64
 unfolding token_start
 returns-then-b-lt64 c =
