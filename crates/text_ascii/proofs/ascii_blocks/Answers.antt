@@ -1,7 +1,6 @@
 -- `ascii_blocks` is right because each block passed leaves the end of the run where it was.
 use Prim.Native.Nat.{◌-◌}
 use native.Mathlib.Omega.{arith}
-use borrow.Author.Tests.{not-false}
 use lib.ListN.{length}
 use Rattle.text_scalars.specs.Utf8Read.{ascii}
 use Rattle.text_classes.specs.Runs.{run}
@@ -17,7 +16,7 @@ returns-then-not-ascii_block c = c.loop-i.invariant
 pub loop-i-preserved : goal.loop-i-preserved
 loop-i-preserved c =
     let a = c.args in
-    let block = c.ascii_block.ensures (not-false _ c.if-not-ascii_block.false-raw) in
+    let block = c.ascii_block.ensures c.if-not-ascii_block.false in
     let at = c.loop-i in
     same_end_block ascii a.s.now a.start at.i a.n (omega arith) block at.invariant
 

@@ -17,7 +17,7 @@ returns-then-s-i c = λ e. absurd (false≢true e)
 pub returns : goal.returns
 returns c = λ e.
     let a = c.args in
-    let known = c.shared_slice_known-1.given in
+    let known = c.type_inv.s in
     let byte : (k : ℕ) → get_or a.s.now k 0 < 256 = λ k. omega (arith, known k) in
     let there : a.i + 8 ≤ length a.s.now = omega arith in
     let p = c.pair in

@@ -3,7 +3,6 @@ use Prim.Native.Nat.{◌-◌}
 use mathlib.Core.Bool.{false≢true}
 use native.Mathlib.Omega.{arith}
 use borrow.Author.Rules.{rules}
-use borrow.Author.Tests.{not-false}
 use lib.ListN.{length}
 use Rattle.text_scalars.specs.Utf8Read.{ascii}
 use Rattle.text_ascii.proofs.WordLaws.{whole_run}
@@ -27,5 +26,5 @@ returns-then-not-is_ascii_word c = λ e. absurd (false≢true e)
 pub returns : goal.returns
 returns c = λ e.
     let s = c.args.s.now in
-    let front = c.is_ascii_word.ensures (not-false _ c.if-not-is_ascii_word.false-raw) in
+    let front = c.is_ascii_word.ensures c.if-not-is_ascii_word.false in
     whole_run ascii s 8 (length s - 8) (omega arith) (omega arith) front.1 (c.is_ascii_word-2.ensures e).1
