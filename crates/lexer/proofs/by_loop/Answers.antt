@@ -18,6 +18,6 @@ pub returns : goal.returns
 returns c =
     let is = c.args in
     let passed = c.lex_until-passed.ensures in
-    let end = one_place is.doc.now is.at is.line _ c.requires.0 passed.1.1.0.reached in
-    let on = one_line is.doc.now is.at is.line _ c.requires.0 passed.1.0 in
+    let end = one_place is.doc.now is.at is.line _ c.requires.0 passed.place.reached in
+    let on = one_line is.doc.now is.at is.line _ c.requires.0 passed.line in
     c.next_of.ensures ∙ next_parts is.doc.now is.at is.line c.requires.2 c.token_of.ensures end on
