@@ -26,18 +26,19 @@ loop-j-preserved c =
       omega arith,
       λ e v q f t d l m.
           let off-f : (at.first ≡ false) × (b ≡ stops.first → ⊥) =
-            elim c.if-b-a.branch [ then-b-a w ↦ not_both w.first-is f | else-b-a w ↦ (sym w.first-is ∙ f, w.if-b-a.false) ] in
+          elim c.if-b-a.branch [ then-b-a w ↦ not_both w.first-is f | else-b-a w ↦ (sym w.first-is ∙ f, w.if-b-a.false) ] in
           let off-t : (at.second ≡ false) × (b ≡ stops.second → ⊥) =
-            elim c.if-b-z.branch [ then-b-z w ↦ not_both w.second-is t | else-b-z w ↦ (sym w.second-is ∙ t, w.if-b-z.false) ] in
+          elim c.if-b-z.branch [ then-b-z w ↦ not_both w.second-is t | else-b-z w ↦ (sym w.second-is ∙ t, w.if-b-z.false) ] in
           let off-d : (at.delete ≡ false) × (b ≡ 0x7F → ⊥) =
-            elim c.if-b-eq127.branch
-            [ then-b-eq127 w ↦ not_both w.delete-is d | else-b-eq127 w ↦ (sym w.delete-is ∙ d, w.if-b-eq127.false) ] in
+          elim c.if-b-eq127.branch
+          [ then-b-eq127 w ↦ not_both w.delete-is d | else-b-eq127 w ↦ (sym w.delete-is ∙ d, w.if-b-eq127.false) ] in
           let off-l : (at.low ≡ false) × (stops.low ≤ b) =
-            elim c.if-b-l.branch [ then-b-l w ↦ not_both w.low-is l | else-b-l w ↦ (sym w.low-is ∙ l, w.if-b-l.false) ] in
+          elim c.if-b-l.branch [ then-b-l w ↦ not_both w.low-is l | else-b-l w ↦ (sym w.low-is ∙ l, w.if-b-l.false) ] in
           let off-m : (at.mid ≡ false) × (stops.span ≤ c.wrapping_sub_u8.result) =
-            elim c.if-wrapping_sub_u8-k.branch
-            [ then-wrapping_sub_u8-k w ↦ not_both w.mid-is m
-            | else-wrapping_sub_u8-k w ↦ (sym w.mid-is ∙ m, w.if-wrapping_sub_u8-k.false) ] in
+          elim c.if-wrapping_sub_u8-k.branch [
+            | then-wrapping_sub_u8-k w ↦ not_both w.mid-is m
+            | else-wrapping_sub_u8-k w ↦ (sym w.mid-is ∙ m, w.if-wrapping_sub_u8-k.false)
+          ] in
           let clear = clear_plain e v b w.result byte (omega arith) (rw q w.ensures.value)
           (rw q off-f.1) (rw q off-t.1) off-d.1 (rw q off-l.1) (rw q off-m.1) in
           let passed = at.invariant.1 e v q off-f.0 off-t.0 off-d.0 off-l.0 off-m.0 in

@@ -1,17 +1,11 @@
 -- `Body::step` is right because the piece at the front is the rule's, and takes no more than there is.
 -- Assumes nothing.
 use Rattle.std.proofs.Common.{◌+◌, ◌≤◌, length, ap, arith, length-drop, length-take, rules}
-
 use Rattle.decoder_rules.specs.Bodies.{piece_of}
-
 use Rattle.decoder_rules.proofs.Fine.{Turn}
-
 use Rattle.decoder_pieces.specs.Steps.{body_bytes}
-
 use Rattle.decoder_pieces.proofs.StepLaws.{step_none, step_some, turn_fits}
-
 use Rattle.decoder_pieces.proofs.body.Body.step.Statement.{statement}
-
 use Rattle.decoder_pieces.proofs.body.Body.step.Tie as tie
 
 -- where the body has a byte, it ends within the text
