@@ -5,7 +5,7 @@ use Rattle.decoder_rules.specs.Pieces.{notes_of}
 use Rattle.decoder_rules.specs.Decoding.{bytes_of, errors_of}
 use Rattle.decoder_rules.specs.declared.Encoding.{Encoding}
 use Rattle.decoder_marks.specs.declared.Opened.{Opened}
-use Rattle.decoder_marks.specs.Opened.{opened_of}
+use Rattle.decoder_marks.specs.Opening.{opened_of}
 use Rattle.decoder_pieces.specs.Steps.{bytes_left, errors_left}
 use Rattle.decoder_marks.proofs.OpenLaws.{opened_bytes, opened_errors, opened_fits}
 use Rattle.built_mending.specs.Mending.{respelt, replacement, gap, record_at}
