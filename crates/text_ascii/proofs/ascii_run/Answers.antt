@@ -14,12 +14,6 @@ returns-then-s-start c =
     let a = c.args in
     omega (arith, run_end ascii a.s.now a.start (omega arith))
 
-pub loop-i-init : goal.loop-i-init
-loop-i-init c =
-    elim c.if-near-start.branch [
-      then-near-start w ↦ rw w.i-is (omega (arith, w.ascii_blocks-wide.ensures, w.ascii_words-i.ensures))
-    | else-near-start w ↦ rw w.i-is (omega arith) ]
-
 pub returns-then-s-i-ge128 : goal.returns-then-s-i-ge128
 returns-then-s-i-ge128 c =
     let a = c.args in

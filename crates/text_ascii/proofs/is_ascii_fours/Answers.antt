@@ -8,9 +8,6 @@ use lib.ListN.{get_or}
 use Rattle.text_ascii.proofs.WordLaws.{four_ascii}
 use Rattle.text_ascii.proofs.is_ascii_fours.Goals as goal
 
-pub returns-then-four-ne0 : goal.returns-then-four-ne0
-returns-then-four-ne0 c = λ e. absurd (false≢true e)
-
 pub returns : goal.returns
 returns c = λ e.
     let a = c.args in

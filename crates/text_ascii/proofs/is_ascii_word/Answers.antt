@@ -8,12 +8,6 @@ use lib.ListN.{length, get_or}
 use Rattle.text_ascii.proofs.WordLaws.{word_ascii}
 use Rattle.text_ascii.proofs.is_ascii_word.Goals as goal
 
-pub returns-then-s-lt8 : goal.returns-then-s-lt8
-returns-then-s-lt8 c = λ e. absurd (false≢true e)
-
-pub returns-then-s-i : goal.returns-then-s-i
-returns-then-s-i c = λ e. absurd (false≢true e)
-
 pub returns : goal.returns
 returns c = λ e.
     let a = c.args in

@@ -8,20 +8,11 @@ use Rattle.text_scalars.specs.Utf8Read.{ascii}
 use Rattle.text_ascii.proofs.WordLaws.{whole_run}
 use Rattle.text_ascii.proofs.is_short_ascii.Goals as goal
 
-pub returns-then-n-gt16 : goal.returns-then-n-gt16
-returns-then-n-gt16 c = λ e. absurd (false≢true e)
-
-pub returns-then-n-lt4 : goal.returns-then-n-lt4
-returns-then-n-lt4 c = λ e. absurd (false≢true e)
-
 pub returns-then-n-lt8 : goal.returns-then-n-lt8
 returns-then-n-lt8 c = λ e.
     let s = c.args.s.now in
     let both = c.is_ascii_fours.ensures e in
     whole_run ascii s 4 (length s - 4) (omega arith) (omega arith) both.0 both.1
-
-pub returns-then-not-is_ascii_word : goal.returns-then-not-is_ascii_word
-returns-then-not-is_ascii_word c = λ e. absurd (false≢true e)
 
 pub returns : goal.returns
 returns c = λ e.

@@ -8,9 +8,6 @@ use lib.ListN.{get_or}
 use Rattle.text_characters.proofs.FourLaws.{word_four}
 use Rattle.text_characters.proofs.is_four_word.Goals as goal
 
-pub returns-then-word-ne2155905264 : goal.returns-then-word-ne2155905264
-returns-then-word-ne2155905264 c = λ e. absurd (false≢true e)
-
 pub returns : goal.returns
 returns c = λ e.
     let a = c.args in

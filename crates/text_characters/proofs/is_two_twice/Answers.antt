@@ -9,15 +9,6 @@ use lib.ListN.{get_or}
 use Rattle.text_characters.proofs.FourLaws.{word_twos}
 use Rattle.text_characters.proofs.is_two_twice.Goals as goal
 
-pub returns-then-s-i-lt192 : goal.returns-then-s-i-lt192
-returns-then-s-i-lt192 c = λ e. absurd (false≢true e)
-
-pub returns-then-word-ne2160099520 : goal.returns-then-word-ne2160099520
-returns-then-word-ne2160099520 c = λ e. absurd (false≢true e)
-
-pub returns-then-word-eq0 : goal.returns-then-word-eq0
-returns-then-word-eq0 c = λ e. absurd (false≢true e)
-
 pub returns : goal.returns
 returns c = λ e.
     let a = c.args in
