@@ -24,7 +24,7 @@ use Rattle.decoder_rules.specs.Decoding.{bytes_of, errors_of}
 use Rattle.decoder_rules.proofs.AsciiLaws.{mlb_high}
 use Rattle.lexer_scans.specs.Extents.{ml_tail}
 use Rattle.theorems_tokens.proofs.ByLength.{by_length}
-use Rattle.theorems_grammar.specs.Grammar.{Wschar, x20, x09, Newline, x0A, x0D-0A, OptNewline, EscapeSeqChar, escaped, Ws, MlbUnescaped, unescaped, escaped_char, WscharNewline, WscharNewlines, mlb_escaped_nl, MlbContent, mlb_char, newline, escaped_nl, MlBasicString, ml_basic_string}
+use Rattle.theorems_grammar.specs.Grammar.{Wschar, x20, x09, Newline, x0A, x0D-0A, OptNewline, EscapeSeqChar, escaped, Ws, MlbUnescaped, MlbChar, unescaped, escaped_char, WscharNewline, WscharNewlines, mlb_escaped_nl, MlbContent, mlb_char, newline, escaped_nl, MlBasicString, ml_basic_string}
 use Rattle.theorems_grammar.specs.Scalars.{ContentNames, MlBasicNames}
 use Rattle.theorems_grammar.specs.Prose.{starts_newline, starts_blank, Trimmed, Drops, MlBasicObeys}
 use Rattle.theorems_grammar.specs.Strings.{Apart}
