@@ -1,4 +1,4 @@
--- `atom_run` is right because a byte that begins no other token leaves the end of the run where it was.
+-- `atom_rest` is right because a byte that begins no other token leaves the end of the run where it was.
 use Prim.Native.Nat.{◌+◌, ◌-◌}
 use mathlib.Core.Path.{◌≡◌, refl, sym, ap, ◌∙◌}
 use mathlib.Core.Bool.{not}
@@ -8,7 +8,7 @@ use Rattle.text_classes.proofs.RunLaws.{run_step, run_stop, run_end}
 use Rattle.lexer_scans.specs.Extents.{in_atom}
 use borrow.Author.Rules.{rules}
 use native.Mathlib.Omega.{arith}
-use Rattle.lexer_scans.proofs.atom_run.Goals as goal
+use Rattle.lexer_scans.proofs.atom_rest.Goals as goal
 
 pub returns-then-is_token_start : goal.returns-then-is_token_start
 returns-then-is_token_start c =
