@@ -5,7 +5,6 @@ use Rattle.lexer.proofs.UntilLaws.{until_few}
 use Rattle.lexer.proofs.WholeLaws.{one_line, one_place}
 use Rattle.lexer.proofs.NextLaws.{next_parts}
 use native.Mathlib.Omega.{arith}
-use borrow.Author.Rules.{rules}
 use Rattle.lexer.proofs.by_loop.Goals as goal
 
 pub lex_until-passed-requires : goal.lex_until-passed-requires

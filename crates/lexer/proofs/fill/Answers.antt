@@ -1,9 +1,7 @@
 -- `fill` is right because the tokens that begin before the end of the document are stored first, and Eof after them.
-use Prim.Native.Nat.{ℕ, ◌+◌}
-use mathlib.Core.Path.{◌≡◌, refl, ap, ◌∙◌}
+use mathlib.Core.Path.{refl, ap, ◌∙◌}
 use native.Mathlib.Omega.{arith}
 use Rattle.lexer_token.specs.Records.{record_of}
-use Rattle.lexer.specs.Whole.{token_count}
 use Rattle.lexer.proofs.TokenLaws.{start_fits}
 use Rattle.lexer.proofs.WholeLaws.{AllPassed, counted, filled, filled_length}
 use Rattle.lexer.proofs.fill.Goals as goal

@@ -1,11 +1,11 @@
 -- `lex_until` is right because the tokens still to come, stored from here on, give the records at the end: a turn stores
 -- the first of them, for which a record is left, and takes the line after it.
-use mathlib.Core.Path.{◌≡◌, refl, ap, ◌∙◌}
+use mathlib.Core.Path.{refl, ap, ◌∙◌}
 use native.Mathlib.Omega.{arith}
 use Rattle.lexer_token.specs.Records.{record_of}
 use Rattle.lexer.specs.declared.Next.{Next}
-use Rattle.lexer.proofs.TokenLaws.{end_at, token_fits_at, token_long_at}
-use Rattle.lexer.proofs.UntilLaws.{Underway, turned_by, has_room, arrived}
+use Rattle.lexer.proofs.TokenLaws.{token_fits_at, token_long_at}
+use Rattle.lexer.proofs.UntilLaws.{turned_by, has_room, arrived}
 use Rattle.lexer.proofs.lex_until.Goals as goal
 
 pub loop-at-init : goal.loop-at-init

@@ -1,10 +1,6 @@
 -- `block_feeds` is right because the LFs passed and those still to come are always the same.
-use Prim.Native.Nat.{◌+◌, ◌-◌, ◌≤◌}
-use mathlib.Core.Path.{◌≡◌}
-use lib.ListN.{drop}
-use Rattle.lexer.specs.Lines.{line_feeds}
+use Prim.Native.Nat.{◌+◌}
 use Rattle.lexer.proofs.LineLaws.{Counts, feeds_lf, feeds_other, feeds_from, feeds_on}
-use borrow.Author.Rules.{rules}
 use native.Mathlib.Omega.{arith}
 use Rattle.lexer.proofs.lines.block_feeds.Goals as goal
 use Rattle.lexer.proofs.lines.block_feeds.Goals.{then-doc-i-eq10, else-doc-i-eq10}

@@ -1,9 +1,5 @@
 -- `line_feeds` is right because neither a block nor a byte that is counted changes the LFs passed and still to come.
-use Prim.Native.Nat.{ℕ, ◌+◌, ◌-◌, ◌≤◌}
-use mathlib.Core.Path.{◌≡◌}
-use mathlib.Core.List.{List}
 use lib.ListN.{drop}
-use Rattle.lexer.specs.Lines.{line_feeds}
 use Rattle.lexer.proofs.LineLaws.{Counts, feeds_lf, feeds_other, feeds_from, feeds_on, feeds_between, feeds_taken}
 use native.Mathlib.Omega.{arith}
 use Rattle.lexer.proofs.lines.line_feeds.Goals as goal

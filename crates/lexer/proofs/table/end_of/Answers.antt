@@ -4,7 +4,6 @@ use lib.ListN.{drop}
 use lib.Seq.{drop-drop}
 use Rattle.lexer.specs.Table.{extent}
 use Rattle.lexer.proofs.TagLaws.{Single, one_byte}
-use borrow.Author.Rules.{rules}
 use native.Mathlib.Omega.{arith}
 use Rattle.lexer.proofs.table.end_of.Goals as goal
 
