@@ -87,7 +87,7 @@ loop-at-preserved-in-Broken c =
     let copy = c.copy_in-o1 in
     let put = c.replace-done in
     filled_replaced a.doc.now l.at l.line c.loop-at-test.true t.result.token t.ensures.token a.edition t.result.line t.ensures.line r.result r.ensures a.output.now a.records.now l.invariant c.in-Broken.e c.in-Broken.is
-    (put.auto.output ∙ copy.auto.output) put.auto.records copy.ensures put.ensures.token put.ensures.line
+    (put.auto.output ∙ copy.auto.output) put.auto.records copy.ensures put.ensures.output put.ensures.records
 
 pub overflow_sub-quoted : goal.overflow_sub-quoted
 overflow_sub-quoted c =
@@ -137,5 +137,5 @@ pub returns : goal.returns
 returns c =
     let a = c.args in
     let end =
-        filled_end a.edition a.doc.now a.output.now a.records.now c.loop-at-test.false c.loop-at.invariant c.copy_in-o1-2.ensures in
+    filled_end a.edition a.doc.now a.output.now a.records.now c.loop-at-test.false c.loop-at.invariant c.copy_in-o1-2.ensures in
     record { output = end.0; records = end.1 }

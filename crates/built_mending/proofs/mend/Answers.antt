@@ -1,31 +1,23 @@
 -- `mend` is right because it writes only where all of it fits, which it has counted, or which no document can pass.
-use Rattle.std.proofs.Common.{◌≤◌, length, arith}
-use borrow.Author.Tests.{not-false}
+use Rattle.std.proofs.Common.{ℕ, ◌*◌, ◌≤◌, List, length, arith}
 use Rattle.text_refusals.specs.Refusals.{limit}
 use Rattle.decoder_rules.proofs.StoreLaws.{front_long}
 use Rattle.built_mending.specs.Mending.{mended, listed}
 use Rattle.built_mending.proofs.BoundLaws.{mended_most, listed_few}
 use Rattle.built_mending.proofs.AnswerLaws.{wrote_long, wrote_short, wrote_few, wrote_both}
 use Rattle.built_mending.proofs.mend.Goals as goal
-use Rattle.built_mending.proofs.mend.Goals.{then-not-is_roomy, else-not-is_roomy}
+use Rattle.built_mending.proofs.mend.Goals.{then-not-is_roomy+else-need-gt-LIMIT+else-output-need+else-records-need, else-not-is_roomy}
 
--- there is room for all of it: no document needs more, or it was counted
-room : (c : goal.Joined-not-is_roomy)
-    → let a = c.args in let text = mended a.edition a.doc.now in
-    (length text ≤ limit) × (length text ≤ length a.output.now) × (length (listed a.edition a.doc.now) ≤ length a.records.now)
-room c =
-    let a = c.args in
-    let most = mended_most a.edition a.doc.now in
-    elim c.if-not-is_roomy.branch [
-      then-not-is_roomy w ↦ (
-        omega (arith, w.needed-need.ensures.bytes, w.if-need-gt-LIMIT.false),
-        omega (arith, w.needed-need.ensures.bytes, w.if-output-need.false),
-        omega (arith, w.needed-need.ensures.records, w.if-records-need.false),
-      )
-    | else-not-is_roomy w ↦
-        let h = c.is_roomy.ensures (not-false _ w.if-not-is_roomy.false) in
-        (omega (arith, most, h.0), omega (arith, most, h.1), omega (arith, listed_few a.edition a.doc.now, h.2))
-    ]
+-- there is room for all of it
+abbrev Fits : List ℕ → ℕ → ℕ → ℕ → Type 0
+Fits doc edition o m =
+    (length (mended edition doc) ≤ limit) × (length (mended edition doc) ≤ o) × (length (listed edition doc) ≤ m)
+
+-- where no document of this length needs more
+roomy : (doc : List ℕ) (edition o m : ℕ) → (6 * length doc ≤ limit) × (6 * length doc ≤ o) × (length doc ≤ m) → Fits doc edition o m
+roomy doc edition o m h =
+    let most = mended_most edition doc in
+    (omega (arith, most, h.0), omega (arith, most, h.1), omega (arith, listed_few edition doc, h.2))
 
 pub returns-then-need-gt-LIMIT : goal.returns-then-need-gt-LIMIT
 returns-then-need-gt-LIMIT c =
@@ -49,12 +41,33 @@ returns-then-records-need c =
     n.ensures.bytes c.if-need-gt-LIMIT.false c.if-output-need.false n.ensures.records c.if-records-need.true
 
 pub fill-done-requires : goal.fill-done-requires
-fill-done-requires c = let r = room c in (c.requires, r.1, r.2)
+fill-done-requires c =
+    let a = c.args in
+    let r : Fits a.doc.now a.edition (length a.output.now) (length a.records.now) =
+    elim c.if-not-is_roomy.branch [
+      | then-not-is_roomy+else-need-gt-LIMIT+else-output-need+else-records-need w ↦ (
+        omega (arith, w.needed-need.ensures.bytes, w.if-need-gt-LIMIT.false),
+        omega (arith, w.needed-need.ensures.bytes, w.if-output-need.false),
+        omega (arith, w.needed-need.ensures.records, w.if-records-need.false),
+      )
+      | else-not-is_roomy w ↦
+          roomy a.doc.now a.edition _ _ (c.is_roomy.ensures w.if-not-is_roomy.false)
+    ] in
+    (c.requires, r.1, r.2)
 
 pub returns : goal.returns
 returns c =
     let a = c.args in
-    let r = room c in
+    let r : Fits a.doc.now a.edition (length a.output.now) (length a.records.now) =
+    elim c.if-not-is_roomy.branch [
+      | then-not-is_roomy+else-need-gt-LIMIT+else-output-need+else-records-need w ↦ (
+        omega (arith, w.needed-need.ensures.bytes, w.if-need-gt-LIMIT.false),
+        omega (arith, w.needed-need.ensures.bytes, w.if-output-need.false),
+        omega (arith, w.needed-need.ensures.records, w.if-records-need.false),
+      )
+      | else-not-is_roomy w ↦
+          roomy a.doc.now a.edition _ _ (c.is_roomy.ensures w.if-not-is_roomy.false)
+    ] in
     let done = c.fill-done in
     let n = front_long done.ensures.output in
     let m = front_long done.ensures.records in

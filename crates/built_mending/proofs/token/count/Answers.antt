@@ -30,8 +30,8 @@ overflow_add-m c =
     let a = c.args in
     let l = c.loop-body in
     let t =
-        count_turn a.e a.text.now a.start l.body _ _ (sym c.in-Piece.ensures) l.invariant.1 c.given_width-n.ensures
-        c.noted-m.ensures in
+    count_turn a.e a.text.now a.start l.body _ _ (sym c.in-Piece.ensures) l.invariant.1 c.given_width-n.ensures
+    c.noted-m.ensures in
     let small : length (body_bytes a.start a.text.now) ≤ length a.text.now = rw (length-take, length-drop) (omega arith) in
     omega (arith, t.few)
 

@@ -19,8 +19,8 @@ put_given-o-requires c =
     let step = sym c.in-Piece.ensures in
     let f = record_at a.span.start a.span.end in
     let room =
-        write_room a.e a.text.now a.start f a.output.now a.o0 a.records.now a.m0 l.body _ _ step l.invariant.1
-        c.requires.1 c.requires.2 in
+    write_room a.e a.text.now a.start f a.output.now a.o0 a.records.now a.m0 l.body _ _ step l.invariant.1
+    c.requires.1 c.requires.2 in
     (step_fine a.e a.text.now l.body _ _ step, room.0)
 
 pub note-m-requires : goal.note-m-requires
@@ -30,8 +30,8 @@ note-m-requires c =
     let l = c.loop-body in
     let f = record_at a.span.start a.span.end in
     let room =
-        write_room a.e a.text.now a.start f a.output.now a.o0 a.records.now a.m0 l.body _ _ (sym c.in-Piece.ensures)
-        l.invariant.1 c.requires.1 c.requires.2 in
+    write_room a.e a.text.now a.start f a.output.now a.o0 a.records.now a.m0 l.body _ _ (sym c.in-Piece.ensures)
+    l.invariant.1 c.requires.1 c.requires.2 in
     room.1
 
 pub loop-body-smaller : goal.loop-body-smaller
@@ -63,8 +63,8 @@ returns-after-loop-body c =
     let l = c.loop-body in
     let f = record_at a.span.start a.span.end in
     let end =
-        write_end a.e a.text.now a.start f a.output.now a.o0 a.records.now a.m0
-        (ended_none l.body a.text.now c.loop-body-test.false) l.invariant.1 in
+    write_end a.e a.text.now a.start f a.output.now a.o0 a.records.now a.m0
+    (ended_none l.body a.text.now c.loop-body-test.false) l.invariant.1 in
     record { output = end.0; records = end.1 }
 
 pub shape_of-output-in-End : goal.shape_of-output-in-End
@@ -79,6 +79,6 @@ returns-in-End c =
     let l = c.loop-body in
     let f = record_at a.span.start a.span.end in
     let end =
-        write_end a.e a.text.now a.start f a.output.now a.o0 a.records.now a.m0
-        (none_left a.e a.text.now l.body (sym c.in-End.ensures)) l.invariant.1 in
+    write_end a.e a.text.now a.start f a.output.now a.o0 a.records.now a.m0
+    (none_left a.e a.text.now l.body (sym c.in-End.ensures)) l.invariant.1 in
     record { output = end.0; records = end.1 }
