@@ -10,11 +10,6 @@ use Rattle.lexer_scans.proofs.MarkLaws.{stands_at}
 use Rattle.lexer_scans.proofs.TailLaws.{basic_found, basic_halts, line_closed, line_escape, line_escaped, line_lf, line_end}
 use Rattle.table_scans.proofs.basic_tail.Goals as goal
 
-pub overflow_add-result : goal.overflow_add-result
-overflow_add-result c =
-    let marked = sym c.is_at.ensures ∙ c.if-is_at.true in
-    omega (arith, stands_there 34 c.args.doc.now c.class_run-i.result marked)
-
 pub returns-then-is_at : goal.returns-then-is_at
 returns-then-is_at c =
     let doc = c.args.doc.now in
@@ -32,11 +27,6 @@ returns-then-not-is_at c =
     let unescaped = sym c.is_at-in-loop-i.ensures ∙ c.if-not-is_at.true in
     omega (arith, found.same, basic_halts doc c.loop-i.i i found unmarked unescaped)
 
-pub overflow_sub-doc : goal.overflow_sub-doc
-overflow_sub-doc c =
-    let escape = stands_there 92 c.args.doc.now c.class_run-i.result (sym c.is_at-in-loop-i.ensures ∙ c.if-not-is_at.false) in
-    omega (arith, escape.0)
-
 pub returns-then-doc-i-lt2 : goal.returns-then-doc-i-lt2
 returns-then-doc-i-lt2 c =
     let doc = c.args.doc.now in
@@ -44,16 +34,6 @@ returns-then-doc-i-lt2 c =
     let found = basic_found doc c.loop-i.i i c.class_run-i.ensures in
     let escape = stands_there 92 doc i (sym c.is_at-in-loop-i.ensures ∙ c.if-not-is_at.false) in
     omega (arith, found.same, escape.0, line_escape doc i escape.0 escape.1, line_end 34 true doc (i + 1) (omega (arith, escape.0)))
-
-pub overflow_add-i : goal.overflow_add-i
-overflow_add-i c =
-    let escape = stands_there 92 c.args.doc.now c.class_run-i.result (sym c.is_at-in-loop-i.ensures ∙ c.if-not-is_at.false) in
-    omega (arith, escape.0)
-
-pub overflow_add-result-then-is_at-2 : goal.overflow_add-result-then-is_at-2
-overflow_add-result-then-is_at-2 c =
-    let escape = stands_there 92 c.args.doc.now c.class_run-i.result (sym c.is_at-in-loop-i.ensures ∙ c.if-not-is_at.false) in
-    omega (arith, escape.0)
 
 pub returns-then-is_at-2 : goal.returns-then-is_at-2
 returns-then-is_at-2 c =
@@ -64,19 +44,6 @@ returns-then-is_at-2 c =
     let lf = stands_there 10 doc (i + 1) (sym c.is_at-in-loop-i-2.ensures ∙ c.if-is_at-2.true) in
     let hidden = line_lf 34 true doc (i + 1) lf.0 refl (eq-eqb _ _ lf.1) in
     omega (arith, found.same, line_escape doc i escape.0 escape.1)
-
-pub overflow_add-i-in-loop-i : goal.overflow_add-i-in-loop-i
-overflow_add-i-in-loop-i c =
-    let escape = stands_there 92 c.args.doc.now c.class_run-i.result (sym c.is_at-in-loop-i.ensures ∙ c.if-not-is_at.false) in
-    omega (arith, escape.0)
-
-pub loop-i-smaller : goal.loop-i-smaller
-loop-i-smaller c =
-    let doc = c.args.doc.now in
-    let i = c.class_run-i.result in
-    let found = basic_found doc c.loop-i.i i c.class_run-i.ensures in
-    let escape = stands_there 92 doc i (sym c.is_at-in-loop-i.ensures ∙ c.if-not-is_at.false) in
-    omega (arith, found.forward, escape.0)
 
 pub loop-i-preserved : goal.loop-i-preserved
 loop-i-preserved c =

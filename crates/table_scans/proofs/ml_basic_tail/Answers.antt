@@ -43,11 +43,6 @@ returns-then-doc-i-lt2 c =
     let fewer = sym c.is_triple.ensures ∙ c.if-is_triple.false in
     omega (arith, found.same, ml_last doc i 34 (found.within (omega arith)) (omega arith) fewer)
 
-pub loop-i-smaller-then-is_at : goal.loop-i-smaller-then-is_at
-loop-i-smaller-then-is_at c =
-    let found = ml_basic_found c.args.doc.now c.loop-i.i c.class_run-i.result c.class_run-i.ensures in
-    omega (arith, found.forward)
-
 pub loop-i-preserved-then-is_at : goal.loop-i-preserved-then-is_at
 loop-i-preserved-then-is_at c =
     let doc = c.args.doc.now in
@@ -56,11 +51,6 @@ loop-i-preserved-then-is_at c =
     let fewer = sym c.is_triple.ensures ∙ c.if-is_triple.false in
     let escape = stands_there 92 doc i (sym c.is_at.ensures ∙ c.if-is_at.true) in
     omega (arith, found.same, ml_escaped doc i (omega arith) fewer escape.1)
-
-pub loop-i-smaller : goal.loop-i-smaller
-loop-i-smaller c =
-    let found = ml_basic_found c.args.doc.now c.loop-i.i c.class_run-i.result c.class_run-i.ensures in
-    omega (arith, found.forward)
 
 pub loop-i-preserved : goal.loop-i-preserved
 loop-i-preserved c =
