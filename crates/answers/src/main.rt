@@ -9,26 +9,31 @@ ghost use Rattle.std.specs.Prelude.{◌≤◌, length};
 
 use answers_asking::{Call, LineFault, RECORDS, Reading, Request, WRITTEN};
 use answers_spelling::Reply;
+use program_io::Console;
+use std::io;
 
-fn main() {
+fn main(rt: HostRuntime) -> io::Result<()> {
     let mut input = [0u8; 65536];
     // room for a document of 65,536 bytes in hex, and the words before it
     let mut line = [0u8; 131200];
     let mut bytes = [0u8; WRITTEN];
     let mut errors = [[0usize; 3]; RECORDS];
     let mut tokens = [[0usize; 4]; RECORDS];
-    answer_all(&mut input, &mut line, &mut bytes, &mut errors, &mut tokens);
+    answer_all(
+        &rt, &mut input, &mut line, &mut bytes, &mut errors, &mut tokens,
+    )
 }
 
 // A proved loop has to end, and nothing says that the input does: so the loop counts down from a number
 // that no run uses up.
 fn answer_all(
+    console: &impl Console,
     input: &mut [u8],
     line: &mut [u8],
     bytes: &mut [u8],
     errors: &mut [[usize; 3]],
     tokens: &mut [[usize; 4]],
-) {
+) -> io::Result<()> {
     let mut reading = Reading {
         at: 0,
         end: 0,
@@ -38,24 +43,26 @@ fn answer_all(
     };
     let mut turns = u64::MAX;
     while turns > 0 && reading.more {
-        let request = answers_asking::next_request(reading, input, line);
+        let request = answers_asking::next_request(console, reading, input, line)?;
         reading = request.reading;
-        answer(request, line, bytes, errors, tokens);
+        answer(console, request, line, bytes, errors, tokens)?;
         turns -= 1;
     }
+    Ok(())
 }
 
 fn answer(
+    console: &impl Console,
     request: Request,
     line: &[u8],
     bytes: &mut [u8],
     errors: &mut [[usize; 3]],
     tokens: &mut [[usize; 4]],
-)
+) -> io::Result<()>
     requires { request.len ≤ length line.now }
 {
     let made = answer_to(request, line, bytes, errors, tokens);
-    answers_spelling::print_answer(made, bytes, errors, tokens);
+    answers_spelling::print_answer(console, made, bytes, errors, tokens)
 }
 
 fn answer_to(

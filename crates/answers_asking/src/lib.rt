@@ -7,8 +7,10 @@ mod lines;
 mod names;
 mod words;
 
-ghost use Rattle.std.specs.Prelude.{◌≤◌, length};
+ghost use Rattle.std.specs.Prelude.{◌≤◌, IfErr, IfOk, length};
 
+use program_io::Console;
+use std::io;
 pub use asked::{LineFault, Question};
 pub use lines::Reading;
 pub use names::{BuiltCall, Call, PartsCall, RECORDS, ReaderCall, TableCall, WRITTEN};
@@ -23,12 +25,14 @@ pub struct Request {
 }
 
 // The request of the next line. What is read decides it, and no contract can speak of that: so it
-// promises only that the document lies in the line's memory.
-pub fn next_request(start: Reading, input: &mut [u8], line: &mut [u8]) -> Request
-    ensures { result.len ≤ length line.new }
+// promises only that the document lies in the line's memory. It fails only where a read or a write did;
+// then there is no request, and the line's memory may hold a part of the line.
+pub fn next_request<C: Console>(console: &C, start: Reading, input: &mut [u8], line: &mut [u8]) -> io::Result<Request>
+    ensures document { IfOk result (λ request. request.len ≤ length line.new) }
+    ensures error { IfErr result C.fails }
 {
-    let reading = lines::next_line(start, input, line);
-    request_of(reading, line)
+    let reading = lines::next_line(console, start, input, line)?;
+    Ok(request_of(reading, line))
 }
 
 fn request_of(reading: Reading, line: &mut [u8]) -> Request

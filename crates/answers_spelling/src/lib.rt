@@ -2,9 +2,10 @@
 // which is written to standard output whenever it is full.
 #![tactic(auto)]
 
-ghost use Rattle.std.specs.Prelude.{◌≡◌};
+ghost use Rattle.std.specs.Prelude.{◌≡◌, IfErr, IfOk};
 
-use libc::STDOUT_FILENO;
+use program_io::{Console, decimal, hex};
+use std::io;
 
 // How a reply is written. The numbers that tests/README.md lists for a call fill it in their order.
 #[derive(Clone, Copy)]
@@ -118,16 +119,18 @@ const TOO_MUCH: Text = *b"? more than can be lent\n";
 
 const NOTHING: Text = *b"________________________";
 
-// Writes a reply. It promises that it returns; no contract can speak of what is written.
-pub fn print_answer(answer: Reply, bytes: &[u8], errors: &[[usize; 3]], tokens: &[[usize; 4]])
-    ensures { result ≡ tt }
+// Writes a reply. It promises that it returns, and fails only where a write did, after which some of the
+// reply may be written; no contract can speak of what is.
+pub fn print_answer<C: Console>(console: &C, answer: Reply, bytes: &[u8], errors: &[[usize; 3]], tokens: &[[usize; 4]]) -> io::Result<()>
+    ensures answer { IfOk result (λ nothing. nothing ≡ tt) }
+    ensures error { IfErr result C.fails }
 {
     let mut space = [0u8; 16384];
     let out: &mut [u8] = &mut space;
     let form = answer.form;
     let numbers = answer.numbers;
-    let used = put_text(out, text_of(form), numbers, bytes, errors, tokens);
-    write(out, used);
+    let used = put_text(console, out, text_of(form), numbers, bytes, errors, tokens)?;
+    write(console, out, used)
 }
 
 // The text of a form.
@@ -167,24 +170,27 @@ fn text_of(form: Form) -> Text {
 
 // Puts a form's text, filled with the numbers, into an empty buffer, and answers how much of it is used.
 // Each `put_` below takes a buffer and how much of it is used, and answers how much is used afterwards.
-fn put_text(
+fn put_text<C: Console>(
+    console: &C,
     out: &mut [u8],
     text: Text,
     numbers: [usize; 8],
     bytes: &[u8],
     errors: &[[usize; 3]],
     tokens: &[[usize; 4]],
-) -> usize {
+) -> io::Result<usize>
+    ensures error { IfErr result C.fails }
+{
     let mut used = 0;
     let mut k = 0;
     let mut i = 0;
     while i < 24 {
         let b = text[i];
-        used = put_field(out, used, b, number_at(numbers, k), bytes, errors, tokens);
+        used = put_field(console, out, used, b, number_at(numbers, k), bytes, errors, tokens)?;
         k = next_number(k, b);
         i += 1;
     }
-    used
+    Ok(used)
 }
 
 fn number_at(numbers: [usize; 8], k: usize) -> usize {
@@ -209,7 +215,8 @@ fn takes_number(b: u8) -> bool {
     }
 }
 
-fn put_field(
+fn put_field<C: Console>(
+    console: &C,
     out: &mut [u8],
     used: usize,
     b: u8,
@@ -217,170 +224,197 @@ fn put_field(
     bytes: &[u8],
     errors: &[[usize; 3]],
     tokens: &[[usize; 4]],
-) -> usize {
+) -> io::Result<usize>
+    ensures error { IfErr result C.fails }
+{
     match b {
-        b'_' => used,
-        b'#' => put_number(out, used, number),
-        b'$' => put_hex(out, used, bytes, number),
-        b'%' => put_records(out, used, errors, number),
-        b'~' => put_listed(out, used, tokens, errors, number),
-        b'&' => put_tokens(out, used, tokens, number, false),
-        b'@' => put_tokens(out, used, tokens, number, true),
-        b'^' => put_totals(out, used, errors),
-        b'*' => put_calls(out, used, errors, tokens),
-        b'!' => put_given(out, used, errors, tokens, number),
-        _ => put_byte(out, used, b),
+        b'_' => Ok(used),
+        b'#' => put_number(console, out, used, number),
+        b'$' => put_hex(console, out, used, bytes, number),
+        b'%' => put_records(console, out, used, errors, number),
+        b'~' => put_listed(console, out, used, tokens, errors, number),
+        b'&' => put_tokens(console, out, used, tokens, number, false),
+        b'@' => put_tokens(console, out, used, tokens, number, true),
+        b'^' => put_totals(console, out, used, errors),
+        b'*' => put_calls(console, out, used, errors, tokens),
+        b'!' => put_given(console, out, used, errors, tokens, number),
+        _ => put_byte(console, out, used, b),
     }
 }
 
 // The first `count` bytes in lower-case hex, or `-` for none.
-fn put_hex(out: &mut [u8], used: usize, bytes: &[u8], count: usize) -> usize {
+fn put_hex<C: Console>(console: &C, out: &mut [u8], used: usize, bytes: &[u8], count: usize) -> io::Result<usize>
+    ensures error { IfErr result C.fails }
+{
     if count == 0 {
-        return put_byte(out, used, b'-');
+        return put_byte(console, out, used, b'-');
     }
     let mut n = used;
     let mut i = 0;
     while i < bytes.len() && i < count {
-        n = put_hex_byte(out, n, bytes[i]);
+        n = put_hex_byte(console, out, n, bytes[i])?;
         i += 1;
     }
-    n
+    Ok(n)
 }
 
-fn put_hex_byte(out: &mut [u8], used: usize, b: u8) -> usize {
+fn put_hex_byte<C: Console>(console: &C, out: &mut [u8], used: usize, b: u8) -> io::Result<usize>
+    ensures error { IfErr result C.fails }
+{
     let mut digits = [0u8; 16];
-    let k = io::hex(b as u64, 2, &mut digits);
-    put_all(out, used, &digits[..k])
+    let k = hex(b as u64, 2, &mut digits);
+    put_all(console, out, used, &digits[..k])
 }
 
 // The first `count` records, joined by `; `, or `-` for none.
-fn put_records(out: &mut [u8], used: usize, records: &[[usize; 3]], count: usize) -> usize {
+fn put_records<C: Console>(console: &C, out: &mut [u8], used: usize, records: &[[usize; 3]], count: usize) -> io::Result<usize>
+    ensures error { IfErr result C.fails }
+{
     if count == 0 {
-        return put_byte(out, used, b'-');
+        return put_byte(console, out, used, b'-');
     }
     let mut n = used;
     let mut i = 0;
     while i < records.len() && i < count {
-        n = put_joint(out, n, i);
-        n = put_record(out, n, records[i]);
+        n = put_joint(console, out, n, i)?;
+        n = put_record(console, out, n, records[i])?;
         i += 1;
     }
-    n
+    Ok(n)
 }
 
 // The first `count` records, each after the start and the end of its token, joined by `; `, or `-` for none.
-fn put_listed(
+fn put_listed<C: Console>(
+    console: &C,
     out: &mut [u8],
     used: usize,
     tokens: &[[usize; 4]],
     records: &[[usize; 3]],
     count: usize,
-) -> usize {
+) -> io::Result<usize>
+    ensures error { IfErr result C.fails }
+{
     if count == 0 {
-        return put_byte(out, used, b'-');
+        return put_byte(console, out, used, b'-');
     }
     let mut n = used;
     let mut i = 0;
     while i < tokens.len() && i < records.len() && i < count {
-        n = put_joint(out, n, i);
-        n = put_broken(out, n, tokens[i], records[i]);
+        n = put_joint(console, out, n, i)?;
+        n = put_broken(console, out, n, tokens[i], records[i])?;
         i += 1;
     }
-    n
+    Ok(n)
 }
 
 // The start and the end of a token, and an error.
-fn put_broken(out: &mut [u8], used: usize, token: [usize; 4], record: [usize; 3]) -> usize {
-    let n = put_number(out, used, token[1]);
-    let m = put_next(out, n, token[2]);
-    let k = put_byte(out, m, b' ');
-    put_record(out, k, record)
+fn put_broken<C: Console>(console: &C, out: &mut [u8], used: usize, token: [usize; 4], record: [usize; 3]) -> io::Result<usize>
+    ensures error { IfErr result C.fails }
+{
+    let n = put_number(console, out, used, token[1])?;
+    let m = put_next(console, out, n, token[2])?;
+    let k = put_byte(console, out, m, b' ')?;
+    put_record(console, out, k, record)
 }
 
 // The first `count` tokens, joined by `; `, or `-` for none; with their lines where `lines` says so.
-fn put_tokens(
+fn put_tokens<C: Console>(
+    console: &C,
     out: &mut [u8],
     used: usize,
     tokens: &[[usize; 4]],
     count: usize,
     lines: bool,
-) -> usize {
+) -> io::Result<usize>
+    ensures error { IfErr result C.fails }
+{
     if count == 0 {
-        return put_byte(out, used, b'-');
+        return put_byte(console, out, used, b'-');
     }
     let mut n = used;
     let mut i = 0;
     while i < tokens.len() && i < count {
-        n = put_joint(out, n, i);
-        n = put_token(out, n, tokens[i], lines);
+        n = put_joint(console, out, n, i)?;
+        n = put_token(console, out, n, tokens[i], lines)?;
         i += 1;
     }
-    n
+    Ok(n)
 }
 
-fn put_token(out: &mut [u8], used: usize, token: [usize; 4], lines: bool) -> usize {
-    let n = put_record(out, used, [token[0], token[1], token[2]]);
+fn put_token<C: Console>(console: &C, out: &mut [u8], used: usize, token: [usize; 4], lines: bool) -> io::Result<usize>
+    ensures error { IfErr result C.fails }
+{
+    let n = put_record(console, out, used, [token[0], token[1], token[2]])?;
     if lines {
-        return put_next(out, n, token[3]);
+        return put_next(console, out, n, token[3]);
     }
-    n
+    Ok(n)
 }
 
 // The numbers of the first eleven records, three of each: 16, 15 and 2, with a bar between.
-fn put_totals(out: &mut [u8], used: usize, records: &[[usize; 3]]) -> usize {
+fn put_totals<C: Console>(console: &C, out: &mut [u8], used: usize, records: &[[usize; 3]]) -> io::Result<usize>
+    ensures error { IfErr result C.fails }
+{
     let mut n = used;
     let mut i = 0;
     while i < records.len() && i < 11 {
         let record = records[i];
-        n = put_total(out, n, 3 * i, record[0]);
-        n = put_total(out, n, 3 * i + 1, record[1]);
-        n = put_total(out, n, 3 * i + 2, record[2]);
+        n = put_total(console, out, n, 3 * i, record[0])?;
+        n = put_total(console, out, n, 3 * i + 1, record[1])?;
+        n = put_total(console, out, n, 3 * i + 2, record[2])?;
         i += 1;
     }
-    n
+    Ok(n)
 }
 
 // The total of index `place`, and what joins it to the one before it.
-fn put_total(out: &mut [u8], used: usize, place: usize, number: usize) -> usize {
+fn put_total<C: Console>(console: &C, out: &mut [u8], used: usize, place: usize, number: usize) -> io::Result<usize>
+    ensures error { IfErr result C.fails }
+{
     match place {
-        0 => put_number(out, used, number),
+        0 => put_number(console, out, used, number),
         16 | 31 => {
-            let n = put_all(out, used, b" |");
-            put_next(out, n, number)
+            let n = put_all(console, out, used, b" |")?;
+            put_next(console, out, n, number)
         }
-        _ => put_next(out, used, number),
+        _ => put_next(console, out, used, number),
     }
 }
 
 // The answers of four calls: of each the errors hold the refusal's number, 0 where it answered, with the
 // count of its tokens, or else the refusal's value and length. The tokens of one follow those of another.
-fn put_calls(out: &mut [u8], used: usize, calls: &[[usize; 3]], tokens: &[[usize; 4]]) -> usize {
+fn put_calls<C: Console>(console: &C, out: &mut [u8], used: usize, calls: &[[usize; 3]], tokens: &[[usize; 4]]) -> io::Result<usize>
+    ensures error { IfErr result C.fails }
+{
     let mut n = used;
     let mut from = 0;
     let mut i = 0;
     while i < calls.len() && i < 4 {
-        n = put_bar(out, n, i);
-        n = put_call(out, n, calls[i], tokens, from);
+        n = put_bar(console, out, n, i)?;
+        n = put_call(console, out, n, calls[i], tokens, from)?;
         from = after_call(calls[i], tokens, from);
         i += 1;
     }
-    n
+    Ok(n)
 }
 
-fn put_call(
+fn put_call<C: Console>(
+    console: &C,
     out: &mut [u8],
     used: usize,
     call: [usize; 3],
     tokens: &[[usize; 4]],
     from: usize,
-) -> usize {
+) -> io::Result<usize>
+    ensures error { IfErr result C.fails }
+{
     if call[0] != 0 {
-        return put_refusal(out, used, call[0], call[1], call[2]);
+        return put_refusal(console, out, used, call[0], call[1], call[2]);
     }
     if tokens.len() < from {
-        return used;
+        return Ok(used);
     }
-    put_tokens(out, used, &tokens[from..], call[1], true)
+    put_tokens(console, out, used, &tokens[from..], call[1], true)
 }
 
 // The place of the tokens of the next call.
@@ -398,114 +432,140 @@ fn after_call(call: [usize; 3], tokens: &[[usize; 4]], from: usize) -> usize {
 }
 
 // With refusal 1 both of its numbers.
-fn put_refusal(out: &mut [u8], used: usize, refusal: usize, value: usize, length: usize) -> usize {
-    let n = put_all(out, used, b"refused");
-    let m = put_next(out, n, refusal);
-    let k = put_next(out, m, value);
+fn put_refusal<C: Console>(console: &C, out: &mut [u8], used: usize, refusal: usize, value: usize, length: usize) -> io::Result<usize>
+    ensures error { IfErr result C.fails }
+{
+    let n = put_all(console, out, used, b"refused")?;
+    let m = put_next(console, out, n, refusal)?;
+    let k = put_next(console, out, m, value)?;
     if refusal == 1 {
-        return put_next(out, k, length);
+        return put_next(console, out, k, length);
     }
-    k
+    Ok(k)
 }
 
 // The first `count` tokens, joined by `; `, each with the time at which it was given. Of each the errors
 // hold 0 and that time. A refusal is the last: its value in place of the token; its number, its time and
 // its length in place of the error.
-fn put_given(
+fn put_given<C: Console>(
+    console: &C,
     out: &mut [u8],
     used: usize,
     times: &[[usize; 3]],
     tokens: &[[usize; 4]],
     count: usize,
-) -> usize {
+) -> io::Result<usize>
+    ensures error { IfErr result C.fails }
+{
     let mut n = used;
     let mut i = 0;
     while i < tokens.len() && i < times.len() && i < count {
-        n = put_joint(out, n, i);
-        n = put_at(out, n, times[i], tokens[i]);
+        n = put_joint(console, out, n, i)?;
+        n = put_at(console, out, n, times[i], tokens[i])?;
         i += 1;
     }
-    n
+    Ok(n)
 }
 
-fn put_at(out: &mut [u8], used: usize, time: [usize; 3], token: [usize; 4]) -> usize {
+fn put_at<C: Console>(console: &C, out: &mut [u8], used: usize, time: [usize; 3], token: [usize; 4]) -> io::Result<usize>
+    ensures error { IfErr result C.fails }
+{
     if time[0] == 0 {
-        let n = put_token(out, used, token, true);
-        return put_time(out, n, time[1]);
+        let n = put_token(console, out, used, token, true)?;
+        return put_time(console, out, n, time[1]);
     }
-    let n = put_refusal(out, used, time[0], token[0], time[2]);
-    put_time(out, n, time[1])
+    let n = put_refusal(console, out, used, time[0], token[0], time[2])?;
+    put_time(console, out, n, time[1])
 }
 
 // How many bytes had been handed in, or that it was at the end.
-fn put_time(out: &mut [u8], used: usize, time: usize) -> usize {
-    let n = put_all(out, used, b" @");
+fn put_time<C: Console>(console: &C, out: &mut [u8], used: usize, time: usize) -> io::Result<usize>
+    ensures error { IfErr result C.fails }
+{
+    let n = put_all(console, out, used, b" @")?;
     if time == AT_END {
-        return put_all(out, n, b"end");
+        return put_all(console, out, n, b"end");
     }
-    put_number(out, n, time)
+    put_number(console, out, n, time)
 }
 
 // What joins the answer of the call of index `i` to the one before it.
-fn put_bar(out: &mut [u8], used: usize, i: usize) -> usize {
+fn put_bar<C: Console>(console: &C, out: &mut [u8], used: usize, i: usize) -> io::Result<usize>
+    ensures error { IfErr result C.fails }
+{
     if i == 0 {
-        return used;
+        return Ok(used);
     }
-    put_all(out, used, b" | ")
+    put_all(console, out, used, b" | ")
 }
 
 // What joins the record of index `i` to the one before it.
-fn put_joint(out: &mut [u8], used: usize, i: usize) -> usize {
+fn put_joint<C: Console>(console: &C, out: &mut [u8], used: usize, i: usize) -> io::Result<usize>
+    ensures error { IfErr result C.fails }
+{
     if i == 0 {
-        return used;
+        return Ok(used);
     }
-    put_all(out, used, b"; ")
+    put_all(console, out, used, b"; ")
 }
 
-fn put_record(out: &mut [u8], used: usize, record: [usize; 3]) -> usize {
-    let n = put_number(out, used, record[0]);
-    let m = put_next(out, n, record[1]);
-    put_next(out, m, record[2])
+fn put_record<C: Console>(console: &C, out: &mut [u8], used: usize, record: [usize; 3]) -> io::Result<usize>
+    ensures error { IfErr result C.fails }
+{
+    let n = put_number(console, out, used, record[0])?;
+    let m = put_next(console, out, n, record[1])?;
+    put_next(console, out, m, record[2])
 }
 
 // A space and a number.
-fn put_next(out: &mut [u8], used: usize, number: usize) -> usize {
-    let n = put_byte(out, used, b' ');
-    put_number(out, n, number)
+fn put_next<C: Console>(console: &C, out: &mut [u8], used: usize, number: usize) -> io::Result<usize>
+    ensures error { IfErr result C.fails }
+{
+    let n = put_byte(console, out, used, b' ')?;
+    put_number(console, out, n, number)
 }
 
-fn put_number(out: &mut [u8], used: usize, number: usize) -> usize {
+fn put_number<C: Console>(console: &C, out: &mut [u8], used: usize, number: usize) -> io::Result<usize>
+    ensures error { IfErr result C.fails }
+{
     let mut digits = [0u8; 20];
-    let k = io::decimal(number as u64, &mut digits);
-    put_all(out, used, &digits[..k])
+    let k = decimal(number as u64, &mut digits);
+    put_all(console, out, used, &digits[..k])
 }
 
-fn put_all(out: &mut [u8], used: usize, text: &[u8]) -> usize {
+fn put_all<C: Console>(console: &C, out: &mut [u8], used: usize, text: &[u8]) -> io::Result<usize>
+    ensures error { IfErr result C.fails }
+{
     let mut n = used;
     let mut i = 0;
     while i < text.len() {
-        n = put_byte(out, n, text[i]);
+        n = put_byte(console, out, n, text[i])?;
         i += 1;
     }
-    n
+    Ok(n)
 }
 
 // One byte. Where the buffer is full, it is written first, and used anew.
-fn put_byte(out: &mut [u8], used: usize, b: u8) -> usize {
+fn put_byte<C: Console>(console: &C, out: &mut [u8], used: usize, b: u8) -> io::Result<usize>
+    ensures error { IfErr result C.fails }
+{
     if used < out.len() {
         out[used] = b;
-        return used + 1;
+        return Ok(used + 1);
     }
-    write(out, used);
+    write(console, out, used)?;
     if 0 < out.len() {
         out[0] = b;
-        return 1;
+        return Ok(1);
     }
-    0
+    Ok(0)
 }
 
-fn write(out: &[u8], used: usize) {
+fn write<C: Console>(console: &C, out: &[u8], used: usize) -> io::Result<()>
+    ensures error { IfErr result C.fails }
+{
     if used <= out.len() {
-        io::write_all(STDOUT_FILENO, &out[..used]);
+        console.write_bytes(&out[..used])?;
     }
+    Ok(())
 }

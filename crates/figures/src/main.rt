@@ -2,6 +2,8 @@
 // number, for each file and in all.
 #![tactic(auto)]
 
-fn main() {
-    figures_report::report_input();
+use std::io;
+
+fn main(rt: HostRuntime) -> io::Result<()> {
+    figures_report::report_input(&rt)
 }

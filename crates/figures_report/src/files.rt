@@ -1,6 +1,10 @@
 // A file's bytes, as many as there is memory for.
 ghost use Rattle.std.specs.Prelude.{◌≤◌, length};
 
+use std::fs::File;
+use std::io::Read;
+use std::rt::Files;
+
 // What reading a file comes to.
 #[derive(Clone, Copy)]
 pub(crate) enum FileRead {
@@ -16,8 +20,14 @@ struct Filling {
     failed: bool,
 }
 
+// Opens the file of a name, where there is one that can be read. A name that is not UTF-8 opens none.
+pub(crate) fn open<F: Files>(files: &F, name: &[u8]) -> Option<F::File> {
+    let path = str::from_utf8(name).ok()?;
+    File::open(files, path).ok()
+}
+
 // Reads until the memory is full, the file ends or a read fails.
-pub(crate) fn read_file(fd: i32, doc: &mut [u8]) -> FileRead {
+pub(crate) fn read_file<R: Read>(file: &mut R, doc: &mut [u8]) -> FileRead {
     let mut filling = Filling {
         len: 0,
         open: true,
@@ -25,7 +35,7 @@ pub(crate) fn read_file(fd: i32, doc: &mut [u8]) -> FileRead {
     };
     let mut turns = u64::MAX;
     while turns > 0 && filling.open {
-        filling = read_on(fd, filling, doc);
+        filling = read_on(file, filling, doc);
         turns -= 1;
     }
     if filling.failed {
@@ -34,19 +44,23 @@ pub(crate) fn read_file(fd: i32, doc: &mut [u8]) -> FileRead {
     FileRead::Bytes(filling.len)
 }
 
-fn read_on(fd: i32, filling: Filling, doc: &mut [u8]) -> Filling {
+fn read_on<R: Read>(file: &mut R, filling: Filling, doc: &mut [u8]) -> Filling {
     let len = filling.len;
     let mut next = filling;
     if doc.len() <= len {
         next.open = false;
         return next;
     }
-    let rest = &mut doc[len..];
-    let got = libc::read(fd, rest);
-    let n = io::count(got, rest);
-    next.failed = got < 0;
-    next.open = 0 < n;
-    next.len = sum(len, n);
+    match file.read(&mut doc[len..]) {
+        Ok(n) => {
+            next.open = 0 < n;
+            next.len = sum(len, n);
+        }
+        Err(_) => {
+            next.failed = true;
+            next.open = false;
+        }
+    }
     next
 }
 

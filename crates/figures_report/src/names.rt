@@ -1,5 +1,8 @@
 // Standard input as names, a name a line.
-use libc::STDIN_FILENO;
+ghost use Rattle.std.specs.Prelude.{IfErr};
+
+use program_io::Console;
+use std::io;
 
 // How far the input was read: its memory holds bytes not yet taken from `at` up to `end`; `len` bytes of the name are kept;
 // `open` says whether the name goes on, `more` whether there may be more input.
@@ -13,34 +16,40 @@ pub(crate) struct Reading {
 }
 
 // Reads up to an LF or the input's end. Of a name that its memory does not hold, as much is kept as there is room for.
-pub(crate) fn next_name(start: Reading, input: &mut [u8], name: &mut [u8]) -> Reading {
+pub(crate) fn next_name<C: Console>(console: &C, start: Reading, input: &mut [u8], name: &mut [u8]) -> io::Result<Reading>
+    ensures error { IfErr result C.fails }
+{
     let mut reading = start;
     reading.len = 0;
     reading.open = true;
     let mut turns = u64::MAX;
     while turns > 0 && reading.open {
-        reading = read_on(reading, input, name);
+        reading = read_on(console, reading, input, name)?;
         turns -= 1;
     }
-    reading
+    Ok(reading)
 }
 
-fn read_on(reading: Reading, input: &mut [u8], name: &mut [u8]) -> Reading {
+fn read_on<C: Console>(console: &C, reading: Reading, input: &mut [u8], name: &mut [u8]) -> io::Result<Reading>
+    ensures error { IfErr result C.fails }
+{
     let at = reading.at;
     if at < reading.end && at < input.len() {
-        return take(reading, input[at], name);
+        return Ok(take(reading, input[at], name));
     }
-    refill(reading, input)
+    refill(console, reading, input)
 }
 
-fn refill(reading: Reading, input: &mut [u8]) -> Reading {
-    let got = libc::read(STDIN_FILENO, input);
+fn refill<C: Console>(console: &C, reading: Reading, input: &mut [u8]) -> io::Result<Reading>
+    ensures error { IfErr result C.fails }
+{
+    let end = console.read_bytes(input)?;
     let mut filled = reading;
     filled.at = 0;
-    filled.end = io::count(got, input);
+    filled.end = end;
     filled.open = 0 < filled.end;
     filled.more = filled.open;
-    filled
+    Ok(filled)
 }
 
 // Takes one byte: an LF ends the name.

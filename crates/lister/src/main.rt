@@ -1,6 +1,8 @@
 // The lister: the tokens of standard input, a line for each.
 #![tactic(auto)]
 
-fn main() {
-    lister_listing::list_input();
+use std::io;
+
+fn main(rt: HostRuntime) -> io::Result<()> {
+    lister_listing::list_input(&rt)
 }

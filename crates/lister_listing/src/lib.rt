@@ -4,10 +4,11 @@
 // What a program prints is tested, not proved; proved is that this ends and stays in its buffers.
 #![tactic(auto)]
 
-ghost use Rattle.std.specs.Prelude.{◌≡◌, ◌+◌, ◌≤◌, length};
+ghost use Rattle.std.specs.Prelude.{◌≡◌, ◌+◌, ◌≤◌, IfErr, IfOk, length};
 
+use program_io::{Console, decimal, print_decimal, read_full};
+use std::io;
 use lexer::Lexed;
-use libc::{STDIN_FILENO, STDOUT_FILENO};
 
 // The most bytes that the lister takes.
 const MOST: usize = 65536;
@@ -18,37 +19,41 @@ const ROOM: usize = 16384;
 
 const LINE: usize = 84;
 
-// Lists standard input. Its promise is that it returns: no contract can speak of what is read and written.
-pub fn list_input()
-    ensures { result ≡ tt }
+// Lists standard input. Its promise is that it returns, and fails only where a read or a write did, with some
+// of the lines written: no contract can speak of what is read and written.
+pub fn list_input<C: Console>(console: &C) -> io::Result<()>
+    ensures answer { IfOk result (λ nothing. nothing ≡ tt) }
+    ensures error { IfErr result C.fails }
 {
     // One byte more than the most, so that a longer input is noticed.
     let mut doc = [0u8; 65537];
-    let n = io::read_full(STDIN_FILENO, &mut doc);
-    list(&doc[..n]);
+    let n = read_full(console, &mut doc)?;
+    list(console, &doc[..n])
 }
 
 // Lists a document.
-pub fn list(doc: &[u8])
-    ensures { result ≡ tt }
+pub fn list<C: Console>(console: &C, doc: &[u8]) -> io::Result<()>
+    ensures answer { IfOk result (λ nothing. nothing ≡ tt) }
+    ensures error { IfErr result C.fails }
 {
     if MOST < doc.len() {
-        print_refused(2, MOST, 0);
-        return;
+        return print_refused(console, 2, MOST, 0);
     }
     // One record more than bytes: enough for every document that comes here.
     let mut records = [[0usize; 4]; 65537];
     match lexer::lex(doc, &mut records) {
-        Lexed::Tokens(count) => print_records(&records, count),
+        Lexed::Tokens(count) => print_records(console, &records, count),
         Lexed::Refused(refusal) => print_refused(
-            refusal.number(),
+            console, refusal.number(),
             refusal.value(),
             refusal.length(),
         ),
     }
 }
 
-fn print_records(records: &[[usize; 4]], count: usize) {
+fn print_records<C: Console>(console: &C, records: &[[usize; 4]], count: usize) -> io::Result<()>
+    ensures error { IfErr result C.fails }
+{
     let mut space = [0u8; ROOM];
     let lines: &mut [u8] = &mut space;
     let mut at: usize = 0;
@@ -58,41 +63,45 @@ fn print_records(records: &[[usize; 4]], count: usize) {
             break;
         }
         let r = records[i];
-        at = make_room(lines, at);
+        at = make_room(console, lines, at)?;
         at = put_line(lines, at, r);
         i += 1;
     }
-    write_lines(lines, at);
+    write_lines(console, lines, at)
 }
 
 // The place for one more line, where `at` bytes are collected: if it might not fit, these are written first.
-fn make_room(lines: &[u8], at: usize) -> usize
+fn make_room<C: Console>(console: &C, lines: &[u8], at: usize) -> io::Result<usize>
     requires { (at ≤ length lines.now) × (84 ≤ length lines.now) }
-    ensures { result + 84 ≤ length lines.now }
+    ensures room { IfOk result (λ place. place + 84 ≤ length lines.now) }
+    ensures error { IfErr result C.fails }
 {
     if lines.len() - LINE < at {
-        write_lines(lines, at);
-        return 0;
+        write_lines(console, lines, at)?;
+        return Ok(0);
     }
-    at
+    Ok(at)
 }
 
-fn write_lines(lines: &[u8], at: usize)
+fn write_lines<C: Console>(console: &C, lines: &[u8], at: usize) -> io::Result<()>
     requires { at ≤ length lines.now }
+    ensures error { IfErr result C.fails }
 {
-    io::write_all(STDOUT_FILENO, &lines[..at]);
+    console.write_bytes(&lines[..at])
 }
 
-fn print_refused(number: usize, value: usize, length: usize) {
-    io::write_all(STDOUT_FILENO, b"refused ");
-    io::print_decimal(STDOUT_FILENO, number as u64);
-    io::write_all(STDOUT_FILENO, b" ");
-    io::print_decimal(STDOUT_FILENO, value as u64);
+fn print_refused<C: Console>(console: &C, number: usize, value: usize, length: usize) -> io::Result<()>
+    ensures error { IfErr result C.fails }
+{
+    console.write_bytes(b"refused ")?;
+    print_decimal(console, number as u64)?;
+    console.write_bytes(b" ")?;
+    print_decimal(console, value as u64)?;
     if number == 1 {
-        io::write_all(STDOUT_FILENO, b" ");
-        io::print_decimal(STDOUT_FILENO, length as u64);
+        console.write_bytes(b" ")?;
+        print_decimal(console, length as u64)?;
     }
-    io::write_all(STDOUT_FILENO, b"\n");
+    console.write_bytes(b"\n")
 }
 
 // Puts a line with a record's four numbers at `at`, and answers the place after it.
@@ -112,7 +121,7 @@ fn put_number(out: &mut [u8], at: usize, n: usize, last: u8) -> usize
     ensures { result ≤ at + 21 }
 {
     let mut digits = [0u8; 20];
-    let k = at_most_twenty(io::decimal(n as u64, &mut digits));
+    let k = at_most_twenty(decimal(n as u64, &mut digits));
     let mut i = 0;
     while i < k {
         out[at + i] = digits[i];

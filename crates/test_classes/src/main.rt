@@ -3,20 +3,21 @@
 // token-start, which is the lexer's own, and continuation, which is UTF-8's.
 #![tactic(auto)]
 
-use libc::STDOUT_FILENO;
+use program_io::{Console, print_hex};
+use std::io;
 
-fn main() {
-    ranges(0, b"wschar");
-    ranges(1, b"token-start");
-    ranges(2, b"non-ascii");
-    ranges(3, b"literal-char");
-    ranges(4, b"mll-char");
-    ranges(5, b"basic-unescaped");
-    ranges(6, b"mlb-unescaped");
-    ranges(7, b"DIGIT");
-    ranges(8, b"HEXDIG");
-    ranges(9, b"unquoted-key");
-    ranges(10, b"continuation");
+fn main(rt: HostRuntime) -> io::Result<()> {
+    ranges(&rt, 0, b"wschar")?;
+    ranges(&rt, 1, b"token-start")?;
+    ranges(&rt, 2, b"non-ascii")?;
+    ranges(&rt, 3, b"literal-char")?;
+    ranges(&rt, 4, b"mll-char")?;
+    ranges(&rt, 5, b"basic-unescaped")?;
+    ranges(&rt, 6, b"mlb-unescaped")?;
+    ranges(&rt, 7, b"DIGIT")?;
+    ranges(&rt, 8, b"HEXDIG")?;
+    ranges(&rt, 9, b"unquoted-key")?;
+    ranges(&rt, 10, b"continuation")
 }
 
 fn in_class(class: u8, b: u8) -> bool {
@@ -35,40 +36,41 @@ fn in_class(class: u8, b: u8) -> bool {
     }
 }
 
-fn ranges(class: u8, name: &[u8]) {
-    io::write_all(STDOUT_FILENO, name);
+fn ranges(console: &impl Console, class: u8, name: &[u8]) -> io::Result<()> {
+    console.write_bytes(name)?;
     let mut before = false;
     let mut n: usize = 0;
     while n < 256 {
-        before = next(class, (n % 256) as u8, before);
+        before = next(console, class, (n % 256) as u8, before)?;
         n += 1;
     }
     if before {
-        byte(b"-", 255);
+        byte(console, b"-", 255)?;
     }
-    io::write_all(STDOUT_FILENO, b"\n");
+    console.write_bytes(b"\n")
 }
 
 // Opens or closes a range at `b`, and answers whether `b` is in the class.
-fn next(class: u8, b: u8, before: bool) -> bool {
+fn next(console: &impl Console, class: u8, b: u8, before: bool) -> io::Result<bool> {
     let yes = in_class(class, b);
     if yes && !before {
-        byte(b" ", b);
+        byte(console, b" ", b)?;
     }
     if before && !yes {
-        last(b);
+        last(console, b)?;
     }
-    yes
+    Ok(yes)
 }
 
 // Prints the byte before `b`, with which a range ends.
-fn last(b: u8) {
+fn last(console: &impl Console, b: u8) -> io::Result<()> {
     if 0 < b {
-        byte(b"-", b - 1);
+        byte(console, b"-", b - 1)?;
     }
+    Ok(())
 }
 
-fn byte(lead: &[u8], b: u8) {
-    io::write_all(STDOUT_FILENO, lead);
-    io::print_hex(STDOUT_FILENO, b as u64, 2);
+fn byte(console: &impl Console, lead: &[u8], b: u8) -> io::Result<()> {
+    console.write_bytes(lead)?;
+    print_hex(console, b as u64, 2)
 }

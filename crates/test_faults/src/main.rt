@@ -5,7 +5,8 @@
 // standard's table 3-7 and from what Rust documents of Utf8Error's error_len.
 #![tactic(auto)]
 
-use libc::STDOUT_FILENO;
+use program_io::{Console, print_decimal, print_hex};
+use std::io;
 use text::Utf8Check;
 
 // The bytes before the one that varies: the first `n` of `a`, `b` and `c`.
@@ -25,41 +26,42 @@ struct Told {
     length: usize,
 }
 
-fn main() {
+fn main(rt: HostRuntime) -> io::Result<()> {
     let mut a: usize = 0x80;
     while a < 0x100 {
-        faults((a % 256) as u8);
+        faults(&rt, (a % 256) as u8)?;
         a += 1;
     }
+    Ok(())
 }
 
 // The answers for all texts that begin with the byte `a`.
-fn faults(a: u8) {
-    hex(a);
-    io::write_all(STDOUT_FILENO, b" ");
-    print(checked(&[a]));
-    io::write_all(STDOUT_FILENO, b" ");
-    print(checked(&[a, b'x']));
-    io::write_all(STDOUT_FILENO, b"\n");
+fn faults(console: &impl Console, a: u8) -> io::Result<()> {
+    hex(console, a)?;
+    console.write_bytes(b" ")?;
+    print(console, checked(&[a]))?;
+    console.write_bytes(b" ")?;
+    print(console, checked(&[a, b'x']))?;
+    console.write_bytes(b"\n")?;
     let b = lowest(a);
-    varied(Opening {
+    varied(console, Opening {
         n: 1,
         a,
         b,
         c: 0x80,
-    });
-    varied(Opening {
+    })?;
+    varied(console, Opening {
         n: 2,
         a,
         b,
         c: 0x80,
-    });
-    varied(Opening {
+    })?;
+    varied(console, Opening {
         n: 3,
         a,
         b,
         c: 0x80,
-    });
+    })
 }
 
 // The lowest second byte that may follow the first byte `a`.
@@ -73,43 +75,44 @@ fn lowest(a: u8) -> u8 {
 
 // The answers for every byte after the opening `f`: first where the text ends there, then where an ASCII
 // byte follows.
-fn varied(f: Opening) {
-    bytes(f);
-    io::write_all(STDOUT_FILENO, b"..");
-    runs(f, false);
-    bytes(f);
-    io::write_all(STDOUT_FILENO, b".. 78");
-    runs(f, true);
+fn varied(console: &impl Console, f: Opening) -> io::Result<()> {
+    bytes(console, f)?;
+    console.write_bytes(b"..")?;
+    runs(console, f, false)?;
+    bytes(console, f)?;
+    console.write_bytes(b".. 78")?;
+    runs(console, f, true)
 }
 
-fn bytes(f: Opening) {
+fn bytes(console: &impl Console, f: Opening) -> io::Result<()> {
     let n = f.n;
-    hex(f.a);
-    io::write_all(STDOUT_FILENO, b" ");
+    hex(console, f.a)?;
+    console.write_bytes(b" ")?;
     if 1 < n {
-        hex(f.b);
-        io::write_all(STDOUT_FILENO, b" ");
+        hex(console, f.b)?;
+        console.write_bytes(b" ")?;
     }
     if 2 < n {
-        hex(f.c);
-        io::write_all(STDOUT_FILENO, b" ");
+        hex(console, f.c)?;
+        console.write_bytes(b" ")?;
     }
+    Ok(())
 }
 
 // The answers for every byte after `f`, a word for each run of bytes with the same answer.
-fn runs(f: Opening, followed: bool) {
+fn runs(console: &impl Console, f: Opening, followed: bool) -> io::Result<()> {
     let mut first: usize = 0;
     let mut b: usize = 0;
     while b < 256 {
         let here = answer_to(f, b, followed);
         if b == 255 || !is_same(here, answer_to(f, b + 1, followed)) {
-            run(first, b);
-            print(here);
+            run(console, first, b)?;
+            print(console, here)?;
             first = b + 1;
         }
         b += 1;
     }
-    io::write_all(STDOUT_FILENO, b"\n");
+    console.write_bytes(b"\n")
 }
 
 fn answer_to(f: Opening, v: usize, followed: bool) -> Told {
@@ -165,24 +168,24 @@ fn checked(s: &[u8]) -> Told {
     }
 }
 
-fn run(first: usize, last: usize) {
-    io::write_all(STDOUT_FILENO, b" ");
-    io::print_hex(STDOUT_FILENO, first as u64, 2);
-    io::write_all(STDOUT_FILENO, b"-");
-    io::print_hex(STDOUT_FILENO, last as u64, 2);
-    io::write_all(STDOUT_FILENO, b" ");
+fn run(console: &impl Console, first: usize, last: usize) -> io::Result<()> {
+    console.write_bytes(b" ")?;
+    print_hex(console, first as u64, 2)?;
+    console.write_bytes(b"-")?;
+    print_hex(console, last as u64, 2)?;
+    console.write_bytes(b" ")
 }
 
-fn print(a: Told) {
+fn print(console: &impl Console, a: Told) -> io::Result<()> {
     if a.ok {
-        io::write_all(STDOUT_FILENO, b"ok");
-        return;
+        console.write_bytes(b"ok")?;
+        return Ok(());
     }
-    io::print_decimal(STDOUT_FILENO, a.valid as u64);
-    io::write_all(STDOUT_FILENO, b"/");
-    io::print_decimal(STDOUT_FILENO, a.length as u64);
+    print_decimal(console, a.valid as u64)?;
+    console.write_bytes(b"/")?;
+    print_decimal(console, a.length as u64)
 }
 
-fn hex(b: u8) {
-    io::print_hex(STDOUT_FILENO, b as u64, 2);
+fn hex(console: &impl Console, b: u8) -> io::Result<()> {
+    print_hex(console, b as u64, 2)
 }

@@ -3,22 +3,23 @@
 // each listing. The input that is too long is read from standard input, so it has a program of its own: test_lister_long.
 #![tactic(auto)]
 
-use libc::STDOUT_FILENO;
+use program_io::Console;
+use std::io;
 
-fn main() {
-    listing(b"");
-    listing(b"\xEF\xBB\xBF");
+fn main(rt: HostRuntime) -> io::Result<()> {
+    listing(&rt, b"")?;
+    listing(&rt, b"\xEF\xBB\xBF")?;
     // After C3, which asks for a byte from 80 to BF, stands a bracket. The last number of the refusal is 1, as Rust
     // documents Utf8Error's error_len: the length of the invalid sequence, after which reading would go on.
-    listing(b"a = \"\xC3(\"\n");
+    listing(&rt, b"a = \"\xC3(\"\n")?;
     // E2 82 begins a character of three bytes. The last number is 0, as Rust documents error_len: none where the end was
     // reached unexpectedly.
-    listing(b"a = \"\xE2\x82");
+    listing(&rt, b"a = \"\xE2\x82")?;
     let dots = [b'.'; 65536];
-    listing(&dots);
+    listing(&rt, &dots)
 }
 
-fn listing(doc: &[u8]) {
-    lister_listing::list(doc);
-    io::write_all(STDOUT_FILENO, b"\n");
+fn listing(console: &impl Console, doc: &[u8]) -> io::Result<()> {
+    lister_listing::list(console, doc)?;
+    console.write_bytes(b"\n")
 }

@@ -4,67 +4,69 @@
 
 ghost use Rattle.std.specs.Prelude.{◌≤◌};
 
+use program_io::{Console, print_decimal};
+use std::io;
 use lexer::Lexed;
 use lexer_token::Token;
-use libc::STDOUT_FILENO;
 use text_refusals::Refusal;
 
-fn main() {
-    tokens(b"");
-    tokens(b"\xEF\xBB\xBF");
-    tokens(b"'''a'''''");
-    tokens(b"'''a''''''");
-    tokens(b"'a\r\n");
-    tokens(b"#x\ry");
-    tokens(b"a\"b c");
-    tokens(b"a = \"b\"\n");
-    tokens(b".......");
-    tokens(b"........");
-    tokens(b"a\xFF");
+fn main(rt: HostRuntime) -> io::Result<()> {
+    tokens(&rt, b"")?;
+    tokens(&rt, b"\xEF\xBB\xBF")?;
+    tokens(&rt, b"'''a'''''")?;
+    tokens(&rt, b"'''a''''''")?;
+    tokens(&rt, b"'a\r\n")?;
+    tokens(&rt, b"#x\ry")?;
+    tokens(&rt, b"a\"b c")?;
+    tokens(&rt, b"a = \"b\"\n")?;
+    tokens(&rt, b".......")?;
+    tokens(&rt, b"........")?;
+    tokens(&rt, b"a\xFF")
 }
 
 // The tokens of a document, or why there are none; then an empty line.
-fn tokens(doc: &[u8]) {
+fn tokens(console: &impl Console, doc: &[u8]) -> io::Result<()> {
     let all = lexer_structs::lex_eight(doc);
     let answer = all.answer;
     let each = all.tokens;
     match answer {
-        Lexed::Tokens(n) => lines(each, n),
-        Lexed::Refused(r) => refused(r),
+        Lexed::Tokens(n) => lines(console, each, n)?,
+        Lexed::Refused(r) => refused(console, r)?,
     }
-    io::write_all(STDOUT_FILENO, b"\n");
+    console.write_bytes(b"\n")
 }
 
-fn lines(tokens: [Token; 8], n: usize)
+fn lines(console: &impl Console, tokens: [Token; 8], n: usize) -> io::Result<()>
     requires { n ≤ 8 }
 {
     let mut i = 0;
     while i < n {
-        line(tokens[i]);
+        line(console, tokens[i])?;
         i += 1;
     }
+    Ok(())
 }
 
-fn line(token: Token) {
+fn line(console: &impl Console, token: Token) -> io::Result<()> {
     let record = token.as_record();
-    io::print_decimal(STDOUT_FILENO, record[0] as u64);
-    io::write_all(STDOUT_FILENO, b" ");
-    io::print_decimal(STDOUT_FILENO, record[1] as u64);
-    io::write_all(STDOUT_FILENO, b" ");
-    io::print_decimal(STDOUT_FILENO, record[2] as u64);
-    io::write_all(STDOUT_FILENO, b" ");
-    io::print_decimal(STDOUT_FILENO, record[3] as u64);
-    io::write_all(STDOUT_FILENO, b"\n");
+    print_decimal(console, record[0] as u64)?;
+    console.write_bytes(b" ")?;
+    print_decimal(console, record[1] as u64)?;
+    console.write_bytes(b" ")?;
+    print_decimal(console, record[2] as u64)?;
+    console.write_bytes(b" ")?;
+    print_decimal(console, record[3] as u64)?;
+    console.write_bytes(b"\n")
 }
 
-fn refused(r: Refusal) {
-    io::write_all(STDOUT_FILENO, b"refused ");
-    io::print_decimal(STDOUT_FILENO, r.number() as u64);
-    io::write_all(STDOUT_FILENO, b" ");
-    io::print_decimal(STDOUT_FILENO, r.value() as u64);
+fn refused(console: &impl Console, r: Refusal) -> io::Result<()> {
+    console.write_bytes(b"refused ")?;
+    print_decimal(console, r.number() as u64)?;
+    console.write_bytes(b" ")?;
+    print_decimal(console, r.value() as u64)?;
     if r.number() == 1 {
-        io::write_all(STDOUT_FILENO, b" ");
-        io::print_decimal(STDOUT_FILENO, r.length() as u64);
+        console.write_bytes(b" ")?;
+        print_decimal(console, r.length() as u64)?;
     }
-    io::write_all(STDOUT_FILENO, b"\n");
+    console.write_bytes(b"\n")
 }

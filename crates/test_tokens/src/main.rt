@@ -2,195 +2,196 @@
 // program's stack can hold), through the calls; the file `stdout` says what must come out.
 #![tactic(auto)]
 
+use program_io::{Console, print_decimal};
+use std::io;
 use lexer::{Cursor, Lexed, Start, Step};
 use lexer_place::{Position, SpanCheck};
 use lexer_token::{Answer, Span, Token, TokenKind};
-use libc::STDOUT_FILENO;
 use text_refusals::Refusal;
 
-fn say(words: &[u8]) {
-    io::write_all(STDOUT_FILENO, words);
+fn say(console: &impl Console, words: &[u8]) -> io::Result<()> {
+    console.write_bytes(words)
 }
 
-fn number(n: usize, last: &[u8]) {
-    io::print_decimal(STDOUT_FILENO, n as u64);
-    io::write_all(STDOUT_FILENO, last);
+fn number(console: &impl Console, n: usize, last: &[u8]) -> io::Result<()> {
+    print_decimal(console, n as u64)?;
+    console.write_bytes(last)
 }
 
-fn refused(r: Refusal) {
-    say(b"refused ");
-    number(r.number(), b" ");
+fn refused(console: &impl Console, r: Refusal) -> io::Result<()> {
+    say(console, b"refused ")?;
+    number(console, r.number(), b" ")?;
     if r.number() == 1 {
-        number(r.value(), b" ");
-        number(r.length(), b"\n");
-        return;
+        number(console, r.value(), b" ")?;
+        return number(console, r.length(), b"\n");
     }
-    number(r.value(), b"\n");
+    number(console, r.value(), b"\n")
 }
 
-fn row(r: [usize; 4]) {
-    number(r[0], b" ");
-    number(r[1], b" ");
-    number(r[2], b" ");
-    number(r[3], b"\n");
+fn row(console: &impl Console, r: [usize; 4]) -> io::Result<()> {
+    number(console, r[0], b" ")?;
+    number(console, r[1], b" ")?;
+    number(console, r[2], b" ")?;
+    number(console, r[3], b"\n")
 }
 
-fn rows(records: &[[usize; 4]], count: usize) {
+fn rows(console: &impl Console, records: &[[usize; 4]], count: usize) -> io::Result<()> {
     let mut i = 0;
     while i < records.len() {
         if count <= i {
-            return;
+            return Ok(());
         }
-        row(records[i]);
+        row(console, records[i])?;
         i += 1;
     }
+    Ok(())
 }
 
 // Whole lexing, with more records than tokens: the records after the last written one still hold 9 9 9 9.
-fn tokens(doc: &[u8]) {
+fn tokens(console: &impl Console, doc: &[u8]) -> io::Result<()> {
     let mut records = [[9usize; 4]; 8];
     match lexer::lex(doc, &mut records) {
         Lexed::Tokens(count) => {
-            rows(&records, 8);
-            number(count, b" tokens\n");
+            rows(console, &records, 8)?;
+            number(console, count, b" tokens\n")
         }
         Lexed::Refused(r) => {
-            refused(r);
-            rows(&records, 1);
+            refused(console, r)?;
+            rows(console, &records, 1)
         }
     }
 }
 
 // Whole lexing with two records.
-fn tokens_in_two(doc: &[u8]) {
+fn tokens_in_two(console: &impl Console, doc: &[u8]) -> io::Result<()> {
     let mut records = [[9usize; 4]; 2];
     match lexer::lex(doc, &mut records) {
-        Lexed::Tokens(count) => number(count, b" tokens\n"),
-        Lexed::Refused(r) => refused(r),
+        Lexed::Tokens(count) => number(console, count, b" tokens\n")?,
+        Lexed::Refused(r) => refused(console, r)?,
     }
-    rows(&records, 2);
+    rows(console, &records, 2)
 }
 
-fn token(t: Token, c: Cursor) {
-    row(t.as_record());
-    number(c.place, b" ");
-    number(c.line, b" next\n");
+fn token(console: &impl Console, t: Token, c: Cursor) -> io::Result<()> {
+    row(console, t.as_record())?;
+    number(console, c.place, b" ")?;
+    number(console, c.line, b" next\n")
 }
 
-fn step(doc: &[u8], place: usize, line: usize, ended: bool) {
+fn step(console: &impl Console, doc: &[u8], place: usize, line: usize, ended: bool) -> io::Result<()> {
     let c = Cursor { place, line, ended };
     match c.step(doc) {
-        Step::Token(t, next) => token(t, next),
-        Step::End => say(b"end\n"),
-        Step::Refused(r) => refused(r),
+        Step::Token(t, next) => token(console, t, next),
+        Step::End => say(console, b"end\n"),
+        Step::Refused(r) => refused(console, r),
     }
 }
 
-fn start(doc: &[u8]) {
+fn start(console: &impl Console, doc: &[u8]) -> io::Result<()> {
     match Cursor::start(doc) {
         Start::At(c) => {
-            number(c.place, b" ");
-            number(c.line, b" start\n");
+            number(console, c.place, b" ")?;
+            number(console, c.line, b" start\n")
         }
-        Start::Refused(r) => refused(r),
+        Start::Refused(r) => refused(console, r),
     }
 }
 
-fn span(doc: &[u8], start: usize, end: usize) {
+fn span(console: &impl Console, doc: &[u8], start: usize, end: usize) -> io::Result<()> {
     let s = Span::new(start, end);
     match lexer_place::check_span(doc, s) {
-        SpanCheck::Whole => say(b"whole\n"),
-        SpanCheck::Refused(r) => refused(r),
+        SpanCheck::Whole => say(console, b"whole\n")?,
+        SpanCheck::Refused(r) => refused(console, r)?,
     }
     let text = lexer_place::text_of(doc, s);
-    say(text);
-    say(b"|\n");
+    say(console, text)?;
+    say(console, b"|\n")
 }
 
-fn position(doc: &[u8], offset: usize) {
+fn position(console: &impl Console, doc: &[u8], offset: usize) -> io::Result<()> {
     match lexer_place::position_of(doc, offset) {
         Position::At { line, column } => {
-            number(line, b" ");
-            number(column, b"\n");
+            number(console, line, b" ")?;
+            number(console, column, b"\n")
         }
-        Position::Refused(r) => refused(r),
+        Position::Refused(r) => refused(console, r),
     }
 }
 
-fn answered(a: Answer) {
+fn answered(console: &impl Console, a: Answer) -> io::Result<()> {
     match a {
-        Answer::Found => say(b"given\n"),
-        Answer::Refused(r) => refused(r),
+        Answer::Found => say(console, b"given\n"),
+        Answer::Refused(r) => refused(console, r),
     }
 }
 
-fn kind(n: usize) {
+fn kind(console: &impl Console, n: usize) -> io::Result<()> {
     let d = TokenKind::description(n);
     let a = d.answer;
     let bytes = d.bytes;
-    answered(a);
-    number(d.len, b" ");
-    say(&bytes);
-    say(b"\n");
+    answered(console, a)?;
+    number(console, d.len, b" ")?;
+    say(console, &bytes)?;
+    say(console, b"\n")?;
     let e = TokenKind::encoding(n);
     let b = e.answer;
-    answered(b);
-    number(e.number, b"\n");
+    answered(console, b)?;
+    number(console, e.number, b"\n")
 }
 
-fn main() {
-    lexed_whole();
-    lexed_by_steps();
-    placed();
-    kind(1);
-    kind(3);
-    kind(5);
+fn main(rt: HostRuntime) -> io::Result<()> {
+    lexed_whole(&rt)?;
+    lexed_by_steps(&rt)?;
+    placed(&rt)?;
+    kind(&rt, 1)?;
+    kind(&rt, 3)?;
+    kind(&rt, 5)
 }
 
-fn lexed_whole() {
-    tokens(b"");
-    tokens(b"\xEF\xBB\xBF");
-    tokens(b"'''a'''''");
-    tokens(b"'''a''''''");
-    tokens(b"'a\r\n");
-    tokens(b"#x\ry");
-    tokens(b"a\"b c");
-    tokens(b"'''\n\r\n\r'''\n");
-    tokens(b"\"\"\"\n");
-    tokens(b"a\xFF");
-    tokens_in_two(b"a=");
-    tokens_in_two(b"a");
+fn lexed_whole(console: &impl Console) -> io::Result<()> {
+    tokens(console, b"")?;
+    tokens(console, b"\xEF\xBB\xBF")?;
+    tokens(console, b"'''a'''''")?;
+    tokens(console, b"'''a''''''")?;
+    tokens(console, b"'a\r\n")?;
+    tokens(console, b"#x\ry")?;
+    tokens(console, b"a\"b c")?;
+    tokens(console, b"'''\n\r\n\r'''\n")?;
+    tokens(console, b"\"\"\"\n")?;
+    tokens(console, b"a\xFF")?;
+    tokens_in_two(console, b"a=")?;
+    tokens_in_two(console, b"a")
 }
 
-fn lexed_by_steps() {
-    start(b"\xEF\xBB\xBFa");
-    start(b"a");
-    step(b"\xEF\xBB\xBFa", 0, 1, false);
-    step(b"a=", 1, 1, true);
-    step(b"a", 1, 1, false);
-    step(b"a", 1, 1, true);
-    step(b"a", 2, 1, false);
-    step(b"a\n", 1, 0, false);
-    step(b"a\r", 1, 2, false);
-    step(b"a\r\n", 1, 1, false);
-    step(b"a\n", 1, 3, false);
+fn lexed_by_steps(console: &impl Console) -> io::Result<()> {
+    start(console, b"\xEF\xBB\xBFa")?;
+    start(console, b"a")?;
+    step(console, b"\xEF\xBB\xBFa", 0, 1, false)?;
+    step(console, b"a=", 1, 1, true)?;
+    step(console, b"a", 1, 1, false)?;
+    step(console, b"a", 1, 1, true)?;
+    step(console, b"a", 2, 1, false)?;
+    step(console, b"a\n", 1, 0, false)?;
+    step(console, b"a\r", 1, 2, false)?;
+    step(console, b"a\r\n", 1, 1, false)?;
+    step(console, b"a\n", 1, 3, false)
 }
 
-fn placed() {
-    span(b"\xC3\xA9=1", 0, 2);
-    span(b"\xC3\xA9=1", 2, 4);
-    span(b"\xC3\xA9=1", 1, 2);
-    span(b"\xC3\xA9=1", 0, 1);
-    span(b"\xC3\xA9=1", 3, 2);
-    span(b"\xC3\xA9=1", 0, 5);
-    position(b"\xC3\xA9=1", 1);
-    position(b"\xC3\xA9=1", 2);
-    position(b"\xEF\xBB\xBFa", 0);
-    position(b"\xEF\xBB\xBFa", 2);
-    position(b"\xEF\xBB\xBFa", 3);
-    position(b"\xEF\xBB\xBFa", 4);
-    position(b"\n\xEF\xBB\xBFa", 4);
-    position(b"\xFF\x80\x80a", 3);
-    position(b"a\nb", 3);
-    position(b"a\nb", 4);
+fn placed(console: &impl Console) -> io::Result<()> {
+    span(console, b"\xC3\xA9=1", 0, 2)?;
+    span(console, b"\xC3\xA9=1", 2, 4)?;
+    span(console, b"\xC3\xA9=1", 1, 2)?;
+    span(console, b"\xC3\xA9=1", 0, 1)?;
+    span(console, b"\xC3\xA9=1", 3, 2)?;
+    span(console, b"\xC3\xA9=1", 0, 5)?;
+    position(console, b"\xC3\xA9=1", 1)?;
+    position(console, b"\xC3\xA9=1", 2)?;
+    position(console, b"\xEF\xBB\xBFa", 0)?;
+    position(console, b"\xEF\xBB\xBFa", 2)?;
+    position(console, b"\xEF\xBB\xBFa", 3)?;
+    position(console, b"\xEF\xBB\xBFa", 4)?;
+    position(console, b"\n\xEF\xBB\xBFa", 4)?;
+    position(console, b"\xFF\x80\x80a", 3)?;
+    position(console, b"a\nb", 3)?;
+    position(console, b"a\nb", 4)
 }

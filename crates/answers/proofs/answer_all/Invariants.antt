@@ -5,8 +5,8 @@ use borrow.Author.Rules.{rules}
 use Rattle.answers.proofs.answer_all.Given as goal
 
 abbrev pub invariant-loop-turns : goal.invariant-loop-turns
-invariant-loop-turns l =
+invariant-loop-turns g l =
     Same l.input l.initial.input × Same l.line l.initial.line × Same l.bytes l.initial.bytes × Same l.errors l.initial.errors × Same l.tokens l.initial.tokens
 
 abbrev pub decreases-loop-turns : goal.decreases-loop-turns
-decreases-loop-turns l = l.turns
+decreases-loop-turns g l = l.turns

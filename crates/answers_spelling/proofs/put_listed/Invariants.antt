@@ -5,7 +5,7 @@ use borrow.Author.Rules.{rules}
 use Rattle.answers_spelling.proofs.put_listed.Given as goal
 
 abbrev pub invariant-loop-i : goal.invariant-loop-i
-invariant-loop-i l = (l.i ≤ length l.tokens) × (length l.out ≡ length l.initial.out)
+invariant-loop-i g l = (l.i ≤ length l.tokens) × (length l.out ≡ length l.initial.out)
 
 abbrev pub decreases-loop-i : goal.decreases-loop-i
-decreases-loop-i l = length l.tokens - l.i
+decreases-loop-i g l = length l.tokens - l.i

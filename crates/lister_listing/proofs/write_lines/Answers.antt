@@ -5,4 +5,4 @@ use native.Mathlib.Omega.{arith}
 use Rattle.lister_listing.proofs.write_lines.Goals as goal
 
 pub slice_bounds-write_all-end : goal.slice_bounds-write_all-end
-slice_bounds-write_all-end c = simp length-take (omega arith)
+slice_bounds-write_all-end g c = simp length-take (omega arith)

@@ -3,7 +3,7 @@ use Rattle.core.specs.Prelude.{◌-◌}
 use Rattle.test_boundaries.proofs.lone.Given as goal
 
 abbrev pub invariant-loop-b : goal.invariant-loop-b
-invariant-loop-b l = Unit
+invariant-loop-b g l = Unit
 
 abbrev pub decreases-loop-b : goal.decreases-loop-b
-decreases-loop-b l = l.e - l.b
+decreases-loop-b g l = l.e - l.b

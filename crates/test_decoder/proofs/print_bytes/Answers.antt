@@ -6,4 +6,4 @@ use lib.ListN.{length}
 use Rattle.test_decoder.proofs.print_bytes.Goals as goal
 
 pub hex_digit-requires : goal.hex_digit-requires
-hex_digit-requires c = omega (arith, c.shared_slice_known-1.given c.loop-i.i)
+hex_digit-requires g c = omega (arith, c.shared_slice_known-1.given c.loop-i.i)

@@ -5,7 +5,7 @@ use lib.ListN.{length}
 use Rattle.test_decoder.proofs.print_bytes.Given as goal
 
 abbrev pub invariant-loop-i : goal.invariant-loop-i
-invariant-loop-i l = l.i ≤ length l.output
+invariant-loop-i g l = l.i ≤ length l.output
 
 abbrev pub decreases-loop-i : goal.decreases-loop-i
-decreases-loop-i l = length l.output - l.i
+decreases-loop-i g l = length l.output - l.i

@@ -10,7 +10,7 @@ use borrow.Author.Rules.{rules}
 use Rattle.test_structs.proofs.tokens.Goals as goal
 
 pub lines-requires : goal.lines-requires
-lines-requires c =
+lines-requires g c =
     let lexed = ap (λ (r : LexedEight). r.answer) c.lex_eight-all.ensures in
     let is = sym lexed ∙ c.in-Tokens.is in
     subst (λ (r : Lexed). writes_of r ≤ 8) is (writes_fit _ eight_blank)

@@ -2,7 +2,7 @@ use Rattle.std.proofs.Common.{◌≡◌, length, rules}
 use Rattle.figures_report.proofs.names.next_name.Given as goal
 
 abbrev pub invariant-loop-turns : goal.invariant-loop-turns
-invariant-loop-turns l = (length l.input ≡ length l.initial.input) × (length l.name ≡ length l.initial.name)
+invariant-loop-turns g l = (length l.input ≡ length l.initial.input) × (length l.name ≡ length l.initial.name)
 
 abbrev pub decreases-loop-turns : goal.decreases-loop-turns
-decreases-loop-turns l = l.turns
+decreases-loop-turns g l = l.turns
