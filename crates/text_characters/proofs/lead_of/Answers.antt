@@ -23,15 +23,3 @@ returns-in-240 c = ones_key c.args.a 0xF0 0x90 0xBF refl c.in-240.is
 pub returns-in-244 : goal.returns-in-244
 unfolding lead_of count_leading_zeros
 returns-in-244 c = ones_key c.args.a 0xF4 0x80 0x8F refl c.in-244.is
-
-pub returns-in-192-to-193 : goal.returns-in-192-to-193
-unfolding lead_of
-returns-in-192-to-193 c =
-    let a = c.args.a in
-    row_is (row 0 0 0) 0x80 66 tt a (omega arith) (omega arith)
-
-pub returns-in-192-to-193-2 : goal.returns-in-192-to-193-2
-unfolding lead_of
-returns-in-192-to-193-2 c =
-    let a = c.args.a in
-    row_is (row 0 0 0) 0xF5 11 tt a (omega arith) (omega arith)
