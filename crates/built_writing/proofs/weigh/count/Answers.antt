@@ -19,7 +19,7 @@ overflow_add-n c =
     let s = c.args.s.now in
     let l = c.loop-i in
     let next : Counting s (l.i + 32) (l.n + (32 + c.extra_in.result)) =
-        counting_weighed _ (omega arith) c.extra_in.ensures l.invariant in
+    counting_weighed _ (omega arith) c.extra_in.ensures l.invariant in
     omega (arith, next.left, spelt_six s)
 
 pub overflow_add-n-in-loop-i : goal.overflow_add-n-in-loop-i
@@ -27,7 +27,7 @@ overflow_add-n-in-loop-i c =
     let s = c.args.s.now in
     let l = c.loop-i in
     let next : Counting s (l.i + 32) (l.n + (32 + c.extra_in.result)) =
-        counting_weighed _ (omega arith) c.extra_in.ensures l.invariant in
+    counting_weighed _ (omega arith) c.extra_in.ensures l.invariant in
     omega (arith, next.left, spelt_six s)
 
 pub loop-i-preserved : goal.loop-i-preserved
