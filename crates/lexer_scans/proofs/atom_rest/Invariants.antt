@@ -1,12 +1,8 @@
 use Prim.Native.Nat.{◌+◌, ◌-◌}
-use mathlib.Core.Path.{◌≡◌, refl, sym, ap, ◌∙◌}
-use mathlib.Core.Bool.{not}
+use mathlib.Core.Path.{◌≡◌}
 use lib.ListN.{length, drop}
 use Rattle.text_classes.specs.Runs.{run}
-use Rattle.text_classes.proofs.RunLaws.{run_step, run_stop, run_end}
 use Rattle.lexer_scans.specs.Extents.{in_atom}
-use borrow.Author.Rules.{rules}
-use native.Mathlib.Omega.{arith}
 use Rattle.lexer_scans.proofs.atom_rest.Given as goal
 
 abbrev pub invariant-loop-i : goal.invariant-loop-i

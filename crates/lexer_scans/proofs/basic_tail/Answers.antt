@@ -3,7 +3,6 @@
 use mathlib.Core.Path.{sym, ◌∙◌}
 use mathlib.Core.Bool.{false}
 use native.Mathlib.Omega.{arith}
-use Rattle.text_classes.proofs.FirstLaws.{stands_there}
 use Rattle.lexer_scans.proofs.TailLaws.{basic_found, basic_halts, line_closed, line_end}
 use Rattle.lexer_scans.proofs.basic_tail.Goals as goal
 

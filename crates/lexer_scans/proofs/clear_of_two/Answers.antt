@@ -1,9 +1,7 @@
 -- `clear_of_two` is right because the least of the places told is that of the first byte that is sought.
-use Prim.Native.Nat.{◌-◌, ◌≤◌}
-use borrow.Author.Rules.{rules}
 use native.Mathlib.Omega.{arith}
 use Rattle.lexer_scans.specs.Scans.{but_two}
-use Rattle.lexer_scans.proofs.BlockLaws.{ClearTo, clear_start, clear_step, clear_all}
+use Rattle.lexer_scans.proofs.BlockLaws.{clear_step}
 use Rattle.lexer_scans.proofs.clear_of_two.Goals as goal
 
 pub loop-k-preserved : goal.loop-k-preserved

@@ -1,8 +1,6 @@
 use Prim.Native.Nat.{◌-◌, ◌≤◌}
-use borrow.Author.Rules.{rules}
-use native.Mathlib.Omega.{arith}
 use Rattle.lexer_scans.specs.Scans.{but_two}
-use Rattle.lexer_scans.proofs.BlockLaws.{ClearTo, clear_start, clear_step, clear_all}
+use Rattle.lexer_scans.proofs.BlockLaws.{ClearTo}
 use Rattle.lexer_scans.proofs.clear_of_two.Given as goal
 
 abbrev pub invariant-loop-k : goal.invariant-loop-k

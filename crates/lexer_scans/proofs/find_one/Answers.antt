@@ -1,13 +1,11 @@
 -- `find_one` is right because neither a block nor a byte that is not sought moves the end of the search.
-use Prim.Native.Nat.{◌-◌}
-use mathlib.Core.Path.{◌≡◌, refl, ap}
+use mathlib.Core.Path.{ap}
 use mathlib.Core.Bool.{not}
-use lib.ListN.{length}
 use native.Mathlib.Omega.{arith}
 use borrow.Author.Tests.{eq-eqb, ne_eqb}
 use Rattle.text_classes.proofs.RunLaws.{run_step, run_stop, run_end}
 use Rattle.lexer_scans.specs.Scans.{but_one}
-use Rattle.lexer_scans.proofs.BlockLaws.{GoesOn, goes_on_as, clear_found, clear_over}
+use Rattle.lexer_scans.proofs.BlockLaws.{clear_found}
 use Rattle.lexer_scans.proofs.find_one.Goals as goal
 use Rattle.lexer_scans.proofs.find_one.Goals.{then-doc-ge64+else-loop-i-test, else-doc-ge64}
 

@@ -1,12 +1,7 @@
 use Prim.Native.Nat.{◌-◌}
-use mathlib.Core.Path.{◌≡◌, refl, ap}
-use mathlib.Core.Bool.{not}
 use lib.ListN.{length}
-use native.Mathlib.Omega.{arith}
-use borrow.Author.Tests.{eq-eqb, ne_eqb}
-use Rattle.text_classes.proofs.RunLaws.{run_step, run_stop, run_end}
 use Rattle.lexer_scans.specs.Scans.{but_one}
-use Rattle.lexer_scans.proofs.BlockLaws.{GoesOn, goes_on_as, clear_found, clear_over}
+use Rattle.lexer_scans.proofs.BlockLaws.{GoesOn}
 use Rattle.lexer_scans.proofs.find_one.Given as goal
 
 abbrev pub invariant-loop-i : goal.invariant-loop-i

@@ -1,13 +1,10 @@
 -- `find_three` is right because neither a block nor a byte that is not sought moves the end of the search.
-use Prim.Native.Nat.{◌-◌}
-use mathlib.Core.Path.{◌≡◌, refl, sym, ap, ◌∙◌}
+use mathlib.Core.Path.{sym, ap, ◌∙◌}
 use mathlib.Core.Bool.{not}
-use lib.ListN.{length}
 use native.Mathlib.Omega.{arith}
-use borrow.Author.Rules.{rules}
 use Rattle.text_classes.proofs.RunLaws.{run_step, run_stop, run_end}
 use Rattle.lexer_scans.specs.Scans.{but_three}
-use Rattle.lexer_scans.proofs.BlockLaws.{GoesOn, goes_on_as, clear_found, clear_over}
+use Rattle.lexer_scans.proofs.BlockLaws.{clear_found}
 use Rattle.lexer_scans.proofs.find_three.Goals as goal
 use Rattle.lexer_scans.proofs.find_three.Goals.{then-doc-ge32+else-loop-i-test, else-doc-ge32}
 

@@ -40,7 +40,7 @@ pub returns-then-not-is_at : goal.returns-then-not-is_at
 returns-then-not-is_at c =
     let at = c.loop-i in
     let over = passed c.args.doc.now c.args.start at.i c.near-i.result
-        at.invariant.3 (omega arith) at.invariant.2 c.if-doc-i-eq10.false c.near-i.ensures.1 in
+    at.invariant.3 (omega arith) at.invariant.2 c.if-doc-i-eq10.false c.near-i.ensures.1 in
     omega arith
 
 pub loop-i-preserved : goal.loop-i-preserved
@@ -48,7 +48,7 @@ loop-i-preserved c =
     let doc = c.args.doc.now in
     let at = c.loop-i in
     let over = passed doc c.args.start at.i c.near-i.result
-        at.invariant.3 (omega arith) at.invariant.2 c.if-doc-i-eq10.false c.near-i.ensures.1 in
+    at.invariant.3 (omega arith) at.invariant.2 c.if-doc-i-eq10.false c.near-i.ensures.1 in
     let there = stands_there 92 doc c.near-i.result (sym c.is_at.ensures ∙ c.if-not-is_at.false) in
     (omega arith, there.0, there.1, over)
 

@@ -1,9 +1,6 @@
 -- `described_by` is right because after i turns the run is a copy of the text's first i bytes over 25 zeros.
-use Prim.Native.Nat.{◌-◌, ◌≤◌}
-use mathlib.Core.Path.{◌≡◌, refl}
 use native.Mathlib.Omega.{arith}
-use lib.ListN.{length, replicate}
-use lib.Seq.{paste}
+use lib.ListN.{replicate}
 use Rattle.lexer_token.proofs.CopyLaws.{copy_turn, copy_end}
 use Rattle.lexer_token.proofs.described_by.Goals as goal
 

@@ -1,9 +1,7 @@
 use Prim.Native.Nat.{◌-◌, ◌≤◌}
-use mathlib.Core.Path.{◌≡◌, refl}
-use native.Mathlib.Omega.{arith}
+use mathlib.Core.Path.{◌≡◌}
 use lib.ListN.{length, replicate}
 use lib.Seq.{paste}
-use Rattle.lexer_token.proofs.CopyLaws.{copy_turn, copy_end}
 use Rattle.lexer_token.proofs.described_by.Given as goal
 
 abbrev pub invariant-loop-i : goal.invariant-loop-i

@@ -1,6 +1,5 @@
 -- `class_of` is right because each entry of its table is the class of its byte.
 use native.Mathlib.Omega.{arith}
-use borrow.Author.Rules.{rules}
 use Rattle.table_classes.specs.Masks.{table}
 use Rattle.table_classes.proofs.TableLaws.{entry_is}
 use Rattle.table_classes.proofs.class_of.Goals as goal

@@ -1,6 +1,5 @@
 -- `is_in` is right because the mask of a set has a byte's class exactly where the set has the byte.
 use native.Mathlib.Omega.{arith}
-use borrow.Author.Rules.{rules}
 use Rattle.table_classes.proofs.TableLaws.{class_low, has_is}
 use Rattle.table_classes.proofs.is_in.Goals as goal
 

@@ -1,6 +1,5 @@
 -- `is_sign` is right because the class of a single byte is that of no other.
 use native.Mathlib.Omega.{arith}
-use borrow.Author.Rules.{rules}
 use Rattle.table_classes.proofs.TableLaws.{is_alone}
 use Rattle.table_classes.proofs.is_sign.Goals as goal
 

@@ -1,11 +1,8 @@
 -- `lead_of` is right because the leading ones of a byte tell its row of the table, which is computed over all bytes.
-use Prim.Native.Nat.{◌-◌}
 use mathlib.Core.Path.{refl}
-use native.Mathlib.Omega.{arith}
-use lib.Count.{count_leading_zeros, leading_le}
-use Rattle.text_characters.specs.Lead.{row, lead_of}
-use Rattle.text_characters.proofs.LeadLaws.{row_is}
-use Rattle.text_characters.proofs.OnesLaws.{ones_key, ones_none, ones_few, ones_many, ones_rest}
+use lib.Count.{count_leading_zeros}
+use Rattle.text_characters.specs.Lead.{lead_of}
+use Rattle.text_characters.proofs.OnesLaws.{ones_key}
 use Rattle.text_characters.proofs.lead_of.Goals as goal
 
 pub returns-in-224 : goal.returns-in-224

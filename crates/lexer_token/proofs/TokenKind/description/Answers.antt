@@ -1,6 +1,5 @@
 -- `description` is right because the number is read by the definition, and what is read decides the answer.
 use mathlib.Core.Path.{sym, ap, ◌∙◌}
-use borrow.Author.Rules.{rules}
 use Rattle.lexer_token.specs.Descriptions.{description_by, description_of}
 use Rattle.lexer_token.proofs.NumberLaws.{described_numbers}
 use Rattle.lexer_token.proofs.TokenKind.description.Goals as goal

@@ -1,6 +1,5 @@
 -- `encoding` is right because the number is read by the definition, and what is read decides the answer.
 use mathlib.Core.Path.{sym, ap, ◌∙◌}
-use borrow.Author.Rules.{rules}
 use Rattle.lexer_token.specs.Encodings.{encoding_by, encoding_of}
 use Rattle.lexer_token.proofs.NumberLaws.{encoded_numbers}
 use Rattle.lexer_token.proofs.TokenKind.encoding.Goals as goal
