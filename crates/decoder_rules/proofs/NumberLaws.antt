@@ -96,7 +96,7 @@ module _ (t : List ℕ) (o e : ℕ) where
 -- ---- the seven promises of `decode_in`, from the answer and what the lent memory holds
 
 module _ (t : List ℕ) (edition kind o e : ℕ) (r : Decoded) (is : r ≡ decode_in t edition kind o e) where
-  decoded_numbers : (decoded_number r ≡ decode_refusal t edition kind o e) × ((decoded_value r ≡ decode_returned t edition kind o e)
+  pub decoded_numbers : (decoded_number r ≡ decode_refusal t edition kind o e) × ((decoded_value r ≡ decode_returned t edition kind o e)
       × ((decoded_errors r ≡ decode_noted t edition kind o e) × (decoded_length r ≡ check_fault t)))
   unfolding decode_in check_of
   decoded_numbers =

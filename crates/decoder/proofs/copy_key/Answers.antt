@@ -23,4 +23,4 @@ returns c =
     let named = c.is_edition.ensures (not-false _ c.if-not-is_edition.false-raw) in
     let plain = c.plain_run.ensures in
     let copy = c.copy_all.ensures in
-    key_copied a.edition named a.text.now a.output.now _ _ (omega arith) (omega (arith, plain)) copy.0 copy.1
+    key_copied a.edition named a.text.now a.output.now _ _ (omega arith) (omega (arith, plain)) copy.answer copy.output

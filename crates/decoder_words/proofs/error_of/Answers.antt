@@ -6,63 +6,63 @@ use Rattle.decoder_words.proofs.error_of.Goals as goal
 
 pub returns-in-1 : goal.returns-in-1
 unfolding error_of_number
-returns-in-1 c = rw c.in-1.is (refl, (refl, refl))
+returns-in-1 c = rw c.in-1.is (record { answer = refl; number = refl; value = refl })
 
 pub returns-in-2 : goal.returns-in-2
 unfolding error_of_number
-returns-in-2 c = rw c.in-2.is (refl, (refl, refl))
+returns-in-2 c = rw c.in-2.is (record { answer = refl; number = refl; value = refl })
 
 pub returns-in-3 : goal.returns-in-3
 unfolding error_of_number
-returns-in-3 c = rw c.in-3.is (refl, (refl, refl))
+returns-in-3 c = rw c.in-3.is (record { answer = refl; number = refl; value = refl })
 
 pub returns-in-4 : goal.returns-in-4
 unfolding error_of_number
-returns-in-4 c = rw c.in-4.is (refl, (refl, refl))
+returns-in-4 c = rw c.in-4.is (record { answer = refl; number = refl; value = refl })
 
 pub returns-in-5 : goal.returns-in-5
 unfolding error_of_number
-returns-in-5 c = rw c.in-5.is (refl, (refl, refl))
+returns-in-5 c = rw c.in-5.is (record { answer = refl; number = refl; value = refl })
 
 pub returns-in-6 : goal.returns-in-6
 unfolding error_of_number
-returns-in-6 c = rw c.in-6.is (refl, (refl, refl))
+returns-in-6 c = rw c.in-6.is (record { answer = refl; number = refl; value = refl })
 
 pub returns-in-7 : goal.returns-in-7
 unfolding error_of_number
-returns-in-7 c = rw c.in-7.is (refl, (refl, refl))
+returns-in-7 c = rw c.in-7.is (record { answer = refl; number = refl; value = refl })
 
 pub returns-in-8 : goal.returns-in-8
 unfolding error_of_number
-returns-in-8 c = rw c.in-8.is (refl, (refl, refl))
+returns-in-8 c = rw c.in-8.is (record { answer = refl; number = refl; value = refl })
 
 pub returns-in-9 : goal.returns-in-9
 unfolding error_of_number
-returns-in-9 c = rw c.in-9.is (refl, (refl, refl))
+returns-in-9 c = rw c.in-9.is (record { answer = refl; number = refl; value = refl })
 
 pub returns-in-10 : goal.returns-in-10
 unfolding error_of_number
-returns-in-10 c = rw c.in-10.is (refl, (refl, refl))
+returns-in-10 c = rw c.in-10.is (record { answer = refl; number = refl; value = refl })
 
 pub returns-in-11 : goal.returns-in-11
 unfolding error_of_number
-returns-in-11 c = rw c.in-11.is (refl, (refl, refl))
+returns-in-11 c = rw c.in-11.is (record { answer = refl; number = refl; value = refl })
 
 pub returns-in-12 : goal.returns-in-12
 unfolding error_of_number
-returns-in-12 c = rw c.in-12.is (refl, (refl, refl))
+returns-in-12 c = rw c.in-12.is (record { answer = refl; number = refl; value = refl })
 
 pub returns-in-13 : goal.returns-in-13
 unfolding error_of_number
-returns-in-13 c = rw c.in-13.is (refl, (refl, refl))
+returns-in-13 c = rw c.in-13.is (record { answer = refl; number = refl; value = refl })
 
 pub returns-in-14 : goal.returns-in-14
 unfolding error_of_number
-returns-in-14 c = rw c.in-14.is (refl, (refl, refl))
+returns-in-14 c = rw c.in-14.is (record { answer = refl; number = refl; value = refl })
 
 pub returns-in-15 : goal.returns-in-15
 unfolding error_of_number
-returns-in-15 c = rw c.in-15.is (refl, (refl, refl))
+returns-in-15 c = rw c.in-15.is (record { answer = refl; number = refl; value = refl })
 
 pub returns-in_default : goal.returns-in_default
 unfolding error_of_number
@@ -84,4 +84,4 @@ returns-in_default c =
       ne_eqb _ 13 rest.0.0.1,
       ne_eqb _ 14 rest.0.1,
       ne_eqb _ 15 rest.1,
-    ) (refl, (refl, refl))
+    ) (record { answer = refl; number = refl; value = refl })
