@@ -12,10 +12,7 @@ returns-then-doc-i c = λ h. absurd (omega arith)
 pub returns-then-doc-i-ne-ESCAPE : goal.returns-then-doc-i-ne-ESCAPE
 returns-then-doc-i-ne-ESCAPE c = λ h. absurd (omega arith)
 
-pub returns-then-letter_char-eq0 : goal.returns-then-letter_char-eq0
-returns-then-letter_char-eq0 c = λ h. absurd (omega arith)
-
 pub returns : goal.returns
 returns c = λ h.
     let a = c.args in
-    sound_letter a.doc.now a.i (omega arith) (omega (arith, c.if-doc-i-ne-ESCAPE)) (omega (arith, c.letter_char.ensures, c.if-letter_char-eq0.false))
+    sound_letter a.doc.now a.i (omega arith) (omega arith) (omega (arith, c.letter_char.ensures))
