@@ -1,7 +1,7 @@
 -- What the call answers: refused by the check or for its edition, for a text or records that do not fit, or written.
 -- Assumes nothing.
 use Prim.Native.Nat.{ℕ, ◌≤◌, ◌<◌}
-use mathlib.Core.Path.{◌≡◌, refl, sym, ◌∙◌}
+use mathlib.Core.Path.{◌≡◌, refl}
 use mathlib.Core.Bool.{true, false}
 use mathlib.Core.List.{List}
 use native.Mathlib.Omega.{arith}
@@ -13,8 +13,7 @@ use Rattle.text_refusals.specs.declared.Refusal.TheVariants.{TooLong, ShortOutpu
 use Rattle.text.specs.CheckMeans.{check_of}
 use Rattle.text.specs.declared.utf8.Utf8Check.TheVariants.{Valid, Refused as NotValid}
 use Rattle.decoder_rules.specs.Encodings.{is_edition}
-use Rattle.decoder_rules.proofs.StoreLaws.{Stored, front_long, overwritten}
-use Rattle.built_mending.specs.declared.Mended.{Mended}
+use Rattle.decoder_rules.proofs.StoreLaws.{Stored, overwritten}
 use Rattle.built_mending.specs.declared.Mended.TheVariants.{Written, Refused}
 use Rattle.built_mending.specs.Mending.{mended, listed, fit_both, mend_in}
 use Rattle.built_mending.specs.Passes.{WroteBoth}

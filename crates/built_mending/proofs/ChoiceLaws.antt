@@ -1,21 +1,21 @@
 -- Which encoding a token of each kind is decoded by, and that the token's text has its opening mark.
 -- Assumes nothing.
-use Prim.Native.Nat.{ℕ, suc, ◌+◌, ◌≤◌, ◌<◌}
-use mathlib.Core.Path.{◌≡◌, refl, sym, ◌∙◌, ap, subst}
+use Prim.Native.Nat.{ℕ, suc, ◌≤◌, ◌<◌}
+use mathlib.Core.Path.{◌≡◌, refl, sym, ◌∙◌, ap}
 use mathlib.Core.Bool.{Bool, true, false}
 use mathlib.Core.List.{List, [], ◌∷◌}
 use native.Mathlib.Omega.{arith}
 use borrow.Author.Tests.{eq-eqb, lt-ltb}
 use lib.Dec.{eqb}
 use lib.ListN.{length, take, drop}
-use Rattle.text_classes.specs.Runs.{stands, triple}
+use Rattle.text_classes.specs.Runs.{triple}
 use Rattle.text_classes.proofs.Conds.{cond_case}
 use Rattle.text_classes.proofs.FirstLaws.{first_take}
 use Rattle.text_refusals.specs.declared.Refusal.{Refusal}
 use Rattle.text_refusals.specs.declared.Refusal.TheVariants.{NoKind}
 use Rattle.lexer_token.specs.declared.TokenKind.{TokenKind}
 use Rattle.lexer_token.specs.declared.TokenKind.TheVariants.{Dot, Equals, Comma, LeftSquareBracket, RightSquareBracket, LeftCurlyBracket, RightCurlyBracket, Whitespace, Comment, Newline, LiteralString, BasicString, MlLiteralString, MlBasicString, Atom, Eof}
-use Rattle.lexer_token.specs.KindNumbers.{kind_number, kind_of_number}
+use Rattle.lexer_token.specs.KindNumbers.{kind_number}
 use Rattle.lexer_token.specs.Encodings.{kind_encoding, encoding_by, encoding_of}
 use Rattle.lexer_token.proofs.KindLaws.{kind_back}
 use Rattle.lexer_scans.specs.Extents.{ml_tail}

@@ -4,13 +4,12 @@
 use Prim.Native.Nat.{ℕ, ◌+◌, ◌-◌, ◌≤◌, ◌<◌}
 use mathlib.Core.Path.{◌≡◌, refl, sym, ◌∙◌, ap}
 use mathlib.Core.Bool.{Bool, true, false}
-use mathlib.Core.List.{List, [], ◌∷◌, ◌++◌, map, append_assoc, append-nil}
+use mathlib.Core.List.{List, ◌++◌, map, append_assoc, append-nil}
 use native.Mathlib.Nat.{sub-zero, zero-add}
 use native.Mathlib.Omega.{arith}
 use lib.Dec.{eqb}
-use lib.ListN.{length, take, drop, get_or, length-append, length-map}
+use lib.ListN.{length, take, get_or, length-append, length-map}
 use lib.Seq.{sets, length-take-le}
-use Rattle.lexer.specs.Table.{token_len}
 use Rattle.lexer.specs.Tokens.{start_of, tokens_of}
 use Rattle.lexer.proofs.TokenLaws.{token_fits_at, token_long_at, line_fits_at, start_fits}
 use Rattle.decoder_rules.specs.declared.Encoding.{Encoding}
@@ -19,7 +18,7 @@ use Rattle.decoder_rules.proofs.StoreLaws.{Stored, sets_append}
 use Rattle.lexer_token.specs.declared.Token.{Token}
 use Rattle.built_mending.specs.declared.Reading.{Reading}
 use Rattle.built_mending.specs.declared.Reading.TheVariants.{Broken, Whole}
-use Rattle.built_mending.specs.Mending.{replacement, Part, part_of, reported, gap, becomes, ends_quoted, mend, mended, record_at, list, listed}
+use Rattle.built_mending.specs.Mending.{replacement, Part, part_of, gap, mend, mended, record_at, list, listed}
 use Rattle.built_mending.specs.Passes.{Finds, between, tokens_at, parts_at}
 use Rattle.built_mending.proofs.TokenLaws.{token_here, found_here, part_here, end_here, line_there, part_long, part_ends, part_join, part_none, ends_replaced, mend_step, list_step, mend_end, list_end, broken_reports, broken_becomes, whole_reports, whole_becomes}
 

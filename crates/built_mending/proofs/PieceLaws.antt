@@ -2,13 +2,12 @@
 -- Assumes nothing.
 use Prim.Native.Nat.{ℕ, suc, ◌+◌, ◌*◌, ◌≤◌, ◌<◌}
 use mathlib.Core.Path.{◌≡◌, refl, sym, ◌∙◌, ap}
-use mathlib.Core.Bool.{Bool, true, false}
+use mathlib.Core.Bool.{true, false}
 use mathlib.Core.List.{List, [], ◌∷◌, ◌++◌, map, map-append}
 use native.Mathlib.Numerals.{add-one}
 use native.Mathlib.Omega.{arith}
 use lib.ListN.{length, take, set, length-append, length-map, length-take}
 use lib.Seq.{sets}
-use Rattle.text_scalars.specs.Utf8.{encode_scalar}
 use Rattle.decoder_rules.specs.declared.Encoding.{Encoding}
 use Rattle.decoder_rules.specs.declared.Piece.{Piece}
 use Rattle.decoder_rules.specs.declared.Given.{Given}
@@ -22,7 +21,7 @@ use Rattle.decoder_pieces.specs.declared.body.Body.{Body}
 use Rattle.decoder_pieces.specs.declared.body.BodyStep.TheVariants.{Piece as Taken}
 use Rattle.decoder_pieces.specs.Steps.{body_bytes, body_step, bytes_left, errors_left}
 use Rattle.decoder_pieces.proofs.StepLaws.{step_turn, at_piece}
-use Rattle.built_mending.specs.Mending.{respelt, is_broken, record_at}
+use Rattle.built_mending.specs.Mending.{respelt, is_broken}
 use Rattle.built_mending.proofs.SpellLaws.{respelt_none, respelt_append, respelt_six, char_six}
 
 -- ---- whether there is an error

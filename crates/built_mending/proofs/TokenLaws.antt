@@ -1,26 +1,23 @@
 -- A step to the next token; what the tokens from a place on become and report, token by token; and the two loops over them.
 -- Assumes nothing.
-use Prim.Native.Nat.{ℕ, suc, ◌+◌, ◌-◌, ◌*◌, ◌≤◌, ◌<◌}
-use mathlib.Core.Path.{◌≡◌, refl, sym, ◌∙◌, ap, subst}
+use Prim.Native.Nat.{ℕ, suc, ◌+◌, ◌-◌, ◌≤◌, ◌<◌}
+use mathlib.Core.Path.{◌≡◌, refl, ◌∙◌, ap, subst}
 use mathlib.Core.Bool.{Bool, true, false}
-use mathlib.Core.List.{List, [], ◌∷◌, ◌++◌, map, append_assoc, append-nil}
-use native.Mathlib.Nat.{zero-add}
+use mathlib.Core.List.{List, [], ◌∷◌, ◌++◌, map}
 use native.Mathlib.Omega.{arith}
 use borrow.Author.Tests.{le-ltb, ne_eqb}
 use lib.Dec.{eqb}
-use lib.ListN.{length, take, drop, get_or, length-append, length-take, length-drop, length-map}
-use lib.Seq.{sets, take-add, drop-drop, take_all, get_or-take, get_or-drop, length-take-le}
+use lib.ListN.{length, drop, get_or, length-drop}
+use lib.Seq.{take-add, drop-drop, get_or-take, get_or-drop, length-take-le}
 use Rattle.text_refusals.specs.Refusals.{limit}
 use Rattle.text_refusals.specs.declared.Refusal.{Refusal}
 use Rattle.lexer_token.specs.declared.Token.{Token}
-use Rattle.lexer_token.specs.Records.{text_of}
 use Rattle.lexer.specs.Table.{token_len}
-use Rattle.lexer.specs.Tokens.{token_at, eof_at, line_after, tokens_from, start_of, tokens_of}
+use Rattle.lexer.specs.Tokens.{token_at, line_after}
 use Rattle.lexer.specs.Steps.{cursor_of, step_of}
 use Rattle.lexer.specs.declared.Cursor.{Cursor}
-use Rattle.lexer.specs.declared.Step.{Step}
 use Rattle.lexer.specs.declared.Step.TheVariants.{Token as Gives, End, Refused}
-use Rattle.lexer.proofs.TokenLaws.{tokens_step, tokens_end, token_fits_at, token_long_at, line_fits_at, start_fits}
+use Rattle.lexer.proofs.TokenLaws.{tokens_step, tokens_end}
 use Rattle.decoder_rules.specs.declared.Encoding.{Encoding}
 use Rattle.decoder_rules.specs.declared.Choice.{Choice}
 use Rattle.decoder_rules.specs.Decoding.{bytes_of, errors_of, errors_by}

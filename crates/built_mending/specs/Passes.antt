@@ -1,9 +1,8 @@
 -- What the helpers of `put_right` say of a token and of a document. Not to be believed: no promise of a public function cites it.
 -- Assumes nothing.
-use Rattle.std.specs.Prelude.{◌≡◌, ℕ, ◌-◌, Bool, true, false, List, ◌++◌, map, length, take, drop}
-use Rattle.decoder_rules.specs.declared.Encoding.{Encoding}
+use Rattle.std.specs.Prelude.{◌≡◌, ℕ, ◌-◌, true, false, List, map, length, take, drop}
 use Rattle.decoder_rules.specs.declared.Choice.TheVariants.{Known}
-use Rattle.decoder_rules.specs.Decoding.{bytes_of, errors_of}
+use Rattle.decoder_rules.specs.Decoding.{errors_of}
 use Rattle.lexer_token.specs.declared.Token.{Token}
 use Rattle.lexer.specs.Tokens.{tokens_from}
 use Rattle.built_mending.specs.Mending.{Part, part_of, read_as, reported, is_broken, fit_both, mended_after}

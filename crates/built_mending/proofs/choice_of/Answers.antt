@@ -4,7 +4,6 @@ use Prim.Native.Nat.{ℕ}
 use Rattle.decoder_rules.specs.Encodings.{choice_by}
 use Rattle.lexer_token.specs.Encodings.{encoding_of}
 use Rattle.built_mending.proofs.ChoiceLaws.{encoding_is}
-use borrow.Author.Rules.{rules}
 use Rattle.built_mending.proofs.choice_of.Goals as goal
 
 pub returns : goal.returns

@@ -1,11 +1,10 @@
 -- `copy_in` is right because what is still to be copied, stored from place o + j on, makes the whole copy.
 use Prim.Native.Nat.{◌+◌, ◌-◌}
-use mathlib.Core.Path.{◌≡◌, refl, ap}
+use mathlib.Core.Path.{◌≡◌, refl}
 use native.Mathlib.Omega.{arith}
-use borrow.Author.Rules.{rules}
 use lib.ListN.{length}
 use lib.Seq.{take-length}
-use Rattle.decoder_rules.proofs.StoreLaws.{Copying, copying_start, copying_turn, copying_end}
+use Rattle.decoder_rules.proofs.StoreLaws.{copying_start, copying_turn, copying_end}
 use Rattle.built_mending.specs.Passes.{between}
 use Rattle.built_mending.proofs.TokenLaws.{part_long}
 use Rattle.built_mending.proofs.copy_in.Goals as goal

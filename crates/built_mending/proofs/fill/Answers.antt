@@ -1,12 +1,8 @@
 -- `fill` is right because what is still to be copied, and what the tokens still to come become, stored from o and m on, make the
 -- whole.
-use Prim.Native.Nat.{ℕ, ◌+◌, ◌-◌, ◌≤◌}
-use mathlib.Core.Path.{◌≡◌, ap, ◌∙◌}
+use mathlib.Core.Path.{◌∙◌}
 use native.Mathlib.Omega.{arith}
-use borrow.Author.Rules.{rules}
-use lib.ListN.{length}
-use Rattle.built_mending.specs.Passes.{between}
-use Rattle.built_mending.proofs.PassLaws.{Filled, filled_start, filled_left, filled_end, token_within, filled_kept, filled_space, filled_replaced}
+use Rattle.built_mending.proofs.PassLaws.{filled_start, filled_left, filled_end, token_within, filled_kept, filled_space, filled_replaced}
 use Rattle.built_mending.proofs.fill.Goals as goal
 
 pub loop-at-init : goal.loop-at-init

@@ -1,10 +1,6 @@
-use Prim.Native.Nat.{ℕ, ◌+◌, ◌-◌, ◌≤◌}
-use mathlib.Core.Path.{◌≡◌, ap, ◌∙◌}
-use native.Mathlib.Omega.{arith}
-use borrow.Author.Rules.{rules}
+use Prim.Native.Nat.{◌-◌}
 use lib.ListN.{length}
-use Rattle.built_mending.specs.Passes.{between}
-use Rattle.built_mending.proofs.PassLaws.{Filled, filled_start, filled_left, filled_end, token_within, filled_kept, filled_space, filled_replaced}
+use Rattle.built_mending.proofs.PassLaws.{Filled}
 use Rattle.built_mending.proofs.fill.Given as goal
 
 abbrev pub invariant-loop-at : goal.invariant-loop-at

@@ -1,15 +1,14 @@
 -- `needed` is right because n and m, with what the tokens still to come become and report, make the whole.
-use Prim.Native.Nat.{ℕ, ◌+◌, ◌-◌, ◌≤◌}
-use mathlib.Core.Path.{◌≡◌, ap}
+use Prim.Native.Nat.{◌+◌}
+use mathlib.Core.Path.{◌≡◌}
 use native.Mathlib.Omega.{arith}
-use borrow.Author.Rules.{rules}
-use lib.ListN.{length, length-take, length-drop}
+use lib.ListN.{length}
 use Rattle.decoder_rules.specs.Decoding.{bytes_of}
 use Rattle.built_mending.specs.Mending.{replacement, gap as gap_of}
 use Rattle.built_mending.specs.Passes.{between}
 use Rattle.built_mending.proofs.BoundLaws.{mended_most, listed_few}
 use Rattle.built_mending.proofs.TokenLaws.{part_long}
-use Rattle.built_mending.proofs.PassLaws.{Counted, counted_start, counted_end, token_within, counted_replaced, counted_kept}
+use Rattle.built_mending.proofs.PassLaws.{counted_start, counted_end, token_within, counted_replaced, counted_kept}
 use Rattle.built_mending.proofs.needed.Goals as goal
 
 pub loop-at-init : goal.loop-at-init

@@ -4,7 +4,6 @@ use lib.ListN.{length}
 use Rattle.text.proofs.AnswerLaws.{checked}
 use Rattle.built_mending.proofs.AnswerLaws.{answer_refused, answer_unnamed, answer_mended}
 use Rattle.built_mending.proofs.NumberLaws.{told}
-use borrow.Author.Rules.{rules}
 use Rattle.built_mending.proofs.put_right_in.Goals as goal
 
 pub mend-requires : goal.mend-requires

@@ -1,10 +1,8 @@
 -- `reading_of` is right because a token is read as a string where its kind has an encoding, and only there.
-use mathlib.Core.Path.{◌≡◌, refl, sym, ◌∙◌, ap}
-use native.Mathlib.Omega.{arith}
+use mathlib.Core.Path.{sym, ◌∙◌, ap}
 use Rattle.decoder_rules.specs.declared.Choice.{Choice}
 use Rattle.decoder_rules.specs.Decoding.{errors_by}
 use Rattle.built_mending.specs.Mending.{part_of, is_broken}
-use borrow.Author.Rules.{rules}
 use Rattle.built_mending.proofs.reading_of.Goals as goal
 
 pub returns-in-Unknown : goal.returns-in-Unknown

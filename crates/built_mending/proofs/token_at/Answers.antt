@@ -1,10 +1,6 @@
 -- `token_at` is right because a step from a cursor before the end of a document within the limit gives the token there: it
 -- neither ends nor is refused.
-use Prim.Native.Nat.{ℕ}
-use mathlib.Core.Path.{◌≡◌, sym, ◌∙◌, ap}
-use native.Mathlib.Omega.{arith}
-use borrow.Author.Rules.{rules}
-use Rattle.lexer.specs.declared.Step.{Step}
+use mathlib.Core.Path.{sym}
 use Rattle.built_mending.proofs.TokenLaws.{step_gives, not_end, not_refused}
 use Rattle.built_mending.proofs.token_at.Goals as goal
 

@@ -6,7 +6,6 @@ use native.Mathlib.Omega.{arith}
 use lib.ListN.{length}
 use Rattle.decoder_rules.proofs.EncodedLaws.{encoded_fits, encoded_few, encoded_bytes}
 use Rattle.built_mending.specs.Mending.{respelt}
-use borrow.Author.Rules.{rules}
 use Rattle.built_mending.proofs.spell.char_width.Goals as goal
 
 pub width_of-requires : goal.width_of-requires

@@ -1,6 +1,5 @@
 -- `hex_digit` is right because each of its branches is the rule's.
 use native.Mathlib.Omega.{arith}
-use borrow.Author.Rules.{rules}
 use borrow.Author.Tests.{lt-ltb, le-ltb}
 use Rattle.built_mending.proofs.spell.hex_digit.Goals as goal
 

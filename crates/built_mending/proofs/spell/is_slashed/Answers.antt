@@ -1,5 +1,4 @@
 -- `is_slashed` is right because it asks for the two bytes in turn.
-use borrow.Author.Rules.{rules}
 use borrow.Author.Tests.{eq-eqb, ne_eqb}
 use Rattle.built_mending.proofs.spell.is_slashed.Goals as goal
 

@@ -1,11 +1,7 @@
 -- `put_byte` is right because each of its branches stores what the rule says.
-use mathlib.Core.Path.{◌≡◌, refl, sym, ◌∙◌, ap}
+use mathlib.Core.Path.{refl, sym, ◌∙◌, ap}
 use native.Mathlib.Omega.{arith}
-use borrow.Author.Rules.{rules}
-use lib.ListN.{length, length-set}
-use Rattle.built_writing.specs.Writing.{spelling}
-use Rattle.built_writing.specs.declared.spell.Spelling.TheVariants.{Short, Coded}
-use Rattle.built_mending.specs.Mending.{respell}
+use lib.ListN.{length}
 use Rattle.built_mending.proofs.SpellLaws.{slashed_is, coded_is, own_is}
 use Rattle.built_mending.proofs.spell.put_byte.Goals as goal
 

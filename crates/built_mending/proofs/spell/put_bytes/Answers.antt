@@ -1,8 +1,5 @@
 -- `put_bytes` is right because what is left to be spelt, stored from place o on, makes the whole.
-use Prim.Native.Nat.{◌-◌}
-use native.Mathlib.Omega.{arith}
-use borrow.Author.Rules.{rules}
-use Rattle.built_mending.proofs.SpellLaws.{Putting, putting_start, putting_room, putting_turn, putting_end}
+use Rattle.built_mending.proofs.SpellLaws.{putting_start, putting_room, putting_turn, putting_end}
 use Rattle.built_mending.proofs.spell.put_bytes.Goals as goal
 
 pub loop-i-init : goal.loop-i-init

@@ -1,7 +1,5 @@
 use Prim.Native.Nat.{◌-◌}
-use native.Mathlib.Omega.{arith}
-use borrow.Author.Rules.{rules}
-use Rattle.built_mending.proofs.SpellLaws.{Putting, putting_start, putting_room, putting_turn, putting_end}
+use Rattle.built_mending.proofs.SpellLaws.{Putting}
 use Rattle.built_mending.proofs.spell.put_bytes.Given as goal
 
 abbrev pub invariant-loop-i : goal.invariant-loop-i

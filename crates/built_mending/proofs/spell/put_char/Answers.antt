@@ -6,7 +6,6 @@ use native.Mathlib.Omega.{arith}
 use lib.ListN.{length}
 use Rattle.decoder_rules.proofs.EncodedLaws.{encoded_fits, encoded_bytes}
 use Rattle.built_mending.specs.Mending.{respelt}
-use borrow.Author.Rules.{rules}
 use Rattle.built_mending.proofs.spell.put_char.Goals as goal
 
 pub put_bytes-requires : goal.put_bytes-requires

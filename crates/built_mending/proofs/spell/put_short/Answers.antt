@@ -3,7 +3,6 @@ use mathlib.Core.Path.{refl}
 use native.Mathlib.Numerals.{add-one}
 use native.Mathlib.Omega.{arith}
 use lib.ListN.{length-set}
-use borrow.Author.Rules.{rules}
 use Rattle.built_mending.proofs.spell.put_short.Goals as goal
 
 pub bounds-output-o-2 : goal.bounds-output-o-2

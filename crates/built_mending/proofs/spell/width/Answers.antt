@@ -1,7 +1,5 @@
 -- `width` is right because each of its branches is the rule's.
-use mathlib.Core.Path.{refl, sym, ◌∙◌, ap}
-use borrow.Author.Rules.{rules}
-use lib.ListN.{length}
+use mathlib.Core.Path.{sym, ◌∙◌}
 use Rattle.built_mending.proofs.SpellLaws.{slashed_is, coded_is, own_is}
 use Rattle.built_mending.proofs.spell.width.Goals as goal
 

@@ -1,10 +1,7 @@
 -- `given_width` is right because each of the three things that a piece gives has its arm.
-use mathlib.Core.Path.{ap, ◌∙◌, sym}
 use native.Mathlib.Omega.{arith}
-use lib.ListN.{length}
 use Rattle.decoder_rules.proofs.PieceLaws.{gives_copy, gives_char, gives_nothing}
 use Rattle.built_mending.proofs.SpellLaws.{respelt_none}
-use borrow.Author.Rules.{rules}
 use Rattle.built_mending.proofs.token.given_width.Goals as goal
 
 pub width_of-requires : goal.width_of-requires

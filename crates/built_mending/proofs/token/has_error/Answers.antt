@@ -1,5 +1,5 @@
 -- `has_error` is right because the pieces passed have no error, so what is left has one where the body has.
-use Rattle.std.proofs.Common.{refl, sym, ap, ◌∙◌, arith}
+use Rattle.std.proofs.Common.{sym, ap, ◌∙◌, arith}
 use Rattle.decoder_rules.specs.Pieces.{notes}
 use Rattle.decoder_pieces.proofs.StepLaws.{none_left, ended_none, at_piece}
 use Rattle.built_mending.specs.Mending.{is_broken}

@@ -1,13 +1,10 @@
 -- `is_broken` is right because the errors of a text are those of its marks and then those of its body.
-use mathlib.Core.Path.{◌≡◌, refl, sym, ◌∙◌, ap}
-use mathlib.Core.List.{◌++◌}
+use mathlib.Core.Path.{sym, ◌∙◌, ap}
 use native.Mathlib.Omega.{arith}
 use Rattle.decoder_rules.specs.Pieces.{notes_of}
 use Rattle.decoder_marks.proofs.OpenLaws.{opened_errors}
-use Rattle.decoder_pieces.specs.Steps.{errors_left}
 use Rattle.built_mending.specs.Mending.{is_broken}
 use Rattle.built_mending.proofs.PieceLaws.{broken_first, broken_later}
-use borrow.Author.Rules.{rules}
 use Rattle.built_mending.proofs.token.is_broken.Goals as goal
 
 pub returns-then-noted-gt0 : goal.returns-then-noted-gt0

@@ -1,7 +1,6 @@
 -- `note` is right because a verdict is clean, or has one error.
 use mathlib.Core.Path.{ap}
 use native.Mathlib.Omega.{arith}
-use borrow.Author.Rules.{rules}
 use lib.ListN.{length}
 use Rattle.decoder_rules.specs.Pieces.{notes_of}
 use Rattle.decoder_rules.proofs.StoreLaws.{store_none}

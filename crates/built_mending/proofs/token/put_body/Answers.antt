@@ -1,5 +1,5 @@
 -- `put_body` is right because what is left of the body, stored from o and m on, makes the whole.
-use Rattle.std.proofs.Common.{◌≤◌, length, sym, arith}
+use Rattle.std.proofs.Common.{sym, arith}
 use Rattle.decoder_rules.specs.Pieces.{notes}
 use Rattle.decoder_pieces.proofs.StepLaws.{none_left, ended_none, at_piece}
 use Rattle.built_mending.specs.Mending.{record_at}

@@ -1,8 +1,6 @@
 -- `put_gap` is right because it stores a space where there is a quotation mark, and else nothing.
-use Prim.Native.Nat.{ℕ}
 use mathlib.Core.Path.{◌≡◌, refl, ap}
 use native.Mathlib.Omega.{arith}
-use borrow.Author.Rules.{rules}
 use lib.ListN.{length}
 use Rattle.decoder_rules.proofs.StoreLaws.{store_none}
 use Rattle.built_mending.specs.Mending.{gap}

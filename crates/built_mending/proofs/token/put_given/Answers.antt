@@ -8,7 +8,6 @@ use Rattle.decoder_rules.proofs.PieceLaws.{gives_copy, gives_char, gives_nothing
 use Rattle.decoder_rules.proofs.StoreLaws.{store_none}
 use Rattle.built_mending.specs.Mending.{respelt}
 use Rattle.built_mending.proofs.SpellLaws.{respelt_none}
-use borrow.Author.Rules.{rules}
 use Rattle.built_mending.proofs.token.put_given.Goals as goal
 
 pub put_bytes-requires : goal.put_bytes-requires

@@ -1,6 +1,6 @@
 -- `replace` is right because a space where it is needed, a mark, the body and a mark are stored one after the other, and the errors
 -- of the marks and of the body.
-use Rattle.std.proofs.Common.{◌≡◌, ℕ, ◌+◌, ◌≤◌, Bool, List, ◌++◌, length, map, ap, ◌∙◌, arith, length-append, length-set}
+use Rattle.std.proofs.Common.{◌≡◌, ℕ, ◌+◌, Bool, List, ◌++◌, length, ap, ◌∙◌, arith, length-append, length-set}
 use lib.ListN.{length-map}
 use Rattle.decoder_rules.specs.Pieces.{notes_of}
 use Rattle.decoder_rules.specs.Decoding.{bytes_of, errors_of}

@@ -1,7 +1,7 @@
 -- `replacement_needs` is right because a replacement is a body between two marks, and a text's errors are those of its marks and
 -- then those of its body.
 use Prim.Native.Nat.{ℕ}
-use mathlib.Core.Path.{◌∙◌, ap}
+use mathlib.Core.Path.{ap}
 use mathlib.Core.List.{List, ◌++◌}
 use native.Mathlib.Omega.{arith}
 use lib.ListN.{length, length-append}
@@ -12,7 +12,6 @@ use Rattle.decoder_pieces.specs.Steps.{errors_left}
 use Rattle.decoder_marks.proofs.OpenLaws.{opened_bytes, opened_errors, opened_fits}
 use Rattle.built_mending.specs.Mending.{respelt}
 use Rattle.built_mending.proofs.BoundLaws.{text_most, replacement_long}
-use borrow.Author.Rules.{rules}
 use Rattle.built_mending.proofs.token.replacement_needs.Goals as goal
 
 pub count-c-requires : goal.count-c-requires
