@@ -2,7 +2,7 @@
 -- contract: what a caller learns of its `ensures`.
 -- Where a promise says an answer's number and value too, its first clause, an equation, already admits one answer.
 -- Assumes nothing.
-use mathlib.Core.Path.{◌≡◌, sym, ◌∙◌}
+use mathlib.Core.Path.{sym, ◌∙◌}
 use Rattle.text_classes.proofs.OneAnswer.{OneAnswer}
 use Rattle.text.proofs as promised
 

@@ -2,7 +2,7 @@
 -- function's own contract: what a caller learns of its `ensures`. `is_short_ascii` and `is_ascii_word` may answer no where the
 -- bytes are ASCII all the same: their callers then go another way.
 -- Assumes nothing.
-use mathlib.Core.Path.{◌≡◌, sym, ◌∙◌}
+use mathlib.Core.Path.{sym, ◌∙◌}
 use Rattle.text_classes.proofs.OneAnswer.{OneAnswer}
 use Rattle.text_ascii.proofs as promised
 

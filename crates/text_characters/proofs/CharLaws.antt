@@ -9,7 +9,7 @@ use native.Mathlib.Omega.{arith}
 use lib.ListN.{length, get_or, drop}
 use Rattle.text_characters.specs.declared.Lead.{Lead}
 use Rattle.text_characters.specs.Lead.{row, lead_of, Among, Asked, CharacterAt, WideAt, BegunAt}
-use Rattle.text_scalars.specs.Utf8Read.{char_len, valid_prefix, Along}
+use Rattle.text_scalars.specs.Utf8Read.{char_len, Along}
 use Rattle.text_characters.proofs.LeadLaws.{all_begun, row_is, lead_high}
 use Rattle.text_characters.proofs.BegunLaws.{begun_1}
 use Rattle.text_scalars.proofs.ReadLaws.{valid_step}

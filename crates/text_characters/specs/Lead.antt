@@ -1,7 +1,7 @@
 -- What a first byte says of its character, and how many bytes are as it says. Not to be believed but proved:
 -- proofs/LeadLaws.antt shows that a character begins where the bytes pass this table, and only there.
 -- Assumes nothing.
-use Rattle.std.specs.Prelude.{ℕ, ◌+◌, ◌*◌, ◌^◌, ◌-◌, ◌≤◌, ◌<◌, ◌≡◌, Bool, cond, ◌&&◌, List, ltb, leb, eqb, length, get_or}
+use Rattle.std.specs.Prelude.{ℕ, ◌+◌, ◌-◌, ◌≤◌, ◌<◌, ◌≡◌, Bool, cond, ◌&&◌, List, ltb, leb, eqb, length, get_or}
 use Rattle.std.specs.Int.Count.{count_leading_zeros}
 use Rattle.text_characters.specs.declared.Lead.{Lead}
 

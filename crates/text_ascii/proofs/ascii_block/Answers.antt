@@ -1,12 +1,12 @@
 -- `ascii_block` is right because bits joined are no less than any of the bytes: all of them below 80 where the join is.
 -- The invariant says so of the j bytes passed.
-use Prim.Native.Nat.{◌+◌, ◌-◌, ◌≤◌, ◌<◌}
+use Prim.Native.Nat.{◌+◌, ◌<◌}
 use native.Mathlib.Omega.{arith}
-use borrow.Author.Tests.{ltb-true, lt-ltb}
+use borrow.Author.Tests.{lt-ltb}
 use lib.ListN.{get_or}
 use Rattle.text_scalars.specs.Utf8Read.{ascii}
 use Rattle.text_scalars.proofs.FieldLaws.{bits_left, bits_right}
-use Rattle.text_classes.proofs.RunLaws.{Block, block_start, block_step, block_end}
+use Rattle.text_classes.proofs.RunLaws.{Block, block_step}
 use Rattle.text_ascii.proofs.ascii_block.Goals as goal
 
 pub loop-j-preserved : goal.loop-j-preserved

@@ -1,10 +1,6 @@
-use Prim.Native.Nat.{◌+◌, ◌-◌, ◌≤◌, ◌<◌}
-use native.Mathlib.Omega.{arith}
-use borrow.Author.Tests.{ltb-true, lt-ltb}
-use lib.ListN.{get_or}
+use Prim.Native.Nat.{◌-◌, ◌≤◌, ◌<◌}
 use Rattle.text_scalars.specs.Utf8Read.{ascii}
-use Rattle.text_scalars.proofs.FieldLaws.{bits_left, bits_right}
-use Rattle.text_classes.proofs.RunLaws.{Block, block_start, block_step, block_end}
+use Rattle.text_classes.proofs.RunLaws.{Block}
 use Rattle.text_ascii.proofs.ascii_block.Given as goal
 
 abbrev pub invariant-loop-j : goal.invariant-loop-j

@@ -1,10 +1,8 @@
 use Prim.Native.Nat.{◌-◌}
-use native.Mathlib.Omega.{arith}
-use borrow.Author.Tests.{not-false}
 use lib.ListN.{length}
 use Rattle.text_scalars.specs.Utf8Read.{ascii}
 use Rattle.text_classes.specs.Runs.{run}
-use Rattle.text_classes.proofs.RunLaws.{SameEnd, same_end_start, same_end_block}
+use Rattle.text_classes.proofs.RunLaws.{SameEnd}
 use Rattle.text_ascii.proofs.ascii_blocks.Given as goal
 
 abbrev pub invariant-loop-i : goal.invariant-loop-i

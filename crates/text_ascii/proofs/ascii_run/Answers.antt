@@ -1,11 +1,8 @@
 -- `ascii_run` is right because neither a word, nor a block, nor a byte of ASCII moves the end of the run.
-use Prim.Native.Nat.{◌-◌}
 use native.Mathlib.Omega.{arith}
 use borrow.Author.Tests.{lt-ltb, le-ltb}
-use lib.ListN.{length}
 use Rattle.text_scalars.specs.Utf8Read.{ascii}
-use Rattle.text_classes.specs.Runs.{run}
-use Rattle.text_classes.proofs.RunLaws.{run_stop, run_end, SameEnd, same_end_byte, same_end_reached}
+use Rattle.text_classes.proofs.RunLaws.{run_stop, run_end, same_end_byte, same_end_reached}
 use Rattle.text_ascii.proofs.ascii_run.Goals as goal
 use Rattle.text_ascii.proofs.ascii_run.Goals.{then-near-start, else-near-start}
 

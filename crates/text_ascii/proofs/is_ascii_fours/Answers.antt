@@ -1,8 +1,6 @@
 -- `is_ascii_fours` is right because a high bit that is off in a word is off in each of its bytes.
 use Prim.Native.Nat.{ℕ, ◌<◌}
-use mathlib.Core.Bool.{false≢true}
 use native.Mathlib.Omega.{arith}
-use borrow.Author.Rules.{rules}
 use borrow.Author.Tests.{eqb-true}
 use lib.ListN.{get_or}
 use Rattle.text_ascii.proofs.WordLaws.{four_ascii}

@@ -1,8 +1,6 @@
 -- `is_short_ascii` is right because the two words reach from one end to the other.
 use Prim.Native.Nat.{◌-◌}
-use mathlib.Core.Bool.{false≢true}
 use native.Mathlib.Omega.{arith}
-use borrow.Author.Rules.{rules}
 use lib.ListN.{length}
 use Rattle.text_scalars.specs.Utf8Read.{ascii}
 use Rattle.text_ascii.proofs.WordLaws.{whole_run}

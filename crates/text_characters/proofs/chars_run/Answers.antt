@@ -1,10 +1,7 @@
 -- `chars_run` is right because each turn goes over one whole character, or over several of two or of four bytes.
-use Prim.Native.Nat.{◌+◌, ◌-◌}
+use Prim.Native.Nat.{◌+◌}
 use mathlib.Core.Path.{◌≡◌}
 use native.Mathlib.Omega.{arith}
-use lib.Count.{leading_le}
-use lib.ListN.{length, get_or}
-use Rattle.text_scalars.specs.Utf8Read.{Along}
 use Rattle.text_characters.proofs.CharLaws.{along_ascii, along_whole}
 use Rattle.text_characters.proofs.chars_run.Goals as goal
 

@@ -1,11 +1,6 @@
-use Prim.Native.Nat.{◌+◌, ◌-◌}
-use mathlib.Core.Path.{◌≡◌}
-use borrow.Author.Tests.{not-false}
-use native.Mathlib.Omega.{arith}
-use lib.Count.{leading_le}
-use lib.ListN.{length, get_or}
+use Prim.Native.Nat.{◌-◌}
+use lib.ListN.{length}
 use Rattle.text_scalars.specs.Utf8Read.{Along}
-use Rattle.text_characters.proofs.CharLaws.{along_ascii, along_whole}
 use Rattle.text_characters.proofs.chars_run.Given as goal
 
 abbrev pub invariant-loop-i : goal.invariant-loop-i

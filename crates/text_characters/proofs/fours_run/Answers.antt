@@ -1,8 +1,5 @@
 -- `fours_run` is right because each turn goes over one whole character.
-use Prim.Native.Nat.{◌-◌}
 use native.Mathlib.Omega.{arith}
-use lib.ListN.{length}
-use Rattle.text_scalars.specs.Utf8Read.{Along}
 use Rattle.text_characters.proofs.CharLaws.{along_whole}
 use Rattle.text_characters.proofs.fours_run.Goals as goal
 

@@ -1,9 +1,6 @@
 use Prim.Native.Nat.{◌-◌}
-use borrow.Author.Tests.{not-false}
-use native.Mathlib.Omega.{arith}
 use lib.ListN.{length}
 use Rattle.text_scalars.specs.Utf8Read.{Along}
-use Rattle.text_characters.proofs.CharLaws.{along_whole}
 use Rattle.text_characters.proofs.fours_run.Given as goal
 
 abbrev pub invariant-loop-i : goal.invariant-loop-i

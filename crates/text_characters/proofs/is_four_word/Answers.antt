@@ -1,8 +1,6 @@
 -- `is_four_word` is right because a mask leaves of the word what it leaves of each of its bytes.
 use Prim.Native.Nat.{ℕ, ◌+◌, ◌<◌}
-use mathlib.Core.Bool.{false≢true}
 use native.Mathlib.Omega.{arith}
-use borrow.Author.Rules.{rules}
 use borrow.Author.Tests.{not-true, eqb-false}
 use lib.ListN.{get_or}
 use Rattle.text_characters.proofs.FourLaws.{word_four}

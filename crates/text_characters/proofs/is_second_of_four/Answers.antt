@@ -1,7 +1,5 @@
 -- `is_second_of_four` is right because the tests of the first byte find its row of the table.
 use native.Mathlib.Omega.{arith}
-use borrow.Author.Rules.{rules}
-use mathlib.Core.Bool.{false≢true}
 use Rattle.text_characters.proofs.CharLaws.{asked}
 use Rattle.text_characters.proofs.OnesLaws.{four_f0, four_mid, four_f4}
 use Rattle.text_characters.proofs.is_second_of_four.Goals as goal

@@ -1,6 +1,5 @@
 -- `is_second_of_three` is right because the tests of the first byte find its row of the table.
 use native.Mathlib.Omega.{arith}
-use borrow.Author.Rules.{rules}
 use Rattle.text_characters.proofs.CharLaws.{asked}
 use Rattle.text_characters.proofs.OnesLaws.{three_e0, three_ed, three_rest}
 use Rattle.text_characters.proofs.is_second_of_three.Goals as goal

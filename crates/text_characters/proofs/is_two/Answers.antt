@@ -1,6 +1,4 @@
 -- `is_two` is right because fewer than three ones and C2 or more find the row of the table.
-use borrow.Author.Rules.{rules}
-use mathlib.Core.Bool.{false≢true}
 use native.Mathlib.Omega.{arith}
 use Rattle.text_characters.proofs.CharLaws.{asked}
 use Rattle.text_characters.proofs.OnesLaws.{two_ones}

@@ -1,9 +1,5 @@
 -- `wide_at` is right because each way out that says a length has all of its bytes before it.
-use Prim.Native.Nat.{◌-◌}
 use native.Mathlib.Omega.{arith}
-use borrow.Author.Rules.{rules}
-use lib.Count.{leading_le}
-use lib.ListN.{get_or}
 use Rattle.text_characters.proofs.CharLaws.{wide_counted}
 use Rattle.text_characters.proofs.wide_at.Goals as goal
 

@@ -2,12 +2,11 @@
 -- second and the class agree on the bytes below 64, both by a computed test, and its four brackets are the class above.
 use Prim.Native.Nat.{ℕ, ◌/◌, ◌^◌, ◌<◌}
 use mathlib.Core.Path.{◌≡◌, sym, ap, ◌∙◌}
-use mathlib.Core.Bool.{Bool, true, false, cond}
+use mathlib.Core.Bool.{Bool, false, cond}
 use native.Mathlib.Omega.{arith}
-use borrow.Author.Rules.{rules}
 use borrow.Author.Tests.{eq-eqb}
 use lib.Dec.{eqb}
-use lib.Bits.{bit_and, and_le_r}
+use lib.Bits.{bit_and}
 use Rattle.text_classes.specs.Classes.{token_start}
 use Rattle.text_classes.proofs.ByteTable.{classes_agree}
 use Rattle.text_classes.proofs.is_token_start.Goals as goal

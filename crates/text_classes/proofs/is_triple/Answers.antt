@@ -1,11 +1,7 @@
 -- `is_triple` is right because it asks of the three places in the definition's order. A mark that stands is within the
 -- slice, so that the next place can be reached.
-use Prim.Native.Nat.{◌+◌}
 use mathlib.Core.Path.{sym, ◌∙◌}
-use native.Mathlib.Omega.{arith}
-use Rattle.text_classes.proofs.FirstLaws.{stands_there}
 use Rattle.text_classes.proofs.TripleLaws.{triple_at}
-use borrow.Author.Rules.{rules}
 use Rattle.text_classes.proofs.is_triple.Goals as goal
 
 pub returns-then-is_at-2 : goal.returns-then-is_at-2

@@ -1,8 +1,6 @@
 -- `encode` is right because a scalar value is below 110000, and any other number has no bytes.
 use mathlib.Core.Path.{sym, ◌∙◌}
-use borrow.Author.Rules.{rules}
 use Rattle.text_scalars.specs.Encode.{encoded_of}
-use Rattle.text_scalars.proofs.EncodeLaws.{true_scalar, scalar_lt}
 use Rattle.text_scalars.proofs.encode.Goals as goal
 
 pub returns-then-is_scalar : goal.returns-then-is_scalar

@@ -1,6 +1,5 @@
 -- `encode_scalar` is right because each length's bit fields are the sums of the definition.
 use native.Mathlib.Omega.{arith}
-use borrow.Author.Rules.{rules}
 use Rattle.text_scalars.proofs.EncodeLaws.{encode_1, encode_2, encode_3, encode_4}
 use Rattle.text_scalars.proofs.FieldLaws.{lead_2, lead_3, lead_4}
 use Rattle.text_scalars.proofs.encode_scalar.Goals as goal

@@ -1,5 +1,4 @@
 -- `char_at` is right because a character stands where all the bytes are that its first byte asks for.
-use borrow.Author.Rules.{rules}
 use Rattle.text_characters.proofs.LeadLaws.{all_begun, part_begun}
 use Rattle.text.proofs.utf8.char_at.Goals as goal
 

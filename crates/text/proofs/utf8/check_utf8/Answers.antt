@@ -1,13 +1,8 @@
 -- `check_utf8` is right because the bytes before `at` are whole characters, so that the longest valid prefix is `at` and
 -- that of the rest; and a short text that is ASCII is valid.
-use Prim.Native.Nat.{◌+◌, ◌-◌, ◌≤◌}
-use mathlib.Core.Path.{◌≡◌}
 use native.Mathlib.Omega.{arith}
-use borrow.Author.Rules.{rules}
-use lib.ListN.{length, drop}
-use Rattle.text_scalars.specs.Utf8Read.{valid_prefix}
 use Rattle.text_scalars.proofs.ReadLaws.{valid_end}
-use Rattle.text.proofs.AnswerLaws.{answer_long, answer_ascii, answer_valid, answer_broken, told}
+use Rattle.text.proofs.AnswerLaws.{answer_ascii, answer_valid, answer_broken, told}
 use Rattle.text.proofs.utf8.check_utf8.Goals as goal
 
 pub returns-then-is_short_ascii : goal.returns-then-is_short_ascii

@@ -1,11 +1,7 @@
 use Prim.Native.Nat.{◌+◌, ◌-◌, ◌≤◌}
 use mathlib.Core.Path.{◌≡◌}
-use native.Mathlib.Omega.{arith}
-use borrow.Author.Rules.{rules}
 use lib.ListN.{length, drop}
 use Rattle.text_scalars.specs.Utf8Read.{valid_prefix}
-use Rattle.text_scalars.proofs.ReadLaws.{valid_end}
-use Rattle.text.proofs.AnswerLaws.{answer_long, answer_ascii, answer_valid, answer_broken, told}
 use Rattle.text.proofs.utf8.check_utf8.Given as goal
 
 abbrev pub invariant-loop-at : goal.invariant-loop-at

@@ -1,5 +1,4 @@
 -- `fault_at` is right because `begun` counts the bytes that begin a character.
-use borrow.Author.Rules.{rules}
 use native.Mathlib.Omega.{arith}
 use Rattle.text.proofs.FaultLaws.{fault_lead, fault_end, fault_within}
 use Rattle.text.proofs.utf8.fault_at.Goals as goal

@@ -1,7 +1,6 @@
 -- `passed` is right because a run of ASCII is a run of characters, and so is what `chars_run` goes over; any other
 -- character is one.
 use native.Mathlib.Omega.{arith}
-use borrow.Author.Rules.{rules}
 use borrow.Author.Tests.{lt-ltb}
 use lib.ListN.{length-drop, drop}
 use Rattle.text_scalars.proofs.ReadLaws.{char_le, passed_ascii, passed_char}
