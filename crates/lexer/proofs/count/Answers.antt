@@ -56,7 +56,10 @@ lex_until-part-requires c =
     let doc = c.args.doc.now in
     let now = c.loop-at in
     let stop : Stop doc now.at c.if-doc-at-gt64.stop =
-    elim c.if-doc-at-gt64.branch [ then-doc-at-gt64 w ↦ stop_near doc _ _ w.if-doc-at-gt64.true w.stop-is | else-doc-at-gt64 w ↦ stop_end doc _ _ c.loop-at-test.true w.if-doc-at-gt64.false w.stop-is ] in
+    elim c.if-doc-at-gt64.branch [
+      | then-doc-at-gt64 w ↦ stop_near doc _ _ w.if-doc-at-gt64.true w.stop-is
+      | else-doc-at-gt64 w ↦ stop_end doc _ _ c.loop-at-test.true w.if-doc-at-gt64.false w.stop-is
+    ] in
     let most = until_few 64 doc c.if-doc-at-gt64.stop now.at now.line stop.near stop.within in
     (now.invariant.within, stop.within, now.invariant.low, omega (arith, most, now.invariant.size))
 
@@ -65,7 +68,10 @@ overflow_add-passed c =
     let doc = c.args.doc.now in
     let now = c.loop-at in
     let stop : Stop doc now.at c.if-doc-at-gt64.stop =
-    elim c.if-doc-at-gt64.branch [ then-doc-at-gt64 w ↦ stop_near doc _ _ w.if-doc-at-gt64.true w.stop-is | else-doc-at-gt64 w ↦ stop_end doc _ _ c.loop-at-test.true w.if-doc-at-gt64.false w.stop-is ] in
+    elim c.if-doc-at-gt64.branch [
+      | then-doc-at-gt64 w ↦ stop_near doc _ _ w.if-doc-at-gt64.true w.stop-is
+      | else-doc-at-gt64 w ↦ stop_end doc _ _ c.loop-at-test.true w.if-doc-at-gt64.false w.stop-is
+    ] in
     omega (arith, few doc _ now.at now.line _ stop c.lex_until-part.ensures.count, stop.within)
 
 pub loop-at-smaller : goal.loop-at-smaller
@@ -73,7 +79,10 @@ loop-at-smaller c =
     let doc = c.args.doc.now in
     let now = c.loop-at in
     let stop : Stop doc now.at c.if-doc-at-gt64.stop =
-    elim c.if-doc-at-gt64.branch [ then-doc-at-gt64 w ↦ stop_near doc _ _ w.if-doc-at-gt64.true w.stop-is | else-doc-at-gt64 w ↦ stop_end doc _ _ c.loop-at-test.true w.if-doc-at-gt64.false w.stop-is ] in
+    elim c.if-doc-at-gt64.branch [
+      | then-doc-at-gt64 w ↦ stop_near doc _ _ w.if-doc-at-gt64.true w.stop-is
+      | else-doc-at-gt64 w ↦ stop_end doc _ _ c.loop-at-test.true w.if-doc-at-gt64.false w.stop-is
+    ] in
     let on = c.lex_until-part.ensures.place in
     omega (arith, stop.far, on.within, on.far)
 
@@ -82,7 +91,10 @@ loop-at-preserved c =
     let doc = c.args.doc.now in
     let now = c.loop-at in
     let stop : Stop doc now.at c.if-doc-at-gt64.stop =
-    elim c.if-doc-at-gt64.branch [ then-doc-at-gt64 w ↦ stop_near doc _ _ w.if-doc-at-gt64.true w.stop-is | else-doc-at-gt64 w ↦ stop_end doc _ _ c.loop-at-test.true w.if-doc-at-gt64.false w.stop-is ] in
+    elim c.if-doc-at-gt64.branch [
+      | then-doc-at-gt64 w ↦ stop_near doc _ _ w.if-doc-at-gt64.true w.stop-is
+      | else-doc-at-gt64 w ↦ stop_end doc _ _ c.loop-at-test.true w.if-doc-at-gt64.false w.stop-is
+    ] in
     let part = c.lex_until-part.ensures in
     let on = part.place in
     let written = map record_of (tokens_until c.if-doc-at-gt64.stop now.at now.line doc) in
