@@ -36,10 +36,6 @@ numbered n = (read_among kind_read_number n 7 (λ k. refl) refl kinds, read_amon
 pub read_numbers : (n : ℕ) (r : KindRead) → r ≡ kind_of_number n → (r ≡ kind_of_number n) × Numbered n r
 read_numbers n r e = (e, rw e (numbered n))
 
--- the same where n is known to be k
-pub read_key : (n k : ℕ) (r : KindRead) → n ≡ k → r ≡ kind_of_number k → (r ≡ kind_of_number n) × Numbered n r
-read_key n k r e h = read_numbers n r (rw e h)
-
 -- an answer has the refusal and the value of what the number is read as
 abbrev Says : Answer → KindRead → Type 0
 Says a k = (answer_number a ≡ kind_read_number k) × (answer_value a ≡ kind_read_value k)
@@ -53,15 +49,31 @@ by_encoding (Kind k) = (refl, refl)
 by_encoding (Refused r) = (refl, refl)
 
 pub described_numbers : (n : ℕ) (r : Description) → r ≡ description_of n
-    → (r ≡ description_of n) × ((answer_number r.answer ≡ kind_refusal n) × (answer_value r.answer ≡ kind_returned n))
+    → record {
+      answer : r ≡ description_of n;
+      number : answer_number r.answer ≡ kind_refusal n;
+      value : answer_value r.answer ≡ kind_returned n;
+    }
 unfolding description_of
 described_numbers n r e =
     let said = by_description (kind_of_number n) in
-    (e, rw e (said.0 ∙ (numbered n).0, said.1 ∙ (numbered n).1))
+    record {
+      answer = e;
+      number = rw e (said.0 ∙ (numbered n).0);
+      value = rw e (said.1 ∙ (numbered n).1);
+    }
 
 pub encoded_numbers : (n : ℕ) (r : KindEncoding) → r ≡ encoding_of n
-    → (r ≡ encoding_of n) × ((answer_number r.answer ≡ kind_refusal n) × (answer_value r.answer ≡ kind_returned n))
+    → record {
+      answer : r ≡ encoding_of n;
+      number : answer_number r.answer ≡ kind_refusal n;
+      value : answer_value r.answer ≡ kind_returned n;
+    }
 unfolding encoding_of
 encoded_numbers n r e =
     let said = by_encoding (kind_of_number n) in
-    (e, rw e (said.0 ∙ (numbered n).0, said.1 ∙ (numbered n).1))
+    record {
+      answer = e;
+      number = rw e (said.0 ∙ (numbered n).0);
+      value = rw e (said.1 ∙ (numbered n).1);
+    }

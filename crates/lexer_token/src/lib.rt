@@ -177,6 +177,8 @@ impl TokenKind {
     }
 
     // The kind that has a number.
+    // The kind that has a number.
+    #[tactic(auto, unfolding(crate::specs::KindNumbers::kind_of_number))]
     pub fn from_number(number: usize) -> KindRead
         ensures answer { result ≡ kind_of_number number }
         ensures number { kind_read_number result ≡ kind_refusal number }

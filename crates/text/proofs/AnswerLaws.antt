@@ -47,20 +47,22 @@ module _ (s : List ℕ) where
 
 -- and its numbers: which refusal, the number returned, and the second one
 pub told : (s : List ℕ) (r : Utf8Check) → r ≡ check_of s
-    → (r ≡ check_of s) × ((check_number r ≡ check_refusal s) × ((check_value r ≡ check_returned s) × (check_length r ≡ check_fault s)))
+    → record {
+      answer : r ≡ check_of s;
+      number : check_number r ≡ check_refusal s;
+      value : check_value r ≡ check_returned s;
+      length : check_length r ≡ check_fault s;
+    }
 unfolding check_of
 told s r e =
     let long = ltb limit (length s) in
-    let whole = eqb (valid_prefix s) (length s) in (
-      e,
-      (
-        ap check_number e ∙ of_choice check_number long refl (of_choice check_number whole refl refl),
-        (
-          ap check_value e ∙ of_choice check_value long refl (of_choice check_value whole refl refl),
-          ap check_length e ∙ of_choice check_length long refl (of_choice check_length whole refl refl),
-        ),
-      ),
-    )
+    let whole = eqb (valid_prefix s) (length s) in
+    record {
+      answer = e;
+      number = ap check_number e ∙ of_choice check_number long refl (of_choice check_number whole refl refl);
+      value = ap check_value e ∙ of_choice check_value long refl (of_choice check_value whole refl refl);
+      length = ap check_length e ∙ of_choice check_length long refl (of_choice check_length whole refl refl);
+    }
 
 -- ---- from the answer to the bytes: what the check promises, without a computed definition in it
 

@@ -20,6 +20,7 @@ pub const QUOTATION_MARK: u8 = b'"';
 pub const ESCAPE: u8 = b'\\';
 
 // WSCHAR
+#[tactic(auto, unfolding(crate::specs::Classes::wschar))]
 pub fn is_wschar(b: u8) -> bool
     ensures { result ≡ wschar b }
 {
@@ -33,6 +34,7 @@ pub fn is_wschar(b: u8) -> bool
 // answer it: a shift is one test, where a match is a jump. The first number has bit `b & 63` on for
 // each byte `b` of the set, and most bytes of an atom are told by it alone. The second has bit `b` on
 // for each byte `b` of the set below 64.
+#[tactic(auto, unfolding(crate::specs::Classes::token_start))]
 pub fn is_token_start(b: u8) -> bool
     ensures { result ≡ token_start b }
 {
@@ -62,6 +64,7 @@ pub fn is_non_ascii(b: u8) -> bool
 }
 
 // LITERAL_CHAR
+#[tactic(auto, unfolding(crate::specs::Classes::literal_char))]
 pub fn is_literal_char(b: u8) -> bool
     ensures { result ≡ literal_char b }
 {
@@ -72,6 +75,7 @@ pub fn is_literal_char(b: u8) -> bool
 }
 
 // MLL_CHAR
+#[tactic(auto, unfolding(crate::specs::Classes::mll_char))]
 pub fn is_mll_char(b: u8) -> bool
     ensures { result ≡ mll_char b }
 {
@@ -82,6 +86,7 @@ pub fn is_mll_char(b: u8) -> bool
 }
 
 // BASIC_UNESCAPED
+#[tactic(auto, unfolding(crate::specs::Classes::basic_unescaped))]
 pub fn is_basic_unescaped(b: u8) -> bool
     ensures { result ≡ basic_unescaped b }
 {
@@ -92,6 +97,7 @@ pub fn is_basic_unescaped(b: u8) -> bool
 }
 
 // MLB_UNESCAPED
+#[tactic(auto, unfolding(crate::specs::Classes::mlb_unescaped))]
 pub fn is_mlb_unescaped(b: u8) -> bool
     ensures { result ≡ mlb_unescaped b }
 {
@@ -102,6 +108,7 @@ pub fn is_mlb_unescaped(b: u8) -> bool
 }
 
 // HEXDIG
+#[tactic(auto, unfolding(crate::specs::Classes::hexdig))]
 pub fn is_hexdig(b: u8) -> bool
     ensures { result ≡ hexdig b }
 {
@@ -112,6 +119,7 @@ pub fn is_hexdig(b: u8) -> bool
 }
 
 // DIGIT
+#[tactic(auto, unfolding(crate::specs::Classes::digit))]
 pub fn is_digit(b: u8) -> bool
     ensures { result ≡ digit b }
 {
@@ -122,6 +130,7 @@ pub fn is_digit(b: u8) -> bool
 }
 
 // UNQUOTED_CHAR
+#[tactic(auto, unfolding(crate::specs::Classes::unquoted_char))]
 pub fn is_unquoted_char(b: u8) -> bool
     ensures { result ≡ unquoted_char b }
 {
@@ -132,6 +141,7 @@ pub fn is_unquoted_char(b: u8) -> bool
 }
 
 // A byte inside a character, 80 to BF: no span starts or ends there.
+#[tactic(auto, unfolding(crate::specs::Classes::continuation))]
 pub fn is_continuation(b: u8) -> bool
     ensures { result ≡ continuation b }
 {

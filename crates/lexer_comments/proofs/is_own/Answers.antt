@@ -4,4 +4,4 @@ use Rattle.lexer_comments.proofs.FrontLaws.{own_sum}
 use Rattle.lexer_comments.proofs.is_own.Goals as goal
 
 pub returns : goal.returns
-returns c = λ h. own_sum c.args.b c.wrapping_add_u8.result (omega arith) c.wrapping_add_u8.ensures (leb-true _ _ h)
+returns c = λ h. own_sum c.args.b c.wrapping_add_u8.result (omega arith) c.wrapping_add_u8.ensures.value (leb-true _ _ h)

@@ -1,7 +1,6 @@
 -- `is_two` is right because the ranges are those of the table for such a first byte.
 use mathlib.Core.Bool.{false≢true}
 use Rattle.std.proofs.Common.{rules}
-use borrow.Author.Tests.{not-false}
 use Rattle.lexer_comments.proofs.FrontLaws.{two_there}
 use Rattle.lexer_comments.proofs.is_two.Goals as goal
 
@@ -9,4 +8,4 @@ pub returns-then-not-is_among : goal.returns-then-not-is_among
 returns-then-not-is_among c = λ e. absurd (false≢true e)
 
 pub returns : goal.returns
-returns c = λ e. two_there _ _ (c.is_among.ensures.0 (not-false _ c.if-not-is_among.false-raw)) (c.is_among-2.ensures.0 e)
+returns c = λ e. two_there _ _ (c.is_among.ensures.0 c.if-not-is_among.false) (c.is_among-2.ensures.0 e)

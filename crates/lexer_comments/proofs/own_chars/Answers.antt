@@ -1,6 +1,5 @@
 -- `own_chars` is right because each turn goes over whole characters, and a comment goes on with them.
 use Rattle.std.proofs.Common.{◌≡◌, ◌+◌, ◌-◌, length, get_or, arith, rules}
-use borrow.Author.Tests.{not-false}
 use Rattle.text_characters.specs.Lead.{CharacterAt, WideAt}
 use Rattle.lexer_comments.specs.Fronts.{Onward}
 use Rattle.lexer_comments.proofs.FrontLaws.{own_of, own_one, own_two, wide_over, twos_over}
@@ -41,7 +40,7 @@ loop-i-preserved-then-is_two c =
     let doc = c.args.doc.now in
     let at = c.loop-i in
     let next : at.i + 2 + 1 ≡ at.i + 3 = omega arith in
-    let one : CharacterAt doc at.i 2 = c.is_two.ensures (not-false _ c.if-not-is_two.false-raw) _ _ in
+    let one : CharacterAt doc at.i 2 = c.is_two.ensures c.if-not-is_two.false _ _ in
     let two : CharacterAt doc (at.i + 2) 2 = rw next (c.is_two-then-a-lt224.ensures c.if-is_two.true _ _) in
     (omega (arith, at.invariant.0), λ l. omega arith, λ from to. twos_over doc from at.i (omega arith) one two (at.invariant.2 from to))
 
@@ -49,7 +48,7 @@ pub loop-i-preserved-else-is_two : goal.loop-i-preserved-else-is_two
 loop-i-preserved-else-is_two c =
     let doc = c.args.doc.now in
     let at = c.loop-i in
-    let one : CharacterAt doc at.i 2 = c.is_two.ensures (not-false _ c.if-not-is_two.false-raw) _ _ in
+    let one : CharacterAt doc at.i 2 = c.is_two.ensures c.if-not-is_two.false _ _ in
     let wide : WideAt doc at.i 2 = λ _. (omega arith, one) in
     (omega (arith, at.invariant.0), λ l. omega arith, λ from to. wide_over doc from at.i 2 (omega arith) wide (at.invariant.2 from to))
 

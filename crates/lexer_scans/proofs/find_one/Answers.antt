@@ -2,7 +2,6 @@
 use Prim.Native.Nat.{◌-◌}
 use mathlib.Core.Path.{◌≡◌, refl, ap}
 use mathlib.Core.Bool.{not}
-use mathlib.Core.Logic.{⊎_elim}
 use lib.ListN.{length}
 use native.Mathlib.Omega.{arith}
 use borrow.Author.Tests.{eq-eqb, ne_eqb}
@@ -10,6 +9,7 @@ use Rattle.text_classes.proofs.RunLaws.{run_step, run_stop, run_end}
 use Rattle.lexer_scans.specs.Scans.{but_one}
 use Rattle.lexer_scans.proofs.BlockLaws.{GoesOn, goes_on_as, clear_found, clear_over}
 use Rattle.lexer_scans.proofs.find_one.Goals as goal
+use Rattle.lexer_scans.proofs.find_one.Goals.{then-doc-ge64+else-loop-i-test, else-doc-ge64}
 
 pub returns-then-n-lt64 : goal.returns-then-n-lt64
 returns-then-n-lt64 c =
@@ -28,10 +28,9 @@ loop-i-preserved c =
 pub loop-i-2-init : goal.loop-i-2-init
 loop-i-2-init c =
     let is = c.args in
-    ⊎_elim
-    (λ w. goes_on_as (but_one is.a) is.doc.now is.start w.3 w.1.inv)
-    (λ w. goes_on_as (but_one is.a) is.doc.now is.start w.1 refl)
-    c.if-doc-ge64.branch
+    elim c.if-doc-ge64.branch [
+      then-doc-ge64+else-loop-i-test w ↦ goes_on_as (but_one is.a) is.doc.now is.start w.i-is w.loop-i.invariant
+    | else-doc-ge64 w ↦ goes_on_as (but_one is.a) is.doc.now is.start w.i-is refl ]
 
 pub returns-then-doc-i : goal.returns-then-doc-i
 returns-then-doc-i c =

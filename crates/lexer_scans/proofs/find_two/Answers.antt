@@ -2,7 +2,6 @@
 use Prim.Native.Nat.{◌-◌}
 use mathlib.Core.Path.{◌≡◌, refl, sym, ap, ◌∙◌}
 use mathlib.Core.Bool.{not}
-use mathlib.Core.Logic.{⊎_elim}
 use lib.ListN.{length}
 use native.Mathlib.Omega.{arith}
 use borrow.Author.Rules.{rules}
@@ -10,6 +9,7 @@ use Rattle.text_classes.proofs.RunLaws.{run_step, run_stop, run_end}
 use Rattle.lexer_scans.specs.Scans.{but_two}
 use Rattle.lexer_scans.proofs.BlockLaws.{GoesOn, goes_on_as, clear_found, clear_over}
 use Rattle.lexer_scans.proofs.find_two.Goals as goal
+use Rattle.lexer_scans.proofs.find_two.Goals.{then-doc-ge48+else-loop-i-test, else-doc-ge48}
 
 pub returns-then-n-lt48 : goal.returns-then-n-lt48
 returns-then-n-lt48 c =
@@ -28,10 +28,9 @@ loop-i-preserved c =
 pub loop-i-2-init : goal.loop-i-2-init
 loop-i-2-init c =
     let is = c.args in
-    ⊎_elim
-    (λ w. goes_on_as (but_two is.a is.b) is.doc.now is.start w.3 w.1.inv)
-    (λ w. goes_on_as (but_two is.a is.b) is.doc.now is.start w.1 refl)
-    c.if-doc-ge48.branch
+    elim c.if-doc-ge48.branch [
+      then-doc-ge48+else-loop-i-test w ↦ goes_on_as (but_two is.a is.b) is.doc.now is.start w.i-is w.loop-i.invariant
+    | else-doc-ge48 w ↦ goes_on_as (but_two is.a is.b) is.doc.now is.start w.i-is refl ]
 
 pub returns-then-is_two : goal.returns-then-is_two
 returns-then-is_two c =

@@ -13,13 +13,13 @@ use Rattle.lexer_scans.proofs.wschar_run.Goals as goal
 pub returns-then-not-is_wschar : goal.returns-then-not-is_wschar
 returns-then-not-is_wschar c =
     let doc = c.args.doc.now in
-    let stop = sym c.is_wschar.ensures ∙ not-true _ c.if-not-is_wschar.true-raw in
+    let stop = sym c.is_wschar.ensures ∙ c.if-not-is_wschar.true in
     omega (arith, run_stop wschar doc c.loop-i.i (omega arith) stop)
 
 pub loop-i-preserved : goal.loop-i-preserved
 loop-i-preserved c =
     let doc = c.args.doc.now in
-    let passed = sym c.is_wschar.ensures ∙ not-false _ c.if-not-is_wschar.false-raw in
+    let passed = sym c.is_wschar.ensures ∙ c.if-not-is_wschar.false in
     omega (arith, run_step wschar doc c.loop-i.i (omega arith) passed)
 
 pub returns : goal.returns

@@ -7,9 +7,6 @@ use lib.Seq.{paste}
 use Rattle.lexer_token.proofs.CopyLaws.{copy_turn, copy_end}
 use Rattle.lexer_token.proofs.described_by.Goals as goal
 
-pub loop-i-init : goal.loop-i-init
-loop-i-init c = (omega arith, refl)
-
 pub loop-i-preserved : goal.loop-i-preserved
 loop-i-preserved c =
     let text = c.args.text.now in

@@ -9,16 +9,6 @@ use borrow.Author.Rules.{rules}
 use Rattle.table_classes.specs.Classed.{byte_of}
 use Rattle.table_classes.proofs.is_triple.Goals as goal
 
-pub overflow_add-i : goal.overflow_add-i
-overflow_add-i c =
-    let is = c.args in
-    omega (arith, stands_there (byte_of is.sign) is.s.now is.i (sym c.is_at.ensures ∙ c.if-is_at.true))
-
-pub overflow_add-i-then-is_at-2 : goal.overflow_add-i-then-is_at-2
-overflow_add-i-then-is_at-2 c =
-    let is = c.args in
-    omega (arith, stands_there (byte_of is.sign) is.s.now (is.i + 1) (sym c.is_at-then-is_at.ensures ∙ c.if-is_at-2.true))
-
 pub returns-then-is_at-2 : goal.returns-then-is_at-2
 returns-then-is_at-2 c =
     let first = sym c.is_at.ensures ∙ c.if-is_at.true in

@@ -9,9 +9,6 @@ use Rattle.text_scalars.proofs.FieldLaws.{bits_left, bits_right}
 use Rattle.text_classes.proofs.RunLaws.{Block, block_start, block_step, block_end}
 use Rattle.text_ascii.proofs.ascii_block.Goals as goal
 
-pub loop-j-init : goal.loop-j-init
-loop-j-init c = (omega arith, λ h. block_start ascii c.args.s.now c.args.i)
-
 pub loop-j-preserved : goal.loop-j-preserved
 loop-j-preserved c =
     let s = c.args.s.now in
@@ -24,9 +21,3 @@ loop-j-preserved c =
           let passed : Block ascii s i at.j = at.invariant.1 (omega (arith, bits_left at.bits byte)) in
           block_step ascii s i at.j (omega arith) (lt-ltb byte 0x80 low) passed,
     )
-
-pub returns : goal.returns
-returns c =
-    let a = c.args in
-    let at = c.loop-j in
-    λ h. block_end ascii a.s.now a.i at.j a.n (omega arith) (at.invariant.1 (ltb-true _ _ h))

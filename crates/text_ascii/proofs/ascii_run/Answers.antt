@@ -1,6 +1,5 @@
 -- `ascii_run` is right because neither a word, nor a block, nor a byte of ASCII moves the end of the run.
 use Prim.Native.Nat.{◌-◌}
-use mathlib.Core.Logic.{⊎_elim}
 use native.Mathlib.Omega.{arith}
 use borrow.Author.Tests.{lt-ltb, le-ltb}
 use lib.ListN.{length}
@@ -8,15 +7,12 @@ use Rattle.text_scalars.specs.Utf8Read.{ascii}
 use Rattle.text_classes.specs.Runs.{run}
 use Rattle.text_classes.proofs.RunLaws.{run_stop, run_end, SameEnd, same_end_byte, same_end_reached}
 use Rattle.text_ascii.proofs.ascii_run.Goals as goal
+use Rattle.text_ascii.proofs.ascii_run.Goals.{then-near-start, else-near-start}
 
 pub returns-then-s-start : goal.returns-then-s-start
 returns-then-s-start c =
     let a = c.args in
     omega (arith, run_end ascii a.s.now a.start (omega arith))
-
-pub loop-i-init : goal.loop-i-init
-loop-i-init c =
-    ⊎_elim (λ w. rw w.3 (omega (arith, w.1.ensures, w.2.ensures))) (λ w. rw w.1 (omega arith)) c.if-near-start.branch
 
 pub returns-then-s-i-ge128 : goal.returns-then-s-i-ge128
 returns-then-s-i-ge128 c =

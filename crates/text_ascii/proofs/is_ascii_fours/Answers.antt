@@ -8,13 +8,10 @@ use lib.ListN.{get_or}
 use Rattle.text_ascii.proofs.WordLaws.{four_ascii}
 use Rattle.text_ascii.proofs.is_ascii_fours.Goals as goal
 
-pub returns-then-four-ne0 : goal.returns-then-four-ne0
-returns-then-four-ne0 c = λ e. absurd (false≢true e)
-
 pub returns : goal.returns
 returns c = λ e.
     let a = c.args in
-    let known = c.shared_slice_known-1.given in
+    let known = c.type_inv.s in
     let byte : (k : ℕ) → get_or a.s.now k 0 < 256 = λ k. omega (arith, known k) in (
       four_ascii a.s.now 0 (omega arith) byte _ c.four.ensures c.if-four-ne0.false,
       four_ascii a.s.now a.i (omega arith) byte _ c.four-2.ensures (eqb-true _ _ e),

@@ -8,16 +8,10 @@ use lib.ListN.{length, get_or}
 use Rattle.text_ascii.proofs.WordLaws.{word_ascii}
 use Rattle.text_ascii.proofs.is_ascii_word.Goals as goal
 
-pub returns-then-s-lt8 : goal.returns-then-s-lt8
-returns-then-s-lt8 c = λ e. absurd (false≢true e)
-
-pub returns-then-s-i : goal.returns-then-s-i
-returns-then-s-i c = λ e. absurd (false≢true e)
-
 pub returns : goal.returns
 returns c = λ e.
     let a = c.args in
-    let known = c.shared_slice_known-1.given in
+    let known = c.type_inv.s in
     let byte : (k : ℕ) → get_or a.s.now k 0 < 256 = λ k. omega (arith, known k) in
     let there : a.i + 8 ≤ length a.s.now = omega arith in
     let p = c.pair in

@@ -1,27 +1,12 @@
 -- `chars_run` is right because each turn goes over one whole character, or over several of two or of four bytes.
 use Prim.Native.Nat.{◌+◌, ◌-◌}
 use mathlib.Core.Path.{◌≡◌}
-use borrow.Author.Tests.{not-false}
 use native.Mathlib.Omega.{arith}
 use lib.Count.{leading_le}
 use lib.ListN.{length, get_or}
 use Rattle.text_scalars.specs.Utf8Read.{Along}
 use Rattle.text_characters.proofs.CharLaws.{along_ascii, along_whole}
 use Rattle.text_characters.proofs.chars_run.Goals as goal
-
-pub returns-then-s-start : goal.returns-then-s-start
-returns-then-s-start c = λ h. absurd (omega arith)
-
-pub returns-then-s-lt4 : goal.returns-then-s-lt4
-returns-then-s-lt4 c = λ h. omega arith
-
-pub overflow_cast-ones : goal.overflow_cast-ones
-overflow_cast-ones c =
-    let a = c.args in
-    omega (arith, leading_le 8 (255 - get_or a.s.now c.loop-i.i 0))
-
-pub returns-then-is_ascii_word : goal.returns-then-is_ascii_word
-returns-then-is_ascii_word c = λ h. c.loop-i.invariant
 
 pub loop-i-preserved-then-a-lt128 : goal.loop-i-preserved-then-a-lt128
 loop-i-preserved-then-a-lt128 c =
@@ -45,28 +30,16 @@ loop-i-preserved-then-is_two c =
     let at = c.loop-i in
     along_whole a.s.now a.start at.i 2 (omega arith) (c.is_two.ensures c.if-is_two.true _ _) at.invariant
 
-pub returns-else-is_two : goal.returns-else-is_two
-returns-else-is_two c = λ h. c.loop-i.invariant
-
-pub returns-then-not-is_three : goal.returns-then-not-is_three
-returns-then-not-is_three c = λ h. c.loop-i.invariant
-
 pub loop-i-preserved-then-ones-eq3 : goal.loop-i-preserved-then-ones-eq3
 loop-i-preserved-then-ones-eq3 c =
     let a = c.args in
     let at = c.loop-i in
-    along_whole a.s.now a.start at.i 3 (omega arith) (c.is_three.ensures (not-false _ c.if-not-is_three.false-raw) _) at.invariant
-
-pub returns-then-not-is_four : goal.returns-then-not-is_four
-returns-then-not-is_four c = λ h. c.loop-i.invariant
+    along_whole a.s.now a.start at.i 3 (omega arith) (c.is_three.ensures c.if-not-is_three.false _) at.invariant
 
 pub loop-i-preserved : goal.loop-i-preserved
 loop-i-preserved c =
     let a = c.args in
     let at = c.loop-i in
-    let four = along_whole a.s.now a.start at.i 4 (omega arith) (c.is_four.ensures (not-false _ c.if-not-is_four.false-raw)) at.invariant in
+    let four = along_whole a.s.now a.start at.i 4 (omega arith) (c.is_four.ensures c.if-not-is_four.false) at.invariant in
     let more = c.fours_run-i.ensures in
     (omega (arith, four, more), omega (arith, more), omega (arith, four, more))
-
-pub returns : goal.returns
-returns c = λ h. c.loop-i.invariant

@@ -1,20 +1,13 @@
 -- `fours_run` is right because each turn goes over one whole character.
 use Prim.Native.Nat.{◌-◌}
-use borrow.Author.Tests.{not-false}
 use native.Mathlib.Omega.{arith}
 use lib.ListN.{length}
 use Rattle.text_scalars.specs.Utf8Read.{Along}
 use Rattle.text_characters.proofs.CharLaws.{along_whole}
 use Rattle.text_characters.proofs.fours_run.Goals as goal
 
-pub returns-then-not-is_four_word : goal.returns-then-not-is_four_word
-returns-then-not-is_four_word c = c.loop-i.invariant
-
 pub loop-i-preserved : goal.loop-i-preserved
 loop-i-preserved c =
     let a = c.args in
     let at = c.loop-i in
-    along_whole a.s.now a.start at.i 4 (omega arith) (c.is_four_word.ensures (not-false _ c.if-not-is_four_word.false-raw)) at.invariant
-
-pub returns : goal.returns
-returns c = c.loop-i.invariant
+    along_whole a.s.now a.start at.i 4 (omega arith) (c.is_four_word.ensures c.if-not-is_four_word.false) at.invariant

@@ -20,6 +20,3 @@ pub returns-then-a-eq244 : goal.returns-then-a-eq244
 returns-then-a-eq244 c =
     let a = c.args.a in
     λ t. asked a 4 0x80 0x8F _ (four_f4 a (omega arith) c.requires c.if-a-eq240.false c.if-a-lt244.false c.if-a-eq244.true) (c.is_among-then-a-eq244.ensures.0 t)
-
-pub returns : goal.returns
-returns c = λ t. absurd (false≢true t)

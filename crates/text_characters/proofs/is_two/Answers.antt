@@ -6,9 +6,6 @@ use Rattle.text_characters.proofs.CharLaws.{asked}
 use Rattle.text_characters.proofs.OnesLaws.{two_ones}
 use Rattle.text_characters.proofs.is_two.Goals as goal
 
-pub returns-then-a-lt194 : goal.returns-then-a-lt194
-returns-then-a-lt194 c = λ t. absurd (false≢true t)
-
 pub returns : goal.returns
 returns c =
     let a = c.args.a in

@@ -9,19 +9,10 @@ use lib.ListN.{get_or}
 use Rattle.text_characters.proofs.FourLaws.{word_twos}
 use Rattle.text_characters.proofs.is_two_twice.Goals as goal
 
-pub returns-then-s-i-lt192 : goal.returns-then-s-i-lt192
-returns-then-s-i-lt192 c = λ e. absurd (false≢true e)
-
-pub returns-then-word-ne2160099520 : goal.returns-then-word-ne2160099520
-returns-then-word-ne2160099520 c = λ e. absurd (false≢true e)
-
-pub returns-then-word-eq0 : goal.returns-then-word-eq0
-returns-then-word-eq0 c = λ e. absurd (false≢true e)
-
 pub returns : goal.returns
 returns c = λ e.
     let a = c.args in
-    let known = c.shared_slice_known-1.given in
+    let known = c.type_inv.s in
     let byte : (k : ℕ) → get_or a.s.now k 0 < 256 = λ k. omega (arith, known k) in
     let both = word_twos (get_or a.s.now a.i 0) (get_or a.s.now (a.i + 1) 0) (get_or a.s.now (a.i + 2) 0) (get_or a.s.now (a.i + 3) 0)
     (byte _) (byte _) (byte _) (byte _)

@@ -8,9 +8,6 @@ use Rattle.text_characters.proofs.LeadLaws.{row_is}
 use Rattle.text_characters.proofs.OnesLaws.{ones_key, ones_none, ones_few, ones_many, ones_rest}
 use Rattle.text_characters.proofs.lead_of.Goals as goal
 
-pub overflow_cast-ones : goal.overflow_cast-ones
-overflow_cast-ones c = omega (arith, leading_le 8 (255 - c.args.a))
-
 pub returns-then-ones-eq0 : goal.returns-then-ones-eq0
 returns-then-ones-eq0 c = ones_none c.args.a (omega arith) c.if-ones-eq0.true
 

@@ -7,11 +7,6 @@ use lib.ListN.{get_or}
 use Rattle.text_characters.proofs.CharLaws.{wide_counted}
 use Rattle.text_characters.proofs.wide_at.Goals as goal
 
-pub overflow_cast-ones : goal.overflow_cast-ones
-overflow_cast-ones c =
-    let a = c.args in
-    omega (arith, leading_le 8 (255 - get_or a.s.now a.at 0))
-
 pub returns-then-ones-lt3 : goal.returns-then-ones-lt3
 returns-then-ones-lt3 c =
     let a = c.args in
@@ -21,8 +16,3 @@ pub returns-then-ones-eq3 : goal.returns-then-ones-eq3
 returns-then-ones-eq3 c =
     let a = c.args in
     wide_counted a.s.now a.at 3 _ _ (omega arith) (λ t. c.is_three.ensures t _) c.counted-then-ones-eq3.ensures
-
-pub returns : goal.returns
-returns c =
-    let a = c.args in
-    wide_counted a.s.now a.at 4 _ _ (omega arith) (λ t. c.is_four.ensures t) c.counted-2.ensures

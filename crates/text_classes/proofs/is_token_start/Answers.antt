@@ -3,14 +3,13 @@
 use Prim.Native.Nat.{ℕ, ◌/◌, ◌^◌, ◌<◌}
 use mathlib.Core.Path.{◌≡◌, sym, ap, ◌∙◌}
 use mathlib.Core.Bool.{Bool, true, false, cond}
-use mathlib.Core.List.{List, [], ◌∷◌}
 use native.Mathlib.Omega.{arith}
 use borrow.Author.Rules.{rules}
 use borrow.Author.Tests.{eq-eqb}
 use lib.Dec.{eqb}
 use lib.Bits.{bit_and, and_le_r}
 use Rattle.text_classes.specs.Classes.{token_start}
-use Rattle.text_classes.proofs.ByteTable.{classes_agree, keys_are, rest_is}
+use Rattle.text_classes.proofs.ByteTable.{classes_agree}
 use Rattle.text_classes.proofs.is_token_start.Goals as goal
 
 -- the bit of the first number at the low six bits of a byte
@@ -32,30 +31,8 @@ off b h e = ap (λ (t : Bool). cond t false (token_start b)) (sym (eq-eqb _ _ e)
 abbrev bit : ℕ → Bool
 bit n = eqb (bit_and (0x2000500900002600 / 2 ^ n) 1) 1
 
-abbrev brackets : List ℕ
-brackets = 0x5B ∷ 0x5D ∷ 0x7B ∷ 0x7D ∷ []
-
-pub overflow_shr-wide : goal.overflow_shr-wide
-overflow_shr-wide c = omega (arith, and_le_r c.wide.result 63)
-
-pub returns-then-wide-eq0 : goal.returns-then-wide-eq0
-returns-then-wide-eq0 c =
-    let b = c.args.b in
-    off b (omega arith) (ap low_bit (sym c.wide.ensures) ∙ c.if-wide-eq0.true)
-
 pub returns-then-b-lt64 : goal.returns-then-b-lt64
 unfolding token_start
 returns-then-b-lt64 c =
     let b = c.args.b in
     ap bit c.wide-then-b-lt64.ensures ∙ classes_agree bit token_start 0 64 tt b (omega arith) (omega arith)
-
-pub returns-in-91 : goal.returns-in-91
-unfolding token_start
-returns-in-91 c = keys_are true token_start brackets tt c.in-91.is
-
-pub returns-in_default : goal.returns-in_default
-unfolding token_start
-returns-in_default c =
-    let b = c.args.b in
-    let no_key = c.in_default.in_default-own.rest.1 in
-    rest_is false token_start brackets 64 192 tt b no_key (omega arith) (omega arith)

@@ -8,16 +8,6 @@ use Rattle.text_classes.proofs.TripleLaws.{triple_at}
 use borrow.Author.Rules.{rules}
 use Rattle.text_classes.proofs.is_triple.Goals as goal
 
-pub overflow_add-i : goal.overflow_add-i
-overflow_add-i c =
-    let is = c.args in
-    omega (arith, stands_there is.q is.s.now is.i (sym c.is_at.ensures ∙ c.if-is_at.true))
-
-pub overflow_add-i-then-is_at-2 : goal.overflow_add-i-then-is_at-2
-overflow_add-i-then-is_at-2 c =
-    let is = c.args in
-    omega (arith, stands_there is.q is.s.now (is.i + 1) (sym c.is_at-then-is_at.ensures ∙ c.if-is_at-2.true))
-
 pub returns-then-is_at-2 : goal.returns-then-is_at-2
 returns-then-is_at-2 c =
     let first = sym c.is_at.ensures ∙ c.if-is_at.true in

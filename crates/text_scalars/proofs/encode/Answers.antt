@@ -5,11 +5,6 @@ use Rattle.text_scalars.specs.Encode.{encoded_of}
 use Rattle.text_scalars.proofs.EncodeLaws.{true_scalar, scalar_lt}
 use Rattle.text_scalars.proofs.encode.Goals as goal
 
-pub encode_scalar-requires : goal.encode_scalar-requires
-encode_scalar-requires c =
-    let x = c.args.c in
-    scalar_lt x (true_scalar x (sym c.is_scalar.ensures ∙ c.if-is_scalar.true))
-
 pub returns-then-is_scalar : goal.returns-then-is_scalar
 unfolding encoded_of
 returns-then-is_scalar c = rw (sym c.is_scalar.ensures ∙ c.if-is_scalar.true) c.encode_scalar.ensures

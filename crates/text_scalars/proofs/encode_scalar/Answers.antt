@@ -8,25 +8,16 @@ use Rattle.text_scalars.proofs.encode_scalar.Goals as goal
 pub returns-then-c-lt128 : goal.returns-then-c-lt128
 returns-then-c-lt128 c = rw (encode_1 c.args.c c.if-c-lt128.true)
 
-pub overflow_cast-result-then-c-lt2048 : goal.overflow_cast-result-then-c-lt2048
-overflow_cast-result-then-c-lt2048 c = omega (arith, lead_2 c.args.c (omega arith))
-
 pub returns-then-c-lt2048 : goal.returns-then-c-lt2048
 returns-then-c-lt2048 c =
     let x = c.args.c in
     rw (encode_2 x (omega arith) (omega arith), lead_2 x (omega arith), c.tail.ensures)
-
-pub overflow_cast-result-then-c-lt65536 : goal.overflow_cast-result-then-c-lt65536
-overflow_cast-result-then-c-lt65536 c = omega (arith, lead_3 c.args.c (omega arith))
 
 pub returns-then-c-lt65536 : goal.returns-then-c-lt65536
 returns-then-c-lt65536 c =
     let x = c.args.c in
     let second = c.tail-then-c-lt65536.ensures in
     rw (encode_3 x (omega arith) (omega arith), lead_3 x (omega arith), second, c.tail-then-c-lt65536-2.ensures)
-
-pub overflow_cast-result-2 : goal.overflow_cast-result-2
-overflow_cast-result-2 c = omega (arith, lead_4 c.args.c (omega arith))
 
 pub returns : goal.returns
 returns c =

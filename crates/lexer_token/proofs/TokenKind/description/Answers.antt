@@ -8,11 +8,11 @@ use Rattle.lexer_token.proofs.TokenKind.description.Goals as goal
 pub returns-in-Kind : goal.returns-in-Kind
 unfolding description_of
 returns-in-Kind c =
-    let read = sym c.in-Kind.is ∙ c.from_number.ensures.0 in
+    let read = sym c.in-Kind.is ∙ c.from_number.ensures.answer in
     described_numbers c.args.number _ (c.described.ensures ∙ ap description_by read)
 
 pub returns-in-Refused : goal.returns-in-Refused
 unfolding description_of
 returns-in-Refused c =
-    let read = sym c.in-Refused.is ∙ c.from_number.ensures.0 in
+    let read = sym c.in-Refused.is ∙ c.from_number.ensures.answer in
     described_numbers c.args.number _ (ap description_by read)

@@ -13,16 +13,6 @@ returns-then-s-at-lt128 c =
     let first = lt-ltb _ _ c.if-s-at-lt128.true in
     passed_ascii a.s.now a.at (omega arith) first _ c.ascii_run.ensures
 
-pub returns-then-at-after : goal.returns-then-at-after
-returns-then-at-after c =
-    let run = c.chars_run-after.ensures (omega arith) in
-    record {
-      within = run.1;
-      whole = run.2;
-      forward = run.0;
-      stuck = λ same. absurd (omega arith);
-    }
-
 pub overflow_add-result : goal.overflow_add-result
 overflow_add-result c =
     let a = c.args in
