@@ -2,7 +2,6 @@
 -- Assumes nothing.
 use Prim.Native.Nat.{ℕ, zero, suc, ◌+◌, ◌-◌, ◌≤◌, ◌<◌}
 use mathlib.Core.Path.{◌≡◌, refl, sym, ap, ◌∙◌}
-use mathlib.Core.Logic.{◌⊎◌, inl, inr}
 use mathlib.Core.Bool.{Bool, true, false, cond, not, ◌&&◌}
 use mathlib.Core.List.{List, [], ◌∷◌}
 use native.Mathlib.Omega.{arith}
@@ -80,6 +79,10 @@ feeds_between doc i j h = omega (arith, feeds_on doc i (j - i), feeds_from doc (
 
 -- ---- at a place
 
+-- n LFs are counted before the byte at i, and m behind it: those counted and those still to come stay the same
+abbrev pub Counts : List ℕ → ℕ → ℕ → ℕ → Type 0
+Counts s i n m = (m ≤ n + 1) × (m + line_feeds (drop (i + 1) s) ≡ n + line_feeds (drop i s))
+
 module _ (s : List ℕ) (i : ℕ) (h : i < length s) where
   split : drop i s ≡ get_or s i 0 ∷ drop (i + 1) s
   split = rw (add-one, drop-cons s i 0)
@@ -91,11 +94,11 @@ module _ (s : List ℕ) (i : ℕ) (h : i < length s) where
   feeds_at_other e = rw split (other_front (get_or s i 0) (drop (i + 1) s) e)
 
   -- where `if byte == LF { n += 1; }` makes m of n, the LFs counted and those still to come stay the same
-  pub feeds_counted : (n m : ℕ) {A B : Type 0} → (A → get_or s i 0 ≡ 10) → (B → get_or s i 0 ≡ 10 → ⊥)
-      → (A × (m ≡ n + 1)) ⊎ (B × (m ≡ n))
-      → (m ≤ n + 1) × (m + line_feeds (drop (i + 1) s) ≡ n + line_feeds (drop i s))
-  feeds_counted n m f g (inl w) = let e = w.1 in (omega arith, omega (arith, feeds_at_lf (f w.0)))
-  feeds_counted n m f g (inr w) = let e = w.1 in (omega arith, omega (arith, feeds_at_other (g w.0)))
+  pub feeds_lf : (n m : ℕ) → get_or s i 0 ≡ 10 → m ≡ n + 1 → Counts s i n m
+  feeds_lf n m f e = (omega arith, omega (arith, feeds_at_lf f))
+
+  pub feeds_other : (n m : ℕ) → (get_or s i 0 ≡ 10 → ⊥) → m ≡ n → Counts s i n m
+  feeds_other n m f e = (omega arith, omega (arith, feeds_at_other f))
 
 pub feeds_end : (s : List ℕ) (i : ℕ) → length s ≤ i → line_feeds (drop i s) ≡ 0
 feeds_end s i h = rw (drop_of_length-le s h) feeds_none

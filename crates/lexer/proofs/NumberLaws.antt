@@ -22,11 +22,15 @@ use Rattle.lexer.specs.declared.Step.{Step}
 use Rattle.lexer.specs.declared.Lexed.{Lexed}
 
 pub started : (doc : List ℕ) (r : Start) → r ≡ start_answer doc
-    → (r ≡ start_answer doc) × ((start_number r ≡ start_refusal doc) × (start_value r ≡ start_returned doc))
+    → record { answer : r ≡ start_answer doc; number : start_number r ≡ start_refusal doc; value : start_value r ≡ start_returned doc }
 unfolding start_answer
 started doc r e =
     let long = ltb limit (length doc) in
-    (e, (ap start_number e ∙ of_choice start_number long refl refl, ap start_value e ∙ of_choice start_value long refl refl))
+    record {
+      answer = e;
+      number = ap start_number e ∙ of_choice start_number long refl refl;
+      value = ap start_value e ∙ of_choice start_value long refl refl;
+    }
 
 -- a step within the document is answered
 within_numbers : (doc : List ℕ) (c : Cursor) → (step_number (step_within doc c) ≡ 0) × (step_value (step_within doc c) ≡ 0)
@@ -37,18 +41,17 @@ within_numbers doc c =
     (λ _. (refl, refl))
 
 pub stepped : (doc : List ℕ) (c : Cursor) (r : Step) → r ≡ step_of doc c
-    → (r ≡ step_of doc c) × ((step_number r ≡ step_refusal doc c) × (step_value r ≡ step_returned doc c))
+    → record { answer : r ≡ step_of doc c; number : step_number r ≡ step_refusal doc c; value : step_value r ≡ step_returned doc c }
 unfolding step_of
 stepped doc c r e =
     let long = ltb limit (length doc) in
     let beyond = astray doc c in
-    let rest = within_numbers doc c in (
-      e,
-      (
-        ap step_number e ∙ of_choice step_number long refl (of_choice step_number beyond refl rest.0),
-        ap step_value e ∙ of_choice step_value long refl (of_choice step_value beyond refl rest.1),
-      ),
-    )
+    let rest = within_numbers doc c in
+    record {
+      answer = e;
+      number = ap step_number e ∙ of_choice step_number long refl (of_choice step_number beyond refl rest.0);
+      value = ap step_value e ∙ of_choice step_value long refl (of_choice step_value beyond refl rest.1);
+    }
 
 lexed_numbers : (doc : List ℕ) (room : ℕ) (r : Lexed) → r ≡ lex_answer doc room
     → (lexed_number r ≡ lex_refusal doc room) × ((lexed_value r ≡ lex_returned doc) × (lexed_length r ≡ check_fault doc))
@@ -74,6 +77,13 @@ lexed_numbers doc room r e =
 -- the five promises of whole lexing, from the answer and the memory
 pub lexed : (doc : List ℕ) (old : List (List ℕ)) (r : Lexed) (new : List (List ℕ))
     → r ≡ lex_answer doc (length old) → new ≡ lex_memory doc old
-    → (r ≡ lex_answer doc (length old)) × ((lexed_number r ≡ lex_refusal doc (length old)) × ((lexed_value r ≡ lex_returned doc)
-    × ((lexed_length r ≡ check_fault doc) × (new ≡ lex_memory doc old))))
-lexed doc old r new e m = let n = lexed_numbers doc (length old) r e in (e, (n.0, (n.1.0, (n.1.1, m))))
+    → record {
+      answer : r ≡ lex_answer doc (length old);
+      number : lexed_number r ≡ lex_refusal doc (length old);
+      value : lexed_value r ≡ lex_returned doc;
+      length : lexed_length r ≡ check_fault doc;
+      memory : new ≡ lex_memory doc old;
+    }
+lexed doc old r new e m =
+    let n = lexed_numbers doc (length old) r e in
+    record { answer = e; number = n.0; value = n.1.0; length = n.1.1; memory = m }

@@ -11,7 +11,7 @@ use native.Mathlib.Omega.{arith}
 use borrow.Author.Tests.{ne_eqb, eqb-true, eqb-false, le-leb, lt-leb, lt-ltb}
 use lib.Dec.{eqb}
 use lib.ListN.{length, take, drop}
-use lib.Seq.{take_nil}
+use lib.Seq.{take-nil}
 use Rattle.text_classes.specs.Classes.{continuation}
 use Rattle.text_classes.proofs.Conds.{cond_case}
 use Rattle.text_scalars.specs.Utf8.{Scalar, encode_scalar, encodes, All, Utf8}
@@ -100,7 +100,7 @@ begun_none (c ∷ cs) = refl
 
 columns : (cs : List ℕ) (n k : ℕ) → column_behind (1 + k) (take n (encodes cs)) ≡ 1 + on_line k (begun n cs)
 unfolding column_behind on_line begun
-columns [] n k = rw (take_nil n)
+columns [] n k = rw (take-nil n)
 columns (c ∷ cs) zero k = refl
 columns (c ∷ cs) (suc n) k =
     rw (begun_more c n cs)
@@ -151,7 +151,7 @@ unmarked_begun c (suc n) cs other = rw (begun_more c n cs, ne_eqb c 0xFEFF other
 
 means : (cs : List ℕ) (n : ℕ) → All Scalar cs → Means cs n
 unfolding start_of column_behind on_line begun
-means [] n h = rw (take_nil n)
+means [] n h = rw (take-nil n)
 means (c ∷ cs) n h = go (eqb c 0xFEFF) refl
   where
     go : (t : Bool) → eqb c 0xFEFF ≡ t → Means (c ∷ cs) n

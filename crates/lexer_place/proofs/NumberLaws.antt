@@ -15,28 +15,29 @@ use Rattle.lexer_place.specs.declared.SpanCheck.{SpanCheck}
 use Rattle.lexer_place.specs.declared.Position.{Position}
 
 pub span_checked : (doc : List ℕ) (s : Span) (r : SpanCheck) → r ≡ span_answer doc s
-    → (r ≡ span_answer doc s) × ((span_number r ≡ span_refusal doc s) × (span_value r ≡ span_returned doc s))
+    → record { answer : r ≡ span_answer doc s; number : span_number r ≡ span_refusal doc s; value : span_value r ≡ span_returned doc s }
 unfolding span_answer
 span_checked doc s r e =
     let long = ltb limit (length doc) in
-    let bad = misplaced doc s in (
-      e,
-      (
-        ap span_number e ∙ of_choice span_number long refl (of_choice span_number bad refl refl),
-        ap span_value e ∙ of_choice span_value long refl (of_choice span_value bad refl refl),
-      ),
-    )
+    let bad = misplaced doc s in
+    record {
+      answer = e;
+      number = ap span_number e ∙ of_choice span_number long refl (of_choice span_number bad refl refl);
+      value = ap span_value e ∙ of_choice span_value long refl (of_choice span_value bad refl refl);
+    }
 
 pub positioned : (doc : List ℕ) (offset : ℕ) (r : Position) → r ≡ position_answer doc offset
-    → (r ≡ position_answer doc offset)
-    × ((position_number r ≡ position_refusal doc offset) × (position_value r ≡ position_returned doc offset))
+    → record {
+      answer : r ≡ position_answer doc offset;
+      number : position_number r ≡ position_refusal doc offset;
+      value : position_value r ≡ position_returned doc offset;
+    }
 unfolding position_answer
 positioned doc offset r e =
     let long = ltb limit (length doc) in
-    let beyond = ltb (length doc) offset in (
-      e,
-      (
-        ap position_number e ∙ of_choice position_number long refl (of_choice position_number beyond refl refl),
-        ap position_value e ∙ of_choice position_value long refl (of_choice position_value beyond refl refl),
-      ),
-    )
+    let beyond = ltb (length doc) offset in
+    record {
+      answer = e;
+      number = ap position_number e ∙ of_choice position_number long refl (of_choice position_number beyond refl refl);
+      value = ap position_value e ∙ of_choice position_value long refl (of_choice position_value beyond refl refl);
+    }

@@ -159,7 +159,7 @@ nothing_left at line = let same : at ≡ at + 0 = omega arith in ap (λ (k : ℕ
 last_token : (at line : ℕ) (t : Token) → Memᴰ t (tokens_from at line []) → TokenWithin at line [] t
 last_token at line t m = elim (Memᴰ.cases_cons (subst (Memᴰ t) (nothing_left at line) m)) [
   | inl e ↦ stands_here at line [] t e
-  | inr k ↦ absurd (Memᴰ.not_nil k)
+  | inr k ↦ absurd (Memᴰ.not-nil k)
 ]
 
 abbrev EachWithin : List ℕ → Type 0

@@ -5,7 +5,6 @@ use Rattle.lexer.proofs.UntilLaws.{until_few}
 use Rattle.lexer.proofs.WholeLaws.{one_line, one_place}
 use Rattle.lexer.proofs.NextLaws.{next_parts}
 use native.Mathlib.Omega.{arith}
-use borrow.Author.Rules.{rules}
 use Rattle.lexer.proofs.by_loop.Goals as goal
 
 pub lex_until-passed-requires : goal.lex_until-passed-requires
@@ -18,6 +17,6 @@ pub returns : goal.returns
 returns c =
     let is = c.args in
     let passed = c.lex_until-passed.ensures in
-    let end = one_place is.doc.now is.at is.line _ c.requires.0 passed.1.1.0.reached in
-    let on = one_line is.doc.now is.at is.line _ c.requires.0 passed.1.0 in
+    let end = one_place is.doc.now is.at is.line _ c.requires.0 passed.place.reached in
+    let on = one_line is.doc.now is.at is.line _ c.requires.0 passed.line in
     c.next_of.ensures ∙ next_parts is.doc.now is.at is.line c.requires.2 c.token_of.ensures end on

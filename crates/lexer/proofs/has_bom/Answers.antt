@@ -1,6 +1,5 @@
 -- `has_bom` is right because it asks of the three places in the definition's order.
 use mathlib.Core.Path.{sym, ◌∙◌}
-use borrow.Author.Rules.{rules}
 use Rattle.lexer.proofs.has_bom.Goals as goal
 
 pub returns-then-is_at-2 : goal.returns-then-is_at-2

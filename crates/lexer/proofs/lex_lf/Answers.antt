@@ -9,7 +9,6 @@ use Rattle.lexer.specs.Table.{kind_by, extent}
 use Rattle.lexer.specs.Tokens.{token_by}
 use Rattle.lexer.proofs.KindLaws.{end_is}
 use Rattle.lexer.proofs.NextLaws.{next_lf}
-use borrow.Author.Rules.{rules}
 use native.Mathlib.Omega.{arith}
 use Rattle.lexer.proofs.lex_lf.Goals as goal
 

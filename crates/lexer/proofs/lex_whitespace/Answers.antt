@@ -3,7 +3,6 @@ use mathlib.Core.Path.{◌∙◌}
 use lib.Seq.{drop-drop}
 use Rattle.lexer.specs.Table.{extent}
 use Rattle.lexer.proofs.KindLaws.{end_is}
-use borrow.Author.Rules.{rules}
 use native.Mathlib.Omega.{arith}
 use Rattle.lexer.proofs.lex_whitespace.Goals as goal
 

@@ -1,7 +1,6 @@
 -- `over_lines` is right because `line_after` gives the line after the token.
 use mathlib.Core.Path.{ap, ◌∙◌}
 use Rattle.lexer.specs.Loops.{next_of}
-use borrow.Author.Rules.{rules}
 use Rattle.lexer.proofs.over_lines.Goals as goal
 
 pub returns : goal.returns

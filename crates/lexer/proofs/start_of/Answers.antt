@@ -1,7 +1,6 @@
 -- `start_of` is right because its test is the definition's.
 use mathlib.Core.Path.{sym, ◌∙◌}
 use Rattle.lexer.specs.Tokens.{start_of}
-use borrow.Author.Rules.{rules}
 use Rattle.lexer.proofs.start_of.Goals as goal
 
 pub returns-then-has_bom : goal.returns-then-has_bom

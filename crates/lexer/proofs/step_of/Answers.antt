@@ -1,5 +1,4 @@
 -- `step_of` is right because the cursor is made as the definition makes it.
-use borrow.Author.Rules.{rules}
 use Rattle.lexer.proofs.step_of.Goals as goal
 
 pub returns : goal.returns

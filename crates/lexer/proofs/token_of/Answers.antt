@@ -1,5 +1,4 @@
 -- `token_of` is right because a token is made of its kind and its span.
-use borrow.Author.Rules.{rules}
 use Rattle.lexer.proofs.token_of.Goals as goal
 
 pub returns : goal.returns

@@ -5,7 +5,7 @@ use borrow.Author.Rules.{rules}
 use Rattle.lexer_structs.proofs.first.Goals as goal
 
 pub returns-in-At : goal.returns-in-At
-returns-in-At c = sym (ap start_cursor (sym c.start.ensures.0 ∙ c.in-At.is))
+returns-in-At c = sym (ap start_cursor (sym c.start.ensures.answer ∙ c.in-At.is))
 
 pub returns-in-Refused : goal.returns-in-Refused
-returns-in-Refused c = sym (ap start_cursor (sym c.start.ensures.0 ∙ c.in-Refused.is))
+returns-in-Refused c = sym (ap start_cursor (sym c.start.ensures.answer ∙ c.in-Refused.is))

@@ -1,7 +1,6 @@
 -- `is_before_the_end` is right because its tests are the definition's, one after the other.
 use mathlib.Core.Path.{refl}
 use native.Mathlib.Omega.{arith}
-use borrow.Author.Rules.{rules}
 use Rattle.text_classes.proofs.Conds.{not_both}
 use Rattle.lexer.proofs.Cursor.is_before_the_end.Goals as goal
 

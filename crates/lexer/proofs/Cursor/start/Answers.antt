@@ -1,7 +1,6 @@
 -- `start` is right because its test is the definition's.
 use borrow.Author.Tests.{lt-ltb, le-ltb}
 use Rattle.lexer.specs.Steps.{start_answer}
-use borrow.Author.Rules.{rules}
 use Rattle.lexer.proofs.NumberLaws.{started}
 use Rattle.lexer.proofs.Cursor.start.Goals as goal
 

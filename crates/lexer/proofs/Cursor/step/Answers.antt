@@ -1,5 +1,4 @@
 -- `step` is right because a token begins at the cursor, or the step is one at the end.
-use borrow.Author.Rules.{rules}
 use Rattle.lexer.proofs.NumberLaws.{stepped}
 use Rattle.lexer.proofs.StepLaws.{stepped_over}
 use Rattle.lexer.proofs.Cursor.step.Goals as goal

@@ -1,5 +1,4 @@
 -- `step_by` is right because both engines give the token that begins at the cursor; else the step is one at the end.
-use borrow.Author.Rules.{rules}
 use Rattle.lexer.proofs.NumberLaws.{stepped}
 use Rattle.lexer.proofs.StepLaws.{stepped_over}
 use Rattle.lexer.proofs.Cursor.step_by.Goals as goal

@@ -1,12 +1,9 @@
 -- `block_feeds` is right because the LFs passed and those still to come are always the same.
-use Prim.Native.Nat.{◌+◌, ◌-◌, ◌≤◌}
-use mathlib.Core.Path.{◌≡◌}
-use lib.ListN.{drop}
-use Rattle.lexer.specs.Lines.{line_feeds}
-use Rattle.lexer.proofs.LineLaws.{feeds_counted, feeds_from, feeds_on}
-use borrow.Author.Rules.{rules}
+use Prim.Native.Nat.{◌+◌}
+use Rattle.lexer.proofs.LineLaws.{Counts, feeds_lf, feeds_other, feeds_from, feeds_on}
 use native.Mathlib.Omega.{arith}
 use Rattle.lexer.proofs.lines.block_feeds.Goals as goal
+use Rattle.lexer.proofs.lines.block_feeds.Goals.{then-doc-i-eq10, else-doc-i-eq10}
 
 pub loop-j-init : goal.loop-j-init
 loop-j-init c =
@@ -19,7 +16,11 @@ loop-j-preserved c =
     let doc = is.doc.now in
     let now = c.loop-j in
     let at = is.i + now.j in
-    let one = feeds_counted doc at (omega arith) now.n c.if-doc-i-eq10.n (λ w. w.taken) (λ w. w.left) c.if-doc-i-eq10.branch in
+    let one : Counts doc at now.n c.if-doc-i-eq10.n =
+    elim c.if-doc-i-eq10.branch [
+      | then-doc-i-eq10 w ↦ feeds_lf doc at (omega arith) now.n _ w.if-doc-i-eq10.true w.n-is
+      | else-doc-i-eq10 w ↦ feeds_other doc at (omega arith) now.n _ w.if-doc-i-eq10.false w.n-is
+    ] in
     let same = feeds_from doc (at + 1) (is.i + (now.j + 1)) (omega arith) in
     (omega arith, omega arith, omega arith)
 

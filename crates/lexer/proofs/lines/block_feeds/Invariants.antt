@@ -2,9 +2,6 @@ use Prim.Native.Nat.{◌+◌, ◌-◌, ◌≤◌}
 use mathlib.Core.Path.{◌≡◌}
 use lib.ListN.{drop}
 use Rattle.lexer.specs.Lines.{line_feeds}
-use Rattle.lexer.proofs.LineLaws.{feeds_counted, feeds_from, feeds_on}
-use borrow.Author.Rules.{rules}
-use native.Mathlib.Omega.{arith}
 use Rattle.lexer.proofs.lines.block_feeds.Given as goal
 
 abbrev pub invariant-loop-j : goal.invariant-loop-j

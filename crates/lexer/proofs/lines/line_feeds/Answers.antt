@@ -1,16 +1,9 @@
 -- `line_feeds` is right because neither a block nor a byte that is counted changes the LFs passed and still to come.
-use Prim.Native.Nat.{ℕ, ◌+◌, ◌-◌, ◌≤◌}
-use mathlib.Core.Path.{◌≡◌}
-use mathlib.Core.List.{List}
 use lib.ListN.{drop}
-use Rattle.lexer.specs.Lines.{line_feeds}
-use Rattle.lexer.proofs.LineLaws.{feeds_counted, feeds_from, feeds_on, feeds_between, feeds_taken}
+use Rattle.lexer.proofs.LineLaws.{Counts, feeds_lf, feeds_other, feeds_from, feeds_on, feeds_between, feeds_taken}
 use native.Mathlib.Omega.{arith}
 use Rattle.lexer.proofs.lines.line_feeds.Goals as goal
-
--- n LFs from the start up to i
-abbrev Counted : List ℕ → ℕ → ℕ → ℕ → ℕ → Type 0
-Counted doc start end n i = (start ≤ i) × (i ≤ end) × (n ≤ i) × (n + line_feeds (drop i doc) ≡ line_feeds (drop start doc))
+use Rattle.lexer.proofs.lines.line_feeds.Goals.{then-doc-i-eq10, else-doc-i-eq10}
 
 pub loop-i-init : goal.loop-i-init
 loop-i-init c = (omega arith, omega arith, omega arith, omega arith)
@@ -34,7 +27,11 @@ pub loop-i-2-preserved : goal.loop-i-2-preserved
 loop-i-2-preserved c =
     let doc = c.args.doc.now in
     let now = c.loop-i-2 in
-    let one = feeds_counted doc now.i (omega arith) now.n c.if-doc-i-eq10.n (λ w. w.taken) (λ w. w.left) c.if-doc-i-eq10.branch in
+    let one : Counts doc now.i now.n c.if-doc-i-eq10.n =
+    elim c.if-doc-i-eq10.branch [
+      | then-doc-i-eq10 w ↦ feeds_lf doc now.i (omega arith) now.n _ w.if-doc-i-eq10.true w.n-is
+      | else-doc-i-eq10 w ↦ feeds_other doc now.i (omega arith) now.n _ w.if-doc-i-eq10.false w.n-is
+    ] in
     (omega arith, omega arith, omega arith, omega arith)
 
 pub returns : goal.returns

@@ -3,8 +3,7 @@ use mathlib.Core.Path.{◌∙◌}
 use lib.ListN.{drop}
 use lib.Seq.{drop-drop}
 use Rattle.lexer.specs.Table.{extent}
-use Rattle.lexer.proofs.TagLaws.{one_byte_lem}
-use borrow.Author.Rules.{rules}
+use Rattle.lexer.proofs.TagLaws.{Single, one_byte}
 use native.Mathlib.Omega.{arith}
 use Rattle.lexer.proofs.table.end_of.Goals as goal
 
@@ -50,4 +49,17 @@ returns-in-Eof c = rw c.in-Eof.is (omega arith)
 pub returns-in_default : goal.returns-in_default
 returns-in_default c =
     let is = c.args in
-    omega (arith, one_byte_lem is.kind (drop is.at is.doc.now) c.in_default.in_default-own.keys10)
+    let others = c.in_default in
+    let single : Single is.kind =
+    record {
+      no_whitespace = others.not-Whitespace;
+      no_comment = others.not-Comment;
+      no_newline = others.not-Newline;
+      no_literal = others.not-LiteralString;
+      no_basic = others.not-BasicString;
+      no_ml_literal = others.not-MlLiteralString;
+      no_ml_basic = others.not-MlBasicString;
+      no_atom = others.not-Atom;
+      no_eof = others.not-Eof;
+    } in
+    omega (arith, one_byte is.kind (drop is.at is.doc.now) single)
