@@ -230,10 +230,10 @@ module _ (doc : List ℕ) (at n : ℕ) (within : at ≤ length doc) (front : Utf
     size = omega (arith, length-take (suc n) (drop at doc), length-drop at doc)
 
     pub value_told : refusal_value r ≡ valid_prefix token
-    value_told = simp (le-ltb limit (length token) size, check_refused token r size e) at (told token (NotValid r) e).1.1.0
+    value_told = simp (le-ltb limit (length token) size, check_refused token r size e) at (told token (NotValid r) e).value
 
     fault : refusal_length r ≡ fault_len (drop (valid_prefix token) token)
-    fault = simp (le-ltb limit (length token) size, check_refused token r size e) at (told token (NotValid r) e).1.1.1
+    fault = simp (le-ltb limit (length token) size, check_refused token r size e) at (told token (NotValid r) e).length
 
     pub fault_told : Refused (NotUtf8 (at + refusal_value r) (refusal_length r)) ≡ not_utf8 doc
     fault_told = rw (value_told, fault, ← whole_fault, ← whole_valid)

@@ -65,8 +65,12 @@ module _ (doc : List ℕ) (edition : ℕ) (f : FirstBroken → ℕ) (broken : (t
 -- ---- the four promises, from the answer
 
 pub found : (doc : List ℕ) (edition : ℕ) (r : FirstBroken) → r ≡ broken_answer doc edition
-    → (r ≡ broken_answer doc edition) × ((broken_number r ≡ broken_refusal doc edition)
-    × ((broken_value r ≡ broken_returned doc edition) × (broken_length r ≡ broken_fault doc edition)))
+    → record {
+      answer : r ≡ broken_answer doc edition;
+      number : broken_number r ≡ broken_refusal doc edition;
+      value : broken_value r ≡ broken_returned doc edition;
+      length : broken_length r ≡ broken_fault doc edition;
+    }
 unfolding broken_answer
 found doc edition r is =
     let long = ltb limit (length doc) in
@@ -74,13 +78,10 @@ found doc edition r is =
     let ts = tokens_of doc in
     let number = among doc edition broken_number (λ t e. refl) refl ts in
     let value = among doc edition broken_value (λ t e. refl) refl ts in
-    let fault = among doc edition broken_length (λ t e. refl) refl ts in (
-      is,
-      (
-        ap broken_number is ∙ of_choice broken_number long refl (of_choice broken_number named number refl),
-        (
-          ap broken_value is ∙ of_choice broken_value long refl (of_choice broken_value named value refl),
-          ap broken_length is ∙ of_choice broken_length long refl (of_choice broken_length named fault refl),
-        ),
-      ),
-    )
+    let fault = among doc edition broken_length (λ t e. refl) refl ts in
+    record {
+      answer = is;
+      number = ap broken_number is ∙ of_choice broken_number long refl (of_choice broken_number named number refl);
+      value = ap broken_value is ∙ of_choice broken_value long refl (of_choice broken_value named value refl);
+      length = ap broken_length is ∙ of_choice broken_length long refl (of_choice broken_length named fault refl);
+    }

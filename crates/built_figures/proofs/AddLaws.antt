@@ -3,7 +3,7 @@
 -- Assumes nothing.
 use Prim.Native.Nat.{ℕ, zero, suc, ◌+◌, ◌≤◌, ◌<◌, ◌^◌}
 use mathlib.Core.Path.{◌≡◌, refl, sym, ap, ◌∙◌}
-use mathlib.Core.Bool.{true, false, and_false}
+use mathlib.Core.Bool.{true, false, and-false}
 use mathlib.Core.List.{List, [], ◌∷◌, ◌++◌}
 use native.Mathlib.Omega.{arith}
 use borrow.Author.Tests.{leb-true, le-leb, lt-leb}
@@ -115,4 +115,4 @@ pub one_not : (ns : List ℕ) (i : ℕ) → greatest < get_or ns i 0 → all_fit
 unfolding all_fit
 one_not [] i h = absurd (omega arith)
 one_not (n ∷ ns) zero h = rw (lt-leb n greatest h)
-one_not (n ∷ ns) (suc i) h = rw (one_not ns i h) (and_false (leb n greatest))
+one_not (n ∷ ns) (suc i) h = rw (one_not ns i h) (and-false (leb n greatest))

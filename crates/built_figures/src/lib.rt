@@ -19,6 +19,7 @@ use decoder_rules::{Choice, Edition, Encoding, Verdict};
 use decoder_scans::plain_run;
 use lexer::{Cursor, Step};
 use lexer_token::{Token, TokenKind};
+use table_classes::Engine;
 use text::Utf8Check;
 use text_refusals::Refusal;
 
@@ -136,7 +137,7 @@ fn count_tokens(doc: &[u8], figures: &mut [u64])
         ended: false,
     };
     loop {
-        match cursor.step_by(false, doc) {
+        match cursor.step_by(Engine::Ranges, doc) {
             Step::Token(token, next) => {
                 count_token(doc, token, figures);
                 cursor = next;

@@ -40,11 +40,11 @@ module _ (l : Lexing) (s : List ℕ) (old : List (List ℕ)) where
 
   -- an answer, with the records that it leaves
   abbrev Lexes : PartLexed → List (List ℕ) → Type 0
-  Lexes x new = (x ≡ lexed_part l s (length old)) × (new ≡ part_memory l s old)
+  Lexes x new = record { answer : x ≡ lexed_part l s (length old); memory : new ≡ part_memory l s old }
 
   lexes_as : (x : PartLexed) (new : List (List ℕ)) → lexed_part l s (length old) ≡ x → new ≡ placed x (given_by l s) old → Lexes x new
   unfolding part_memory
-  lexes_as x new e w = (sym e, rw e w)
+  lexes_as x new e w = record { answer = sym e; memory = rw e w }
 
   pub part_astray : astray l ≡ true → Lexes Over old
   unfolding lexed_part
@@ -74,11 +74,11 @@ last_count l = length-append (tokens_in (pending_token (pending_of l.mode) l)) (
 
 module _ (l : Lexing) (old : List (List ℕ)) (k : ℕ) (is : k ≡ length (tokens_in (pending_token (pending_of l.mode) l))) where
   abbrev Ends : PartLexed → List (List ℕ) → Type 0
-  Ends x new = (x ≡ lexed_end l (length old)) × (new ≡ end_memory l old)
+  Ends x new = record { answer : x ≡ lexed_end l (length old); memory : new ≡ end_memory l old }
 
   ends_as : (x : PartLexed) (new : List (List ℕ)) → lexed_end l (length old) ≡ x → new ≡ placed x (last_tokens l) old → Ends x new
   unfolding end_memory
-  ends_as x new e w = (sym e, rw e w)
+  ends_as x new e w = record { answer = sym e; memory = rw e w }
 
   counts : length (last_tokens l) ≡ k + 1
   counts = last_count l ∙ omega (arith, is)

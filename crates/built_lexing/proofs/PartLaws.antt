@@ -111,7 +111,7 @@ module _ (s : List ℕ) (from : Lexing) (old : List (List ℕ)) where
 
   -- the end
   pub arrived : {new : List (List ℕ)} {l : Lexing} {n i : ℕ} → Underway s from old new l n i → length s ≤ i
-      → (n ≡ length (given_by from s)) × ((l ≡ state_after from s) × (new ≡ sets old 0 (map record_of (given_by from s))))
+      → record { count : n ≡ length (given_by from s); next : l ≡ state_after from s; memory : new ≡ sets old 0 (map record_of (given_by from s)) }
   arrived {new} {l} {n} {i} u h =
       let x = stored_all u.stored (given_end s i l h) in
-      (x.0, (sym (after_end s i l h) ∙ u.after, x.1))
+      record { count = x.0; next = sym (after_end s i l h) ∙ u.after; memory = x.1 }

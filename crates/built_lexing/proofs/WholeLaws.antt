@@ -32,7 +32,7 @@ use Rattle.built_lexing.specs.Leaps.{LeaptTo}
 use Rattle.built_lexing.specs.Whole.{Onward}
 use Rattle.built_lexing.proofs.StepLaws.{behind_le, given_at, after_at}
 use Rattle.built_lexing.proofs.LeapLaws.{whole_found, open_found, whole_leap, open_leap}
-use Rattle.built_lexing.proofs.PartLaws.{stores_join, Stored, Underway}
+use Rattle.built_lexing.proofs.PartLaws.{stores_join, Stored, Underway, leapt}
 
 -- ---- the token that begins at a place, whatever its place in the document and its line
 
@@ -245,3 +245,9 @@ module _ (s : List ℕ) where
     };
     after = sym w.after ∙ u.after;
   }
+
+  -- and in one turn of it: a leap over the token in progress, and then the whole tokens
+  pub leapt_passed : {from l m : Lexing} {old new after then : List (List ℕ)} {n i j k q : ℕ} {r : Leapt} → Underway s from old new l n i → LeaptTo l s i r
+      → q ≡ n + length (tokens_in r.given) → after ≡ sets new n (map record_of (tokens_in r.given))
+      → Onward r.next s r.place q after m j k then → Underway s from old then m k j
+  leapt_passed {from} {l} {m} {old} {new} {after} {then} {n} {i} {j} {k} {q} {r} u h a b w = passed (leapt s from old u r h q after a b) w

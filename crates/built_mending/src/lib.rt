@@ -21,6 +21,7 @@ use decoder_marks::choice_by;
 use decoder_rules::{Choice, Edition, Encoding};
 use lexer::{Cursor, Step, start_of};
 use lexer_token::{Span, Token, TokenKind};
+use table_classes::Engine;
 use text::{Utf8Check, check_utf8};
 use text_refusals::{LIMIT, Refusal};
 
@@ -141,7 +142,7 @@ fn token_at(doc: &[u8], at: usize, line: usize) -> Next
         ended: false,
     };
     let eof = Token::new(TokenKind::Eof, Span::new(at, at), line);
-    match cursor.step_by(false, doc) {
+    match cursor.step_by(Engine::Ranges, doc) {
         Step::Token(token, next) => Next {
             token,
             line: next.line,

@@ -64,11 +64,11 @@ module _ (p : Parts) (s : List ℕ) (old : List (List ℕ)) where
 
   -- an answer, with the records that it leaves
   abbrev Feeds : Fed → List (List ℕ) → Type 0
-  Feeds r new = (r ≡ feed_of p s room) × (new ≡ feed_memory p s old)
+  Feeds r new = record { answer : r ≡ feed_of p s room; memory : new ≡ feed_memory p s old }
 
   feeds_refused : (r : Fed) (x : Refusal) (q : Parts) → r ≡ fed (Refused x) q → feed_of p s room ≡ fed (Refused x) q → Feeds r old
   unfolding feed_memory
-  feeds_refused r x q e f = (e ∙ sym f, left_refused (feed_of p s room) x q (given_by p.lexing s) old f)
+  feeds_refused r x q e f = record { answer = e ∙ sym f; memory = left_refused (feed_of p s room) x q (given_by p.lexing s) old f }
 
   pub feed_over : is_over p ≡ true → (r : Fed) → r ≡ fed (Refused AfterEnd) p → Feeds r old
   unfolding feed_of
@@ -86,17 +86,17 @@ module _ (p : Parts) (s : List ℕ) (old : List (List ℕ)) where
 
       -- the tokens of the part, as they were put into the records
       module _ (c : Character) (v : ℕ) (sound : checked_from p s ≡ Good c v) (x : PartLexed) (new : List (List ℕ))
-          (lexed : (x ≡ lexed_part p.lexing s room) × (new ≡ part_memory p.lexing s old)) where
+          (lexed : record { answer : x ≡ lexed_part p.lexing s room; memory : new ≡ part_memory p.lexing s old }) where
         abbrev next : Lexing
         next = state_after p.lexing s
 
         into : x ≡ lexed_into needs room next
         unfolding lexed_part
-        into = lexed.0 ∙ rw (not_astray p going, fits)
+        into = lexed.answer ∙ rw (not_astray p going, fits)
 
         left : new ≡ placed x (given_by p.lexing s) old
         unfolding part_memory
-        left = lexed.1 ∙ ap (λ (y : PartLexed). placed y (given_by p.lexing s) old) (sym lexed.0)
+        left = lexed.memory ∙ ap (λ (y : PartLexed). placed y (given_by p.lexing s) old) (sym lexed.answer)
 
         pub feed_few : (k : ℕ) → x ≡ Few k → (r : Fed) → r ≡ fed (Refused (FewTokens k)) p → Feeds r new
         unfolding feed_of
@@ -106,7 +106,7 @@ module _ (p : Parts) (s : List ℕ) (old : List (List ℕ)) where
             go y f (few h) w =
                 let is : needs ≡ k = cc in
                 let z = feeds_refused r (FewTokens k) p a (rw (going, fits, sound, lt-ltb room needs h, is)) in
-                (z.0, w ∙ z.1)
+                record { answer = z.answer; memory = w ∙ z.memory }
             go y f (put h) w = let z : ◌≡◌ {A = ℕ} 0 1 = cc in absurd (omega arith)
 
         pub feed_given : (k : ℕ) (m : Lexing) → x ≡ Put k m → (r : Fed) → r ≡ fed (Tokens k) (parts_of m c v false) → Feeds r new
@@ -119,7 +119,7 @@ module _ (p : Parts) (s : List ℕ) (old : List (List ℕ)) where
                 let count : k ≡ needs = cc in
                 let after : m ≡ next = cc in
                 let is : feed_of p s room ≡ fed (Tokens needs) (parts_of next c v false) = rw (going, fits, sound, le-ltb room needs h) in
-                (a ∙ rw (count, after) (sym is), w ∙ rw is)
+                record { answer = a ∙ rw (count, after) (sym is); memory = w ∙ rw is }
 
         pub feed_never : {P : Type 0} → x ≡ Over → P
         feed_never {P} e = go x e (comes needs room next x into)
@@ -132,14 +132,14 @@ module _ (p : Parts) (s : List ℕ) (old : List (List ℕ)) where
 
 module _ (p : Parts) (old : List (List ℕ)) where
   abbrev Closes : Fed → List (List ℕ) → Type 0
-  Closes r new = (r ≡ close_of p (length old)) × (new ≡ close_memory p old)
+  Closes r new = record { answer : r ≡ close_of p (length old); memory : new ≡ close_memory p old }
 
   abbrev last : ℕ
   last = length (last_tokens p.lexing)
 
   closes_refused : (r : Fed) (x : Refusal) (q : Parts) → r ≡ fed (Refused x) q → close_of p (length old) ≡ fed (Refused x) q → Closes r old
   unfolding close_memory
-  closes_refused r x q e f = (e ∙ sym f, left_refused (close_of p (length old)) x q (last_tokens p.lexing) old f)
+  closes_refused r x q e f = record { answer = e ∙ sym f; memory = left_refused (close_of p (length old)) x q (last_tokens p.lexing) old f }
 
   pub close_over : is_over p ≡ true → (r : Fed) → r ≡ fed (Refused AfterEnd) p → Closes r old
   unfolding close_of
@@ -156,14 +156,14 @@ module _ (p : Parts) (old : List (List ℕ)) where
       close_bad left low high c r e = closes_refused r (NotUtf8 p.valid 0) (closed p) e (rw (going, le-ltb 16777216 p.lexing.at fits, c))
 
       module _ (whole : p.character ≡ Whole) (x : PartLexed) (new : List (List ℕ))
-          (lexed : (x ≡ lexed_end p.lexing (length old)) × (new ≡ end_memory p.lexing old)) where
+          (lexed : record { answer : x ≡ lexed_end p.lexing (length old); memory : new ≡ end_memory p.lexing old }) where
         ends : x ≡ lexed_into last (length old) p.lexing
         unfolding lexed_end
-        ends = lexed.0
+        ends = lexed.answer
 
         leaves : new ≡ placed x (last_tokens p.lexing) old
         unfolding end_memory
-        leaves = lexed.1 ∙ ap (λ (y : PartLexed). placed y (last_tokens p.lexing) old) (sym lexed.0)
+        leaves = lexed.memory ∙ ap (λ (y : PartLexed). placed y (last_tokens p.lexing) old) (sym lexed.answer)
 
         pub close_few : (k : ℕ) → x ≡ Few k → (r : Fed) → r ≡ fed (Refused (FewTokens k)) p → Closes r new
         unfolding close_of
@@ -174,7 +174,7 @@ module _ (p : Parts) (old : List (List ℕ)) where
                 let is : last ≡ k = cc in
                 let z =
                 closes_refused r (FewTokens k) p a (rw (going, le-ltb 16777216 p.lexing.at fits, whole, lt-ltb (length old) last h, is)) in
-                (z.0, w ∙ z.1)
+                record { answer = z.answer; memory = w ∙ z.memory }
             go y f (put h) w = let z : ◌≡◌ {A = ℕ} 0 1 = cc in absurd (omega arith)
 
         pub close_given : (k : ℕ) (m : Lexing) → x ≡ Put k m → (r : Fed) → r ≡ fed (Tokens k) (closed p) → Closes r new
@@ -187,7 +187,7 @@ module _ (p : Parts) (old : List (List ℕ)) where
                 let count : k ≡ last = cc in
                 let is : close_of p (length old) ≡ fed (Tokens last) (closed p) =
                 rw (going, le-ltb 16777216 p.lexing.at fits, whole, le-ltb (length old) last h) in
-                (a ∙ rw count (sym is), w ∙ rw is)
+                record { answer = a ∙ rw count (sym is); memory = w ∙ rw is }
 
         pub close_never : {P : Type 0} → x ≡ Over → P
         close_never {P} e = go x e (comes last (length old) p.lexing x ends)

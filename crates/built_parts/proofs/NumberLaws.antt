@@ -79,18 +79,24 @@ module _ (p : Parts) (s : List ℕ) (room : ℕ) where
   told_by f n e = of_choice f (is_over p) refl (of_choice f (ltb limit (p.lexing.at + length s)) refl e)
 
 pub fed_numbers : (p : Parts) (s : List ℕ) (old : List (List ℕ)) (r : Fed) (new : List (List ℕ))
-    → (r ≡ feed_of p s (length old)) × (new ≡ feed_memory p s old)
-    → (r ≡ feed_of p s (length old)) × ((number r ≡ feed_refusal p s (length old)) × ((value r ≡ feed_returned p s)
-    × ((len r ≡ feed_fault p s) × (new ≡ feed_memory p s old))))
-fed_numbers p s old r new (e, m) =
+    → record { answer : r ≡ feed_of p s (length old); memory : new ≡ feed_memory p s old }
+    → record {
+      answer : r ≡ feed_of p s (length old);
+      number : lexed_number r.answer ≡ feed_refusal p s (length old);
+      value : lexed_value r.answer ≡ feed_returned p s;
+      length : lexed_length r.answer ≡ feed_fault p s;
+      memory : new ≡ feed_memory p s old;
+    }
+fed_numbers p s old r new h =
     let x = checked_from p s in
-    let room = length old in (
-      e,
-      (
-        ap number e ∙ told_by p s room number _ (by_number p s room x),
-        (ap value e ∙ told_by p s room value _ (by_value p s room x), (ap len e ∙ told_by p s room len _ (by_len p s room x), m)),
-      ),
-    )
+    let room = length old in
+    record {
+      answer = h.answer;
+      number = ap number h.answer ∙ told_by p s room number _ (by_number p s room x);
+      value = ap value h.answer ∙ told_by p s room value _ (by_value p s room x);
+      length = ap len h.answer ∙ told_by p s room len _ (by_len p s room x);
+      memory = h.memory;
+    }
 
 -- ---- the closing word
 
@@ -121,19 +127,22 @@ module _ (p : Parts) (room : ℕ) where
   no_more false false = refl
 
 pub closed_numbers : (p : Parts) (old : List (List ℕ)) (r : Fed) (new : List (List ℕ))
-    → (r ≡ close_of p (length old)) × (new ≡ close_memory p old)
-    → (r ≡ close_of p (length old)) × ((number r ≡ close_refusal p (length old)) × ((value r ≡ close_returned p)
-    × ((len r ≡ 0) × (new ≡ close_memory p old))))
-closed_numbers p old r new (e, m) =
+    → record { answer : r ≡ close_of p (length old); memory : new ≡ close_memory p old }
+    → record {
+      answer : r ≡ close_of p (length old);
+      number : lexed_number r.answer ≡ close_refusal p (length old);
+      value : lexed_value r.answer ≡ close_returned p;
+      length : lexed_length r.answer ≡ 0;
+      memory : new ≡ close_memory p old;
+    }
+closed_numbers p old r new h =
     let c = p.character in
     let room = length old in
-    let at : p.lexing.at + 0 ≡ p.lexing.at = add-zero p.lexing.at in (
-      e,
-      (
-        ap number e ∙ close_by p room number _ (close_number p room c) ∙ rw at,
-        (
-          ap value e ∙ close_by p room value _ (close_value p room c) ∙ rw at,
-          (ap len e ∙ close_by p room len 0 (close_len p room c) ∙ no_more p room (is_over p) (ltb limit p.lexing.at), m),
-        ),
-      ),
-    )
+    let at : p.lexing.at + 0 ≡ p.lexing.at = add-zero p.lexing.at in
+    record {
+      answer = h.answer;
+      number = ap number h.answer ∙ close_by p room number _ (close_number p room c) ∙ rw at;
+      value = ap value h.answer ∙ close_by p room value _ (close_value p room c) ∙ rw at;
+      length = ap len h.answer ∙ close_by p room len 0 (close_len p room c) ∙ no_more p room (is_over p) (ltb limit p.lexing.at);
+      memory = h.memory;
+    }

@@ -41,14 +41,15 @@ module _ (k : ℕ) where
       ∙ ticks_append (take i s) (get_or s i 0 ∷ []) ∙ omega arith
 
   -- where `if byte & own != 0 { n += 1; }` makes m of n, and n are counted so far, m are counted with the next byte
-  pub ticks_counted : (i : ℕ) (s : List ℕ) (byte own n m : ℕ) {A B : Type 0} → k ≤ 1 → i < length s → byte < 256
-      → get_or s i 0 ≡ byte → own ≡ 2 ^ k → (A → bit_and byte own ≡ 0 → ⊥) → (B → bit_and byte own ≡ 0)
-      → (A × (m ≡ n + 1)) ⊎ (B × (m ≡ n)) → n ≡ ticks_in k (take i s) → m ≡ ticks_in k (take (i + 1) s)
-  ticks_counted i s byte own n m h l small here is f g (inl w) e =
-      let one = bit_set k byte h small (λ z. f w.0 (ap (bit_and byte) is ∙ z)) in
+  pub ticks_counted : (i : ℕ) (s : List ℕ) (byte own n m : ℕ) → k ≤ 1 → i < length s → byte < 256
+      → get_or s i 0 ≡ byte → own ≡ 2 ^ k
+      → ((bit_and byte own ≡ 0 → ⊥) × (m ≡ n + 1)) ⊎ ((bit_and byte own ≡ 0) × (m ≡ n))
+      → n ≡ ticks_in k (take i s) → m ≡ ticks_in k (take (i + 1) s)
+  ticks_counted i s byte own n m h l small here is (inl w) e =
+      let one = bit_set k byte h small (λ z. w.0 (ap (bit_and byte) is ∙ z)) in
       let more = w.1 in
       omega (arith, ticks_next i s l, ap (bit k) here)
-  ticks_counted i s byte own n m h l small here is f g (inr w) e =
-      let none = bit_clear k byte h small (sym (ap (bit_and byte) is) ∙ g w.0) in
+  ticks_counted i s byte own n m h l small here is (inr w) e =
+      let none = bit_clear k byte h small (sym (ap (bit_and byte) is) ∙ w.0) in
       let same = w.1 in
       omega (arith, ticks_next i s l, ap (bit k) here)

@@ -30,42 +30,56 @@ module _ (records entries reviewer token : ℕ) where
 
   -- with what the table then holds, which a promise says last
   pub marked : (r : Marking) (new after : List ℕ) → r ≡ mark_answer records entries reviewer token → new ≡ after
-      → (r ≡ mark_answer records entries reviewer token) × ((mark_number r ≡ mark_refusal records entries reviewer token)
-      × ((mark_value r ≡ mark_returned records entries reviewer token) × (new ≡ after)))
+      → record {
+        answer : r ≡ mark_answer records entries reviewer token;
+        number : mark_number r ≡ mark_refusal records entries reviewer token;
+        value : mark_value r ≡ mark_returned records entries reviewer token;
+        memory : new ≡ after;
+      }
   marked r new after e m =
-      (e, (ap mark_number e ∙ by_refusal mark_number 0 refl, (ap mark_value e ∙ by_refusal mark_value 0 refl, m)))
+      record {
+        answer = e;
+        number = ap mark_number e ∙ by_refusal mark_number 0 refl;
+        value = ap mark_value e ∙ by_refusal mark_value 0 refl;
+        memory = m;
+      }
 
 read_number_lem : (t : Bool) → read_number (cond t Ticked Unticked) ≡ 0
 read_number_lem true = refl
 read_number_lem false = refl
 
 pub asked : (records : ℕ) (marks : List ℕ) (reviewer token : ℕ) (r : TickRead) → r ≡ read_answer records marks reviewer token
-    → (r ≡ read_answer records marks reviewer token) × ((read_number r ≡ mark_refusal records (length marks) reviewer token)
-    × (read_value r ≡ read_returned records marks reviewer token))
+    → record {
+      answer : r ≡ read_answer records marks reviewer token;
+      number : read_number r ≡ mark_refusal records (length marks) reviewer token;
+      value : read_value r ≡ read_returned records marks reviewer token;
+    }
 unfolding read_answer
 asked records marks reviewer token r e =
     let rest = drop token marks in
     let set = first_is (is_set reviewer) rest in
     let number : Marking → ℕ = λ a. read_number (read_by a reviewer rest) in
-    let value : Marking → ℕ = λ a. read_value (read_by a reviewer rest) in (
-      e,
-      (
-        ap read_number e ∙ by_refusal records (length marks) reviewer token number 0 (read_number_lem set),
-        ap read_value e
-            ∙ by_refusal records (length marks) reviewer token value (cond set 1 0) (of_choice read_value set refl refl),
-      ),
-    )
+    let value : Marking → ℕ = λ a. read_value (read_by a reviewer rest) in
+    record {
+      answer = e;
+      number = ap read_number e ∙ by_refusal records (length marks) reviewer token number 0 (read_number_lem set);
+      value =
+          ap read_value e
+          ∙ by_refusal records (length marks) reviewer token value (cond set 1 0) (of_choice read_value set refl refl);
+    }
 
 pub counted : (records : ℕ) (marks : List ℕ) (reviewer : ℕ) (r : TickCount) → r ≡ count_answer records marks reviewer
-    → (r ≡ count_answer records marks reviewer) × ((count_number r ≡ count_refusal records (length marks) reviewer)
-    × (count_value r ≡ count_returned records marks reviewer))
+    → record {
+      answer : r ≡ count_answer records marks reviewer;
+      number : count_number r ≡ count_refusal records (length marks) reviewer;
+      value : count_value r ≡ count_returned records marks reviewer;
+    }
 unfolding count_answer
 counted records marks reviewer r e =
     let unknown = ltb 1 reviewer in
-    let short = ltb (length marks) records in (
-      e,
-      (
-        ap count_number e ∙ of_choice count_number unknown refl (of_choice count_number short refl refl),
-        ap count_value e ∙ of_choice count_value unknown refl (of_choice count_value short refl refl),
-      ),
-    )
+    let short = ltb (length marks) records in
+    record {
+      answer = e;
+      number = ap count_number e ∙ of_choice count_number unknown refl (of_choice count_number short refl refl);
+      value = ap count_value e ∙ of_choice count_value unknown refl (of_choice count_value short refl refl);
+    }

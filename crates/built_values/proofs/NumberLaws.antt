@@ -66,16 +66,19 @@ named_told {edition} (Named.no_edition n) = let e = not_edition edition n in (rw
 named_told {edition} (Named.named v e d) = let f = edition_is v edition e in let t = judged_told d in (rw f t.0, rw f t.1)
 
 -- beside the answer, as a promise says them
-pub told : {records : List (List ℕ)} {edition start end : ℕ} {answer : ValueCheck} → ValueAnswer records edition start end answer
-    → ValueAnswer records edition start end answer
-    × ((value_number answer ≡ value_refusal records edition start end)
-    × (value_value answer ≡ value_returned records edition start end))
+pub told : {records : List (List ℕ)} {edition start end : ℕ} {r : ValueCheck} → ValueAnswer records edition start end r
+    → record {
+      answer : ValueAnswer records edition start end r;
+      number : value_number r ≡ value_refusal records edition start end;
+      value : value_value r ≡ value_returned records edition start end;
+    }
 told {records} {edition} {start} {end} (ValueAnswer.outside h) =
-    let e = out (length records) start end h in (ValueAnswer.outside h, (rw e refl, rw e refl))
+    let e = out (length records) start end h in
+    record { answer = ValueAnswer.outside h; number = rw e refl; value = rw e refl }
 told {records} {edition} {start} {end} (ValueAnswer.within h k d) =
     let e = not_out (length records) start end h k in
     let t = named_told d in
-    (ValueAnswer.within h k d, (rw e t.0, rw e t.1))
+    record { answer = ValueAnswer.within h k d; number = rw e t.0; value = rw e t.1 }
 
 -- ---- one answer
 

@@ -24,6 +24,7 @@ pub enum BodyStep {
 
 impl Body {
     // The first piece, and the body after it. It answers for every body, one that ends past the text among them.
+    #[tactic(auto, using(crate::proofs::StepLaws::step_none))]
     pub fn step(self, e: Encoding, text: &[u8]) -> BodyStep
         ensures { result ≡ body_step e text.now self }
     {
@@ -43,6 +44,7 @@ impl Body {
     }
 
     // The bytes of the body. A piece that copies gives the first of them.
+    #[tactic(auto, using(crate::proofs::StepLaws::to_the_end))]
     pub fn bytes(self, text: &[u8]) -> &[u8]
         ensures { result.now ≡ body_bytes self text.now }
     {

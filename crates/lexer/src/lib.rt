@@ -18,6 +18,7 @@ ghost use Rattle.lexer.specs.Whole.{token_count, lex_answer, lex_memory};
 ghost use Rattle.lexer.specs.Loops.{TokenStands, GoesOn, Before, step_over, next_of, next_at, tokens_until, line_until, store, records_over};
 
 use lexer_token::{Record, Span, Token, TokenKind};
+use table_classes::Engine;
 use text::Utf8Check;
 use text_classes::{APOSTROPHE, COMMENT_START_SYMBOL, QUOTATION_MARK, is_at, is_triple};
 use text_refusals::{LIMIT, Refusal};
@@ -81,14 +82,14 @@ impl Cursor {
         self.step_at_the_end(doc)
     }
 
-    // The same, by the table of byte classes if `table` is on: for calls that walk a document themselves. `step` is for a caller that
+    // The same, by either engine: for calls that walk a document themselves. `step` is for a caller that
     // is handed one token, and is compiled into it, with `token_at`: both have that one caller, and `step_by` has the others.
-    // A bool is passed by value: so the compiler sees which of the two engines a library has, and leaves the other one out.
-    pub fn step_by(self, table: bool, doc: &[u8]) -> Step
+    pub fn step_by(self, engine: Engine, doc: &[u8]) -> Step
         ensures answer { result ≡ step_of doc.now self }
         ensures number { step_number result ≡ step_refusal doc.now self }
         ensures value { step_value result ≡ step_returned doc.now self }
     {
+        let table = is_table(engine);
         if self.is_before_the_end(doc) {
             if table {
                 return step_of(table::table_token(doc, self.place, self.line), self.ended);
@@ -146,6 +147,14 @@ fn step_of(next: Next, ended: bool) -> Step
     Step::Token(token, cursor_of(end, next.line, ended))
 }
 
+// The engine as a bool, which is passed by value: so the compiler sees which of the two a library has, and leaves the other one out.
+fn is_table(engine: Engine) -> bool {
+    match engine {
+        Engine::Ranges => false,
+        Engine::Table => true,
+    }
+}
+
 fn cursor_of(place: usize, line: usize, ended: bool) -> Cursor
     ensures { result ≡ cursor_of place line ended }
 {
@@ -160,17 +169,18 @@ pub fn lex(doc: &[u8], records: &mut [Record]) -> Lexed
     ensures length { lexed_length result ≡ check_fault doc.now }
     ensures memory { records.new ≡ lex_memory doc.now records.old }
 {
-    lex_by(false, doc, records)
+    lex_by(Engine::Ranges, doc, records)
 }
 
-// The same, by the table of byte classes if `table` is on.
-pub fn lex_by(table: bool, doc: &[u8], records: &mut [Record]) -> Lexed
+// The same by either engine.
+pub fn lex_by(engine: Engine, doc: &[u8], records: &mut [Record]) -> Lexed
     ensures answer { result ≡ lex_answer doc.now (length records.old) }
     ensures number { lexed_number result ≡ lex_refusal doc.now (length records.old) }
     ensures value { lexed_value result ≡ lex_returned doc.now }
     ensures length { lexed_length result ≡ check_fault doc.now }
     ensures memory { records.new ≡ lex_memory doc.now records.old }
 {
+    let table = is_table(engine);
     if let Utf8Check::Refused(refusal) = text::check_utf8(doc) {
         return Lexed::Refused(refusal);
     }

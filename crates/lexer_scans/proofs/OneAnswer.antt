@@ -11,6 +11,9 @@ wschar_run κs a x y s t p q = p ∙ sym q
 pub atom_run : OneAnswer promised.atom_run.Reads.Learnt
 atom_run κs a x y s t p q = p ∙ sym q
 
+pub atom_rest : OneAnswer promised.atom_rest.Reads.Learnt
+atom_rest κs a x y s t p q = p ∙ sym q
+
 pub comment_run : OneAnswer promised.comment_run.Reads.Learnt
 comment_run κs a x y s t p q = p ∙ sym q
 

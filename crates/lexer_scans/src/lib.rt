@@ -32,6 +32,13 @@ pub fn wschar_run(doc: &[u8], start: usize) -> usize
 pub fn atom_run(doc: &[u8], start: usize) -> usize
     ensures { result ≡ start + run in_atom (drop start doc.now) }
 {
+    atom_rest(doc, start)
+}
+
+// The same: for a step, whose atom is most often short.
+pub fn atom_rest(doc: &[u8], start: usize) -> usize
+    ensures { result ≡ start + run in_atom (drop start doc.now) }
+{
     let mut i = start;
     while i < doc.len() {
         if is_token_start(doc[i]) {

@@ -10,6 +10,13 @@ ghost use Rattle.text_classes.specs.Runs.{run, stands, triple};
 ghost use Rattle.table_classes.specs.Classed.{set_of, byte_of, class_of};
 ghost use Rattle.table_classes.specs.Masks.{mask_of, has_class, alone_of};
 
+// Which of the two engines reads bytes: one tests ranges, one looks each byte up in the table. All else is shared between them.
+#[derive(Clone, Copy)]
+pub enum Engine {
+    Ranges,
+    Table,
+}
+
 // The byte sets.
 #[derive(Clone, Copy)]
 pub enum Set {

@@ -12,6 +12,7 @@ ghost use Rattle.lexer.specs.Told.{step_number, step_value, step_refusal, step_r
 
 use lexer::{Cursor, Lexed};
 use lexer_token::Record;
+use table_classes::Engine;
 
 // One token at the cursor, with the next cursor.
 pub fn step(cursor: Cursor, doc: &[u8]) -> lexer::Step
@@ -19,7 +20,7 @@ pub fn step(cursor: Cursor, doc: &[u8]) -> lexer::Step
     ensures number { step_number result ≡ step_refusal doc.now cursor }
     ensures value { step_value result ≡ step_returned doc.now cursor }
 {
-    cursor.step_by(true, doc)
+    cursor.step_by(Engine::Table, doc)
 }
 
 // Whole lexing: every token into the lent records, from the front.
@@ -30,5 +31,5 @@ pub fn lex(doc: &[u8], records: &mut [Record]) -> Lexed
     ensures length { lexed_length result ≡ check_fault doc.now }
     ensures memory { records.new ≡ lex_memory doc.now records.old }
 {
-    lexer::lex_by(true, doc, records)
+    lexer::lex_by(Engine::Table, doc, records)
 }

@@ -104,7 +104,7 @@ sound_head doc t false errors rest e = absurd (let z : ◌≡◌ {A = ℕ} 0 1 =
 pub sound_tokens : (doc : List ℕ) (edition : ℕ) (ts : List Token) → first_among doc edition ts ≡ Sound
     → (t : Token) → Memᴰ t ts → token_errors doc edition t ≡ []
 unfolding first_among
-sound_tokens doc edition [] e t m = absurd (Memᴰ.not_nil m)
+sound_tokens doc edition [] e t m = absurd (Memᴰ.not-nil m)
 sound_tokens doc edition (x ∷ ts) e t m =
     let h = sound_head doc x (is_utf8 (text_of doc x)) (token_errors doc edition x) (first_among doc edition ts) e in
     elim (Memᴰ.cases_cons m) [

@@ -208,7 +208,7 @@ module _ (ed : Edition) where
   Quiet ps = (p : Part) → Memᴰ p ps → reported n p ≡ []
 
   quiet_none : Quiet []
-  quiet_none p m = absurd (Memᴰ.not_nil m)
+  quiet_none p m = absurd (Memᴰ.not-nil m)
 
   quiet_cons : (q : Part) (ps : List Part) → reported n q ≡ [] → Quiet ps → Quiet (q ∷ ps)
   quiet_cons q ps h on p m = ⊎_elim (λ e. ap (reported n) e ∙ h) (on p) (Memᴰ.cases_cons m)

@@ -15,7 +15,6 @@ returns-then-part-e c = record {
   within = omega arith;
   last = λ _. ne_eqb _ _ c.if-part-e.true;
   some = λ _ _. omega arith;
-
 }
 
 pub loop-e-preserved : goal.loop-e-preserved

@@ -8,7 +8,7 @@ pub returns-then-is_ascii : goal.returns-then-is_ascii
 returns-then-is_ascii c = sym (ascii_readable c.args.s.now c.requires (c.is_ascii.ensures c.if-is_ascii.true))
 
 pub returns-in-Valid : goal.returns-in-Valid
-returns-in-Valid c = sym (check_valid c.args.s.now (sym c.in-Valid.is ∙ c.check_utf8.ensures.0))
+returns-in-Valid c = sym (check_valid c.args.s.now (sym c.in-Valid.is ∙ c.check_utf8.ensures.answer))
 
 pub returns-in-Refused : goal.returns-in-Refused
-returns-in-Refused c = sym (check_refused c.args.s.now _ c.requires (sym c.in-Refused.is ∙ c.check_utf8.ensures.0))
+returns-in-Refused c = sym (check_refused c.args.s.now _ c.requires (sym c.in-Refused.is ∙ c.check_utf8.ensures.answer))

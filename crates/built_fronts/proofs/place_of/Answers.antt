@@ -9,5 +9,5 @@ returns c = λ h.
     let q-no = c.place_if.ensures (omega (arith, c.least-2.ensures)) in
     let z-no = c.place_if-2.ensures (omega (arith, c.least-2.ensures, c.least.ensures)) in
     let other = c.place_if-other.ensures (omega (arith, c.least-2.ensures, c.least.ensures)) in
-    clear_tests a.q a.z a.b c.wrapping_add_u8.result (omega arith) c.wrapping_add_u8.ensures
+    clear_tests a.q a.z a.b c.wrapping_add_u8.result (omega arith) c.wrapping_add_u8.ensures.value
     q-no z-no (ltb-false _ _ other)

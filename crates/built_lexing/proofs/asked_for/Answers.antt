@@ -11,4 +11,4 @@ pub fill-filled-requires : goal.fill-filled-requires
 fill-filled-requires c = (c.requires.0, c.requires.1)
 
 pub returns : goal.returns
-returns c = record { more = λ h. c.fill-filled.ensures.0; enough = λ h. omega (arith, c.fill-filled.ensures.0) }
+returns c = record { more = λ h. c.fill-filled.ensures.count; enough = λ h. omega (arith, c.fill-filled.ensures.count) }

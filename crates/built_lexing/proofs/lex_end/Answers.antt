@@ -25,15 +25,15 @@ returns-then-records-needed c =
 
 pub put-m-requires : goal.put-m-requires
 put-m-requires c =
-    omega (arith, c.put-n.ensures.0, given_one c.pending_token-token.result)
+    omega (arith, c.put-n.ensures.count, given_one c.pending_token-token.result)
 
 pub returns : goal.returns
 returns c =
     let g = c.pending_token-token.ensures in
     let old = c.args.records.now in
-    let then = c.put-n.new.0 in
-    let k : c.put-n.result ≡ c.count-needed.result = omega (arith, c.put-n.ensures.0, c.count-needed.ensures) in
-    end_put c.args.lexing c.args.records.now c.count-needed.result (c.count-needed.ensures ∙ ap (λ (g : Given). length (tokens_in g)) c.pending_token-token.ensures) (omega arith) _ then _ (omega (arith, k, c.put-m.ensures.0))
-    (c.put-n.ensures.1 ∙ ap (λ (x : Given). sets old 0 (map record_of (tokens_in x))) g)
-    (c.put-m.ensures.1 ∙ ap (λ (t : Token). sets then c.put-n.result (map record_of (t ∷ []))) c.token_of-eof.ensures
+    let then = c.put-n.new.records in
+    let k : c.put-n.result ≡ c.count-needed.result = omega (arith, c.put-n.ensures.count, c.count-needed.ensures) in
+    end_put c.args.lexing c.args.records.now c.count-needed.result (c.count-needed.ensures ∙ ap (λ (g : Given). length (tokens_in g)) c.pending_token-token.ensures) (omega arith) _ then _ (omega (arith, k, c.put-m.ensures.count))
+    (c.put-n.ensures.memory ∙ ap (λ (x : Given). sets old 0 (map record_of (tokens_in x))) g)
+    (c.put-m.ensures.memory ∙ ap (λ (t : Token). sets then c.put-n.result (map record_of (t ∷ []))) c.token_of-eof.ensures
     ∙ ap (λ (n : ℕ). sets then n (map record_of (eof_at c.args.lexing.at c.args.lexing.line ∷ []))) k)

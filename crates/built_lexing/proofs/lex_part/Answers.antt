@@ -18,7 +18,6 @@ pub asked_for-needed-requires : goal.asked_for-needed-requires
 asked_for-needed-requires c = (
   part_fits c.args.lexing.at (length c.args.part.now) c.passes_limit.result c.passes_limit.ensures c.if-passes_limit.false,
   straight_line c.args.lexing c.is_astray.result c.is_astray.ensures c.if-is_astray.false,
-
 )
 
 pub returns-then-records-needed : goal.returns-then-records-needed
@@ -29,9 +28,8 @@ pub fill-filled-requires : goal.fill-filled-requires
 fill-filled-requires c = (
   part_fits c.args.lexing.at (length c.args.part.now) c.passes_limit.result c.passes_limit.ensures c.if-passes_limit.false,
   straight_line c.args.lexing c.is_astray.result c.is_astray.ensures c.if-is_astray.false,
-
 )
 
 pub returns : goal.returns
 returns c =
-    part_put c.args.lexing c.args.part.now c.args.records.now (sym c.is_astray.ensures ∙ c.if-is_astray.false) (sym c.passes_limit.ensures ∙ c.if-passes_limit.false) _ _ _ c.fill-filled.ensures.0 c.fill-filled.ensures.1.0 (c.asked_for-needed.ensures.enough (omega arith)) c.fill-filled.ensures.1.1
+    part_put c.args.lexing c.args.part.now c.args.records.now (sym c.is_astray.ensures ∙ c.if-is_astray.false) (sym c.passes_limit.ensures ∙ c.if-passes_limit.false) _ _ _ c.fill-filled.ensures.count c.fill-filled.ensures.next (c.asked_for-needed.ensures.enough (omega arith)) c.fill-filled.ensures.memory

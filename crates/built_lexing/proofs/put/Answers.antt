@@ -7,10 +7,10 @@ use borrow.Author.Rules.{rules}
 use Rattle.built_lexing.proofs.put.Goals as goal
 
 pub returns-then-records-n : goal.returns-then-records-n
-returns-then-records-n c = rw c.in-One.is (refl, sym (set_out c.args.records.now c.args.n _ (omega arith)))
+returns-then-records-n c = rw c.in-One.is (record { count = refl; memory = sym (set_out c.args.records.now c.args.n _ (omega arith)) })
 
 pub returns-in-Nothing : goal.returns-in-Nothing
-returns-in-Nothing c = rw c.in-Nothing.is (omega arith, refl)
+returns-in-Nothing c = rw c.in-Nothing.is (record { count = omega arith; memory = refl })
 
 pub returns-else-records-n : goal.returns-else-records-n
-returns-else-records-n c = rw c.in-One.is (refl, ap (set c.args.records.now c.args.n) c.as_record.ensures)
+returns-else-records-n c = rw c.in-One.is (record { count = refl; memory = ap (set c.args.records.now c.args.n) c.as_record.ensures })

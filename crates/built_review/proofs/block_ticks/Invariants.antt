@@ -1,11 +1,5 @@
-use Prim.Native.Nat.{ℕ, ◌+◌, ◌-◌, ◌≤◌, ◌<◌}
-use mathlib.Core.Path.{◌≡◌, sym, ap, ◌∙◌}
-use native.Mathlib.Omega.{arith}
-use lib.ListN.{length, get_or, take, drop, length-drop}
-use lib.Seq.{get_or-drop}
-use borrow.Author.Rules.{rules}
+use Rattle.std.proofs.Common.{◌≡◌, ◌-◌, ◌≤◌, take, drop}
 use Rattle.built_review.specs.Review.{ticks_in}
-use Rattle.built_review.proofs.CountLaws.{ticks_none, ticks_counted, ticks_taken}
 use Rattle.built_review.proofs.block_ticks.Given as goal
 
 abbrev pub invariant-loop-j : goal.invariant-loop-j

@@ -2,7 +2,6 @@
 use lib.ListN.{length}
 use Rattle.built_review.specs.Review.{ticked_marks}
 use Rattle.built_review.proofs.NumberLaws.{marked}
-use borrow.Author.Rules.{rules}
 use Rattle.built_review.proofs.tick.Goals as goal
 
 pub returns : goal.returns
@@ -12,4 +11,4 @@ returns c =
     let records = length is.records.now in
     let marks = is.marks.now in
     let put = c.put_tick.ensures in
-    marked records (length marks) is.reviewer is.token _ _ (ticked_marks records marks is.reviewer is.token) put.0 put.1
+    marked records (length marks) is.reviewer is.token _ _ (ticked_marks records marks is.reviewer is.token) put.answer put.memory

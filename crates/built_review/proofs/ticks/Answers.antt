@@ -2,7 +2,6 @@
 use borrow.Author.Tests.{lt-ltb, le-ltb}
 use Rattle.built_review.specs.Review.{count_answer}
 use Rattle.built_review.proofs.NumberLaws.{counted}
-use borrow.Author.Rules.{rules}
 use Rattle.built_review.proofs.ticks.Goals as goal
 
 pub returns-then-reviewer-gt1 : goal.returns-then-reviewer-gt1

@@ -1,16 +1,14 @@
 -- `ticks_before` is right because each turn counts a block or a byte more with its bits.
 use Prim.Native.Nat.{ℕ, ◌+◌, ◌-◌, ◌≤◌, ◌<◌}
 use mathlib.Core.Path.{◌≡◌, refl, sym, ap, ◌∙◌}
-use mathlib.Core.List.{List}
+use mathlib.Core.Logic.{◌⊎◌, inl, inr}
 use native.Mathlib.Omega.{arith}
+use lib.Bits.{bit_and}
 use lib.ListN.{length, get_or, take, drop}
 use Rattle.built_review.specs.Review.{ticks_in}
 use Rattle.built_review.proofs.CountLaws.{ticks_none, ticks_taken, ticks_block, ticks_counted}
 use Rattle.built_review.proofs.ticks_before.Goals as goal
-
--- n ticks in the first i entries
-abbrev Counted : List ℕ → ℕ → ℕ → ℕ → ℕ → Type 0
-Counted marks end reviewer n i = (i ≤ end) × (n ≤ i) × (n ≡ ticks_in reviewer (take i marks))
+use Rattle.built_review.proofs.ticks_before.Goals.{then-marks-i-ne0, else-marks-i-ne0}
 
 pub loop-i-init : goal.loop-i-init
 loop-i-init c = (omega arith, omega arith, sym (ticks_none c.args.reviewer))
@@ -47,11 +45,16 @@ loop-i-2-preserved c =
     let k = c.args.reviewer in
     let at = c.loop-i-2 in
     let byte = get_or marks at.i 0 in
+    let own = c.own_bit-bit.result in
+    let n = c.if-marks-i-ne0.n in
     let there : at.i < length marks = omega arith in
-    let small : byte < 256 = omega (arith, c.shared_slice_known-in-loop-i-2-1.given at.i) in
-    let own = c.own_bit-bit.ensures in
-    let counted = ticks_counted k at.i marks byte _ at.n c.if-marks-i-ne0.n c.requires.0 there small refl own
-    (λ w. w.taken) (λ w. w.left) c.if-marks-i-ne0.branch at.invariant.2 in
+    let small : byte < 256 = omega (arith, c.type_inv.marks at.i) in
+    let turn : ((bit_and byte own ≡ 0 → ⊥) × (n ≡ at.n + 1)) ⊎ ((bit_and byte own ≡ 0) × (n ≡ at.n)) =
+    elim c.if-marks-i-ne0.branch [
+      | then-marks-i-ne0 w ↦ inl (w.if-marks-i-ne0.true, w.n-is)
+      | else-marks-i-ne0 w ↦ inr (w.if-marks-i-ne0.false, w.n-is)
+    ] in
+    let counted = ticks_counted k at.i marks byte own at.n n c.requires.0 there small refl c.own_bit-bit.ensures turn at.invariant.2 in
     (omega arith, omega (arith, ticks_taken k (at.i + 1) marks), counted)
 
 pub returns : goal.returns

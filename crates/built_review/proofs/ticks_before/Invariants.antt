@@ -1,11 +1,10 @@
-use Prim.Native.Nat.{ℕ, ◌+◌, ◌-◌, ◌≤◌, ◌<◌}
-use mathlib.Core.Path.{◌≡◌, refl, sym, ap, ◌∙◌}
-use mathlib.Core.List.{List}
-use native.Mathlib.Omega.{arith}
-use lib.ListN.{length, get_or, take, drop}
+use Rattle.std.proofs.Common.{◌≡◌, ℕ, ◌-◌, ◌≤◌, List, take}
 use Rattle.built_review.specs.Review.{ticks_in}
-use Rattle.built_review.proofs.CountLaws.{ticks_none, ticks_taken, ticks_block, ticks_counted}
 use Rattle.built_review.proofs.ticks_before.Given as goal
+
+-- n ticks in the first i entries
+abbrev Counted : List ℕ → ℕ → ℕ → ℕ → ℕ → Type 0
+Counted marks end reviewer n i = (i ≤ end) × (n ≤ i) × (n ≡ ticks_in reviewer (take i marks))
 
 abbrev pub invariant-loop-i : goal.invariant-loop-i
 invariant-loop-i l = Counted l.marks l.end l.reviewer l.n l.i

@@ -17,17 +17,15 @@ pub returns-in-10 : goal.returns-in-10
 returns-in-10 c =
     let if1 = c.if-n-end in
     let if2 = c.if-end-start in
-    let arms = c.in-10 in
     let judged = c.judge in
-    told (ValueAnswer.within if1.false if2.false (Named.named Toml10 (sym arms.keys1) judged.ensures))
+    told (ValueAnswer.within if1.false if2.false (Named.named Toml10 (sym c.in-10.is) judged.ensures))
 
 pub returns-in-11 : goal.returns-in-11
 returns-in-11 c =
     let if1 = c.if-n-end in
     let if2 = c.if-end-start in
-    let arms = c.in-11 in
     let judged = c.judge-in-11 in
-    told (ValueAnswer.within if1.false if2.false (Named.named Toml11 (sym arms.keys2) judged.ensures))
+    told (ValueAnswer.within if1.false if2.false (Named.named Toml11 (sym c.in-11.is) judged.ensures))
 
 pub returns-in_default : goal.returns-in_default
 returns-in_default c =

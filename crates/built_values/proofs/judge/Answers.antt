@@ -30,36 +30,27 @@ returns-in_default c =
     let is = c.args in
     let is_deep = c.is_deep in
     let if1 = c.if-is_deep in
-    let item = c.value in
-    let told = c.enum_told-1 in
     let ks = kinds_of is.run.now in
-    let none = subst (λ (t : Taken). Finds (Val is.v) NoPart ks 0 t) told.given.1 item.ensures in
-    Judged.no_value (not_deep ks (sym is_deep.ensures ∙ if1.false)) (no_value_found is.v ks none)
+    Judged.no_value (not_deep ks (sym is_deep.ensures ∙ if1.false)) (no_value_found is.v ks c.in_default.ensures)
 
 pub returns-then-end-count : goal.returns-then-end-count
 returns-then-end-count c =
     let is = c.args in
     let is_deep = c.is_deep in
     let if1 = c.if-is_deep in
-    let item = c.value in
-    let ended = c.end-1 in
     let count = c.count in
     let if2 = c.if-end-count in
     let ks = kinds_of is.run.now in
-    let found = subst (λ (t : Taken). Finds (Val is.v) NoPart ks 0 t) ended.given.1 item.ensures in
     Judged.value (not_deep ks (sym is_deep.ensures ∙ if1.false))
-    (whole_value is.v ks ended.given.0.0 found (if2.true ∙ count.ensures))
+    (whole_value is.v ks _ c.in-UpTo.ensures (if2.true ∙ count.ensures))
 
 pub returns : goal.returns
 returns c =
     let is = c.args in
     let is_deep = c.is_deep in
     let if1 = c.if-is_deep in
-    let item = c.value in
-    let ended = c.end-1 in
     let count = c.count in
     let if2 = c.if-end-count in
     let ks = kinds_of is.run.now in
-    let found = subst (λ (t : Taken). Finds (Val is.v) NoPart ks 0 t) ended.given.1 item.ensures in
     Judged.no_value (not_deep ks (sym is_deep.ensures ∙ if1.false))
-    (part_value is.v ks ended.given.0.0 found (λ e. if2.false (e ∙ sym count.ensures)))
+    (part_value is.v ks _ c.in-UpTo.ensures (λ e. if2.false (e ∙ sym count.ensures)))

@@ -1,7 +1,5 @@
 -- `width` is right because each way to give bytes has its arm.
-use mathlib.Core.Path.{sym}
-use borrow.Author.Rules.{rules}
-use lib.Seq.{length-take-le}
+use Rattle.std.proofs.Common.{sym, length-take-le}
 use Rattle.decoder_rules.proofs.PieceLaws.{gives_copy, gives_char, gives_nothing}
 use Rattle.decoder_rules.proofs.EncodedLaws.{encoded_len}
 use Rattle.decoder_reading.proofs.width.Goals as goal
@@ -14,13 +12,9 @@ returns-in-Copy c =
 
 pub returns-in-Char : goal.returns-in-Char
 returns-in-Char c =
-    let g' = c.g-1 in
-    let pre = c.requires in
-    let a = c.args in
     λ s fits.
-    let g = g'.given in
-    let scalar = rw g.1 at (pre) in
-    rw (gives_char a.p s g.0.0 g.1) (encoded_len _ scalar c.encode.result c.encode.ensures)
+    let scalar = rw c.in-Char.is at c.requires in
+    rw (gives_char c.args.p s c.in-Char.c c.in-Char.is) (encoded_len _ scalar c.encode.result c.encode.ensures)
 
 pub returns-in-Nothing : goal.returns-in-Nothing
 returns-in-Nothing c = λ s fits. rw (gives_nothing c.args.p s c.in-Nothing.is)

@@ -22,5 +22,4 @@ returns c = λ h. record {
   delete_off = c.if-delete.false;
   low_off = c.if-low.false;
   mid_off = not-true _ h;
-
 }

@@ -1,11 +1,6 @@
-use Prim.Native.Nat.{◌+◌, ◌-◌, ◌≤◌, ◌<◌}
-use mathlib.Core.Path.{◌≡◌}
-use mathlib.Core.Logic.{⊎_elim}
-use native.Mathlib.Omega.{arith}
-use borrow.Author.Rules.{rules}
-use lib.ListN.{length}
-use Rattle.decoder_short.specs.Letters.{copied}
-use Rattle.decoder_short.proofs.ShortLaws.{Spelling, spelling_start, spelling_byte, spelling_letter, spelling_end}
+-- What is still to be stored, from place o on, is what the body from place i on stands for.
+use Rattle.std.proofs.Common.{◌-◌, length}
+use Rattle.decoder_short.proofs.ShortLaws.{Spelling}
 use Rattle.decoder_short.proofs.write_short.Given as goal
 
 abbrev pub invariant-loop-i : goal.invariant-loop-i

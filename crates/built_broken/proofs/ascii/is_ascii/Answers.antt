@@ -3,7 +3,6 @@ use Prim.Native.Nat.{◌+◌, ◌-◌, ◌≤◌}
 use mathlib.Core.Bool.{false≢true}
 use native.Mathlib.Omega.{arith}
 use borrow.Author.Rules.{rules}
-use borrow.Author.Tests.{not-false}
 use lib.ListN.{length}
 use Rattle.built_broken.specs.Walk.{AsciiIn}
 use Rattle.built_broken.proofs.ReadableLaws.{ascii_joined}
@@ -35,7 +34,7 @@ loop-i-preserved c =
     let s = c.args.s.now in
     let i = c.loop-i.i in (
       omega arith,
-      λ k l m. ascii_joined s i i (i + 16) (omega arith) c.loop-i.invariant.1 (c.is_ascii_part.ensures (not-false _ c.if-not-is_ascii_part.false-raw)) k l m,
+      λ k l m. ascii_joined s i i (i + 16) (omega arith) c.loop-i.invariant.1 (c.is_ascii_part.ensures c.if-not-is_ascii_part.false) k l m,
     )
 
 pub returns : goal.returns

@@ -2,7 +2,6 @@
 use Prim.Native.Nat.{◌-◌}
 use mathlib.Core.Bool.{false≢true}
 use native.Mathlib.Omega.{arith}
-use borrow.Author.Tests.{not-false}
 use lib.ListN.{length}
 use Rattle.built_broken.proofs.ReadableLaws.{ascii_joined}
 use borrow.Author.Rules.{rules}
@@ -16,5 +15,5 @@ returns c = λ e k l m.
     let s = c.args.s.now in
     let n = c.args.n in
     ascii_joined s (length s - n) n (length s) (omega arith)
-    (λ k l m. c.is_ascii_part.ensures (not-false _ c.if-not-is_ascii_part.false-raw) k l (omega arith))
+    (λ k l m. c.is_ascii_part.ensures c.if-not-is_ascii_part.false k l (omega arith))
     (λ k l m. c.is_ascii_part-2.ensures e k l (omega arith)) k l m

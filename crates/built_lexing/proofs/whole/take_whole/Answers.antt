@@ -1,5 +1,5 @@
 -- `take_whole` is right because each whole token leaves what is stored in the end as it was, and so does what there is of the next one.
--- The measure is what is left of the part. Assumes nothing.
+-- The measure is what is left of the part.
 use mathlib.Core.Path.{ap, ◌∙◌}
 use mathlib.Core.List.{[], ◌∷◌, map}
 use native.Mathlib.Omega.{arith}
@@ -56,8 +56,8 @@ loop-kind-preserved c =
     let l = c.loop-kind in
     let w = token_found a.part.now l.i l.invariant.within c.token_at.result _ _ _ c.in-Whole.is c.token_at.ensures in
     let u = l.invariant in
-    onward_leapt a.part.now u _ (w.taken l.at l.on u.low) c.put-count.result c.put-count.new.0 c.put-count.ensures.0
-    (c.put-count.ensures.1 ∙ ap (λ (t : Token). sets l.records l.count (map record_of (t ∷ []))) c.token_of.ensures)
+    onward_leapt a.part.now u _ (w.taken l.at l.on u.low) c.put-count.result c.put-count.new.records c.put-count.ensures.count
+    (c.put-count.ensures.memory ∙ ap (λ (t : Token). sets l.records l.count (map record_of (t ∷ []))) c.token_of.ensures)
 
 pub overflow_sub-end : goal.overflow_sub-end
 overflow_sub-end c =

@@ -27,14 +27,14 @@ returns-in-Begun c =
 
 pub returns-in-Put : goal.returns-in-Put
 returns-in-Put c =
-    closed_numbers c.args.self c.args.records.now c.answered.result c.lex_end.new.1.0
-    (close_given c.args.self c.args.records.now (sym c.is_over.ensures ∙ c.if-is_over.false) (omega (arith, c.if-at-gt-LIMIT.false)) c.in-Whole.is c.lex_end.result c.lex_end.new.1.0 c.lex_end.ensures _ _ c.in-Put.is c.answered.result (c.answered.ensures ∙ ap (fed (Tokens _)) c.closed_parts-in-Put.ensures))
+    closed_numbers c.args.self c.args.records.now c.answered.result c.lex_end.new.records
+    (close_given c.args.self c.args.records.now (sym c.is_over.ensures ∙ c.if-is_over.false) (omega (arith, c.if-at-gt-LIMIT.false)) c.in-Whole.is c.lex_end.result c.lex_end.new.records c.lex_end.ensures _ _ c.in-Put.is c.answered.result (c.answered.ensures ∙ ap (fed (Tokens _)) c.closed_parts-in-Put.ensures))
 
 pub returns-in-Few : goal.returns-in-Few
 returns-in-Few c =
-    closed_numbers c.args.self c.args.records.now c.refused-in-Few.result c.lex_end.new.1.0
-    (close_few c.args.self c.args.records.now (sym c.is_over.ensures ∙ c.if-is_over.false) (omega (arith, c.if-at-gt-LIMIT.false)) c.in-Whole.is c.lex_end.result c.lex_end.new.1.0 c.lex_end.ensures _ c.in-Few.is c.refused-in-Few.result c.refused-in-Few.ensures)
+    closed_numbers c.args.self c.args.records.now c.refused-in-Few.result c.lex_end.new.records
+    (close_few c.args.self c.args.records.now (sym c.is_over.ensures ∙ c.if-is_over.false) (omega (arith, c.if-at-gt-LIMIT.false)) c.in-Whole.is c.lex_end.result c.lex_end.new.records c.lex_end.ensures _ c.in-Few.is c.refused-in-Few.result c.refused-in-Few.ensures)
 
 pub returns-in-Over : goal.returns-in-Over
 returns-in-Over c =
-    close_never c.args.self c.args.records.now (sym c.is_over.ensures ∙ c.if-is_over.false) (omega (arith, c.if-at-gt-LIMIT.false)) c.in-Whole.is c.lex_end.result c.lex_end.new.1.0 c.lex_end.ensures c.in-Over.is
+    close_never c.args.self c.args.records.now (sym c.is_over.ensures ∙ c.if-is_over.false) (omega (arith, c.if-at-gt-LIMIT.false)) c.in-Whole.is c.lex_end.result c.lex_end.new.records c.lex_end.ensures c.in-Over.is

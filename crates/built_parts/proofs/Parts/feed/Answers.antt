@@ -32,17 +32,17 @@ returns-in-Bad c =
 
 pub returns-in-Put : goal.returns-in-Put
 returns-in-Put c =
-    fed_numbers c.args.self c.args.part.now c.args.records.now c.answered.result c.lex_part.new.1.1.0
+    fed_numbers c.args.self c.args.part.now c.args.records.now c.answered.result c.lex_part.new.records
     (feed_given c.args.self c.args.part.now c.args.records.now (sym c.is_over.ensures ∙ c.if-is_over.false) (sym c.passes_limit.ensures ∙ c.if-passes_limit.false) _ _ (sym c.check_part.ensures ∙ c.in-Good.is)
-    c.lex_part.result c.lex_part.new.1.1.0 c.lex_part.ensures _ _ c.in-Put.is c.answered.result (c.answered.ensures ∙ ap (fed (Tokens _)) c.parts_of.ensures))
+    c.lex_part.result c.lex_part.new.records c.lex_part.ensures _ _ c.in-Put.is c.answered.result (c.answered.ensures ∙ ap (fed (Tokens _)) c.parts_of.ensures))
 
 pub returns-in-Few : goal.returns-in-Few
 returns-in-Few c =
-    fed_numbers c.args.self c.args.part.now c.args.records.now c.refused-in-Few.result c.lex_part.new.1.1.0
+    fed_numbers c.args.self c.args.part.now c.args.records.now c.refused-in-Few.result c.lex_part.new.records
     (feed_few c.args.self c.args.part.now c.args.records.now (sym c.is_over.ensures ∙ c.if-is_over.false) (sym c.passes_limit.ensures ∙ c.if-passes_limit.false) _ _ (sym c.check_part.ensures ∙ c.in-Good.is)
-    c.lex_part.result c.lex_part.new.1.1.0 c.lex_part.ensures _ c.in-Few.is c.refused-in-Few.result c.refused-in-Few.ensures)
+    c.lex_part.result c.lex_part.new.records c.lex_part.ensures _ c.in-Few.is c.refused-in-Few.result c.refused-in-Few.ensures)
 
 pub returns-in-Over : goal.returns-in-Over
 returns-in-Over c =
     feed_never c.args.self c.args.part.now c.args.records.now (sym c.is_over.ensures ∙ c.if-is_over.false) (sym c.passes_limit.ensures ∙ c.if-passes_limit.false) _ _ (sym c.check_part.ensures ∙ c.in-Good.is)
-    c.lex_part.result c.lex_part.new.1.1.0 c.lex_part.ensures c.in-Over.is
+    c.lex_part.result c.lex_part.new.records c.lex_part.ensures c.in-Over.is

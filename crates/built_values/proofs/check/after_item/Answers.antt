@@ -23,8 +23,8 @@ returns-then-is_at c =
     let skip = c.skip-a in
     let is_at = c.is_at in
     let if1 = c.if-is_at in
-    marked is.run is.close (kinds_of is.records.now) is.at skip.result skip.ensures.0
-    (sym is_at.ensures ∙ if1.true) skip.ensures.1.0
+    marked is.run is.close (kinds_of is.records.now) is.at skip.result skip.ensures.left
+    (sym is_at.ensures ∙ if1.true) skip.ensures.place.0
 
 pub overflow_add-result-then-is_at-2 : goal.overflow_add-result-then-is_at-2
 overflow_add-result-then-is_at-2 c =
@@ -41,8 +41,8 @@ returns-then-is_at-2 c =
     let skip = c.skip-a in
     let is-at2 = c.is_at-2 in
     let if2 = c.if-is_at-2 in
-    marked is.run 44 (kinds_of is.records.now) is.at skip.result skip.ensures.0
-    (sym is-at2.ensures ∙ if2.true) skip.ensures.1.0
+    marked is.run 44 (kinds_of is.records.now) is.at skip.result skip.ensures.left
+    (sym is-at2.ensures ∙ if2.true) skip.ensures.place.0
 
 pub returns : goal.returns
 returns c =
@@ -53,7 +53,7 @@ returns c =
     let is-at2 = c.is_at-2 in
     let if2 = c.if-is_at-2 in
     let ks = kinds_of is.records.now in
-    let skipped = skip.ensures.0 in (
+    let skipped = skip.ensures.left in (
       not_marked is.run is.close ks is.at skip.result skipped (sym is_at.ensures ∙ if1.false),
       not_marked is.run 44 ks is.at skip.result skipped (sym is-at2.ensures ∙ if2.false),
     )

@@ -38,24 +38,19 @@ returns-in_default c =
     let kind_at = c.kind_at in
     let is-simple-key = c.is_simple_key in
     let if1 = c.if-is_simple_key in
-    let dotted = c.spaced in
-    let told = c.enum_told-1 in
     let ks = kinds_of is.records.now in
     let p = loop.p in
     let test = sym (ap is_simple_key kind_at.ensures) ∙ sym is-simple-key.ensures ∙ if1.true in
-    let none = subst (λ (t : Taken). Finds (Spaced 46) NoBlank ks (p + 1) t) told.given.1 dotted.ensures in
-    key_found ks is.at p loop.invariant (omega (arith, count.ensures)) test none
+    key_found ks is.at p loop.invariant (omega (arith, count.ensures)) test c.in_default.ensures
 
 pub loop-p-smaller : goal.loop-p-smaller
 loop-p-smaller c =
     let is = c.args in
     let count = c.count-n in
     let loop = c.loop-p in
-    let dotted = c.spaced in
-    let on = c.next-1 in
     let ks = kinds_of is.records.now in
     let p = loop.p in
-    let found = subst (λ (t : Taken). Finds (Spaced 46) NoBlank ks (p + 1) t) on.given.1 dotted.ensures in
+    let found = c.in-UpTo.ensures in
     omega (arith, found.after, found.within, count.ensures)
 
 pub loop-p-preserved : goal.loop-p-preserved
@@ -66,13 +61,10 @@ loop-p-preserved c =
     let kind_at = c.kind_at in
     let is-simple-key = c.is_simple_key in
     let if1 = c.if-is_simple_key in
-    let dotted = c.spaced in
-    let on = c.next-1 in
     let ks = kinds_of is.records.now in
     let p = loop.p in
     let test = sym (ap is_simple_key kind_at.ensures) ∙ sym is-simple-key.ensures ∙ if1.true in
-    let found = subst (λ (t : Taken). Finds (Spaced 46) NoBlank ks (p + 1) t) on.given.1 dotted.ensures in
-    key_goes ks is.at p loop.invariant (omega (arith, count.ensures)) test _ found
+    key_goes ks is.at p loop.invariant (omega (arith, count.ensures)) test _ c.in-UpTo.ensures
 
 pub returns-else-is_simple_key : goal.returns-else-is_simple_key
 returns-else-is_simple_key c =

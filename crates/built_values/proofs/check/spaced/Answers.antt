@@ -39,8 +39,8 @@ returns-then-is_at c =
     let skip2 = c.skip in
     let first = skip.ensures in
     let second = skip2.ensures in
-    spaced_found is.mark pre.1 (kinds_of is.records.now) is.at skip.result first.0
-    (sym is_at.ensures ∙ if1.true) skip2.result second.0 first.1.0 second.1.0 second.1.1
+    spaced_found is.mark pre.1 (kinds_of is.records.now) is.at skip.result first.left
+    (sym is_at.ensures ∙ if1.true) skip2.result second.left first.place.0 second.place.0 second.place.1
 
 pub returns : goal.returns
 returns c =
@@ -49,5 +49,5 @@ returns c =
     let skip = c.skip-a in
     let is_at = c.is_at in
     let if1 = c.if-is_at in
-    spaced_none is.mark pre.1 (kinds_of is.records.now) is.at skip.result skip.ensures.0
+    spaced_none is.mark pre.1 (kinds_of is.records.now) is.at skip.result skip.ensures.left
     (sym is_at.ensures ∙ if1.false)

@@ -19,21 +19,17 @@ pub returns-in-Blanks : goal.returns-in-Blanks
 returns-in-Blanks c =
     let is = c.args in
     let kind_at = c.kind_at-kind in
-    let told = c.enum_told-1 in
-    let rest = drop (is.i + 1) (kinds_of is.records.now) in
-    ap (λ (k : ℕ). eqb k 32) kind_at.ensures ∙ rw told.given.1
+    ap (λ (k : ℕ). eqb k 32) kind_at.ensures ∙ rw c.in-Blanks.is
 
 pub returns-in-Lines : goal.returns-in-Lines
 returns-in-Lines c =
     let kind_at = c.kind_at-kind in
-    let told2 = c.enum_told-in-Lines-1 in
     let is_at = c.is_at in
     let is-line-part = c.is_line_part in
-    is-line-part.ensures ∙ rw (kind_at.ensures, is_at.ensures, told2.given.1)
+    is-line-part.ensures ∙ rw (kind_at.ensures, is_at.ensures, c.in-Lines.is)
 
 pub returns-in-Parts : goal.returns-in-Parts
 returns-in-Parts c =
     let kind_at = c.kind_at-kind in
-    let told3 = c.enum_told-in-Parts-1 in
     let is-scalar-part = c.is_scalar_part in
-    is-scalar-part.ensures ∙ rw (kind_at.ensures, told3.given.1)
+    is-scalar-part.ensures ∙ rw (kind_at.ensures, c.in-Parts.is)

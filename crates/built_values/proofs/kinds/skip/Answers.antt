@@ -41,7 +41,7 @@ returns-else-is_in c =
     let if1 = c.if-is_in in
     let ks = kinds_of is.records.now in
     let stops = past_stop is.run ks at.i (omega (arith, count.ensures)) (sym inside.ensures ∙ if1.false) in
-    (sym stops ∙ at.invariant.2, (at.invariant.0, at.invariant.1))
+    record { left = sym stops ∙ at.invariant.2; place = (at.invariant.0, at.invariant.1) }
 
 pub returns : goal.returns
 returns c =
@@ -49,4 +49,4 @@ returns c =
     let at = c.loop-i in
     let count = c.count-n in
     let ends = past_end is.run (kinds_of is.records.now) at.i (omega (arith, count.ensures)) in
-    (sym ends ∙ at.invariant.2, (at.invariant.0, at.invariant.1))
+    record { left = sym ends ∙ at.invariant.2; place = (at.invariant.0, at.invariant.1) }

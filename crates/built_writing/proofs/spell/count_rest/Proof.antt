@@ -1,17 +1,11 @@
 -- `count_rest` is right because what is counted, and what is left to be spelt, are always the whole.
 -- Assumes nothing.
 use Rattle.std.proofs.Common.{ℕ, ◌+◌, ◌-◌, ◌≤◌, length, get_or, take, sym, ap, ◌∙◌, arith, length-take-le, rules}
-
 use Rattle.decoder_rules.proofs.Fine.{rest}
-
 use Rattle.built_writing.specs.Writing.{escape_of}
-
 use Rattle.built_writing.specs.Measured.{Counting}
-
 use Rattle.built_writing.proofs.SpellLaws.{spelt_six, Spells, run_fits, run_turn, byte_turn, counting_turn, counting_end}
-
 use Rattle.built_writing.proofs.spell.count_rest.Statement.{statement}
-
 use Rattle.built_writing.proofs.spell.count_rest.Tie as tie
 
 abbrev invariant-loop : tie.invariant-loop-i

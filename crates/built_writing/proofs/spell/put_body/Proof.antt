@@ -1,15 +1,10 @@
 -- `put_body` is right because what is left to be spelt, stored from place o on, makes the whole body.
 -- Assumes nothing.
 use Rattle.std.proofs.Common.{◌+◌, ◌-◌, ◌≤◌, length, get_or, take, sym, refl, ◌∙◌, arith, length-take-le, rules}
-
 use Rattle.decoder_rules.proofs.Fine.{rest}
-
 use Rattle.built_writing.specs.Writing.{escape_of}
-
 use Rattle.built_writing.proofs.SpellLaws.{Spells, run_fits, run_turn, byte_turn, Putting, putting_room, putting_turn, putting_end}
-
 use Rattle.built_writing.proofs.spell.put_body.Statement.{statement}
-
 use Rattle.built_writing.proofs.spell.put_body.Tie as tie
 
 abbrev invariant-loop : tie.invariant-loop-i

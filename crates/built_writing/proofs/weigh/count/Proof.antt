@@ -1,19 +1,12 @@
 -- `count` is right because what is counted in blocks, and what is left to be spelt, are always the whole.
 -- Assumes nothing.
 use Rattle.std.proofs.Common.{◌≡◌, ℕ, ◌+◌, ◌-◌, List, length, ap, arith, rules}
-
 use Rattle.decoder_rules.proofs.Fine.{rest_is}
-
 use Rattle.built_writing.specs.Writing.{spelt}
-
 use Rattle.built_writing.specs.Measured.{Counting}
-
 use Rattle.built_writing.proofs.SpellLaws.{spelt_six}
-
 use Rattle.built_writing.proofs.WeighLaws.{counting_weighed}
-
 use Rattle.built_writing.proofs.weigh.count.Statement.{statement}
-
 use Rattle.built_writing.proofs.weigh.count.Tie as tie
 
 abbrev invariant-loop : tie.invariant-loop-i

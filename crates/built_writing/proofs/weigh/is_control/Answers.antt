@@ -4,4 +4,4 @@ use Rattle.built_writing.proofs.WeighLaws.{control_is}
 use Rattle.built_writing.proofs.weigh.is_control.Goals as goal
 
 pub returns : goal.returns
-returns c = control_is c.args.b _ (omega arith) (omega arith) c.wrapping_sub_u8.ensures
+returns c = control_is c.args.b _ (omega arith) (omega arith) c.wrapping_sub_u8.ensures.value

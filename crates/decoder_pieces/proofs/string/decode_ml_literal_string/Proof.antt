@@ -1,15 +1,10 @@
 -- `decode_ml_literal_string` is right because a run that is empty begins with a CR or a byte that is not allowed.
 -- Assumes nothing.
 use Rattle.std.proofs.Common.{◌≡◌, false, get_or, ◌∙◌, rules, eq-eqb, ne_eqb}
-
 use Rattle.decoder_rules.specs.Encodings.{mll_plain}
-
 use Rattle.decoder_rules.proofs.PlaceForms.{ml_literal_piece_is}
-
 use Rattle.text_classes.proofs.RunLaws.{run_none, run_first}
-
 use Rattle.decoder_pieces.proofs.string.decode_ml_literal_string.Statement.{statement}
-
 use Rattle.decoder_pieces.proofs.string.decode_ml_literal_string.Tie as tie
 
 -- past the first test the first byte does not stand for itself

@@ -1,15 +1,10 @@
 -- `mlb_content` is right because a run that is empty begins with a backslash, a CR, or a byte that is not allowed.
 -- Assumes nothing.
 use Rattle.std.proofs.Common.{◌≡◌, false, get_or, ◌∙◌, arith, rules, eq-eqb, ne_eqb}
-
 use Rattle.text_classes.proofs.RunLaws.{run_le, run_none, run_first}
-
 use Rattle.decoder_rules.specs.Encodings.{mlb_plain, mlb_invalid}
-
 use Rattle.decoder_rules.proofs.PlaceForms.{content_is}
-
 use Rattle.decoder_pieces.proofs.string.mlb_content.Statement.{statement}
-
 use Rattle.decoder_pieces.proofs.string.mlb_content.Tie as tie
 
 -- past the first test the first byte does not stand for itself

@@ -1,15 +1,10 @@
 -- `mlb_escaped_nl` is right because after the blanks there are the rule's four cases.
 -- Assumes nothing.
 use Rattle.std.proofs.Common.{◌+◌, ◌<◌, ◌≤◌, length, drop, ◌∙◌, arith, length-drop, rules, eq-eqb, ne_eqb}
-
 use Rattle.text_classes.specs.Classes.{wschar}
-
 use Rattle.text_classes.proofs.RunLaws.{run_le, there}
-
 use Rattle.decoder_rules.proofs.PlaceForms.{escaped_line_is}
-
 use Rattle.decoder_pieces.proofs.string.mlb_escaped_nl.Statement.{statement}
-
 use Rattle.decoder_pieces.proofs.string.mlb_escaped_nl.Tie as tie
 
 -- the backslash and the blanks lie within s

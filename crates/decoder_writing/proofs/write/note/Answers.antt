@@ -1,17 +1,11 @@
 -- `note` is right because a verdict is clean, or has one error.
-use mathlib.Core.Path.{ap}
-use native.Mathlib.Omega.{arith}
-use borrow.Author.Rules.{rules}
-use lib.ListN.{length}
+use Rattle.std.proofs.Common.{length, ap, arith}
 use Rattle.decoder_rules.specs.Pieces.{notes_of}
 use Rattle.decoder_rules.proofs.StoreLaws.{store_none}
 use Rattle.decoder_writing.proofs.write.note.Goals as goal
 
 pub put_error-requires : goal.put_error-requires
-put_error-requires c =
-    let verdict = c.verdict-1 in
-    let pre = c.requires in
-    omega (arith, ap (λ w. length (notes_of w)) verdict.given.1, pre)
+put_error-requires c = omega (arith, ap (λ v. length (notes_of v)) c.in-Wrong.is, c.requires)
 
 pub returns-in-Clean : goal.returns-in-Clean
 returns-in-Clean c = rw c.in-Clean.is (store_none _ _)
