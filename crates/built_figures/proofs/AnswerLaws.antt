@@ -16,24 +16,24 @@ use Rattle.built_figures.specs.Figures.{most, refused_figures, figures_by, figur
 
 module _ (doc : List ℕ) where
   -- a document that is too long
-  pub long : most < length doc → (verdict_on doc ≡ TooLong) × (figures_of doc ≡ refused_figures 0 1)
+  pub long : most < length doc → record { verdict : verdict_on doc ≡ TooLong; figures : figures_of doc ≡ refused_figures 0 1 }
   unfolding verdict_on figures_of
-  long h = let e = lt-ltb most (length doc) h in (rw e, rw e)
+  long h = let e = lt-ltb most (length doc) h in record { verdict = rw e; figures = rw e }
 
   -- any other, by the check's answer
-  pub short : length doc ≤ most → (u : Utf8Check) → check_of doc ≡ u → (verdict_on doc ≡ verdict_by u) × (figures_of doc ≡ figures_by u doc)
+  pub short : length doc ≤ most → (u : Utf8Check) → check_of doc ≡ u → record { verdict : verdict_on doc ≡ verdict_by u; figures : figures_of doc ≡ figures_by u doc }
   unfolding verdict_on figures_of
-  short h u is = let e = le-ltb most (length doc) h in (rw (e, is), rw (e, is))
+  short h u is = let e = le-ltb most (length doc) h in record { verdict = rw (e, is); figures = rw (e, is) }
 
   -- the answer
   abbrev pub outcome : Adding → List ℕ → Tallied
   outcome answer totals = record { answer = answer; totals = totals }
 
-  module _ (totals : List ℕ) (verdict : Adding) (figures : List ℕ) (is : (verdict ≡ verdict_on doc) × (figures ≡ figures_of doc)) where
+  module _ (totals : List ℕ) (verdict : Adding) (figures : List ℕ) (is : record { verdict : verdict ≡ verdict_on doc; figures : figures ≡ figures_of doc }) where
     pub answered : all_fit (added totals figures) ≡ true → outcome verdict (added totals figures) ≡ tallied doc totals
     unfolding tallied
-    answered fit = rw (← is.0, ← is.1, fit)
+    answered fit = rw (← is.verdict, ← is.figures, fit)
 
     pub refused : all_fit (added totals figures) ≡ false → outcome (Refused TotalFull) totals ≡ tallied doc totals
     unfolding tallied
-    refused full = rw (← is.1, full)
+    refused full = rw (← is.figures, full)

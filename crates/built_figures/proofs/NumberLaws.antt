@@ -51,15 +51,15 @@ module _ (doc totals : List ℕ) where
 
   -- the four promises of `tally`
   pub numbers : (r : Tallied) → r ≡ tallied doc totals
-      → (r ≡ tallied doc totals) × ((tally_number r.answer ≡ tally_refusal doc totals)
-      × ((tally_value r.answer ≡ tally_returned doc totals) × (tally_length r.answer ≡ tally_fault doc totals)))
-  numbers r is = (
-    is,
-    (
-      ap (λ (x : Tallied). tally_number x.answer) is ∙ of_answer tally_number _ (of_verdict tally_number),
-      (
-        ap (λ (x : Tallied). tally_value x.answer) is ∙ of_answer tally_value _ (of_verdict tally_value),
-        ap (λ (x : Tallied). tally_length x.answer) is ∙ of_answer tally_length _ (of_verdict tally_length),
-      ),
-    ),
-  )
+      → record {
+        answer : r ≡ tallied doc totals;
+        number : tally_number r.answer ≡ tally_refusal doc totals;
+        value : tally_value r.answer ≡ tally_returned doc totals;
+        length : tally_length r.answer ≡ tally_fault doc totals;
+      }
+  numbers r is = record {
+    answer = is;
+    number = ap (λ (x : Tallied). tally_number x.answer) is ∙ of_answer tally_number _ (of_verdict tally_number);
+    value = ap (λ (x : Tallied). tally_value x.answer) is ∙ of_answer tally_value _ (of_verdict tally_value);
+    length = ap (λ (x : Tallied). tally_length x.answer) is ∙ of_answer tally_length _ (of_verdict tally_length);
+  }

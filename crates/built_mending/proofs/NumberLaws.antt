@@ -107,6 +107,22 @@ module _ (doc : List ℕ) (edition o m : ℕ) (r : Mended) (is : r ≡ mend_in d
       ∙ ap (λ (n : ℕ). cond (eqb n 0) (length new) 0) (sym (ap mended_number is) ∙ number_is)
 
   pub told : {A B : Type 0} → A → B
-      → (r ≡ mend_in doc edition o m) × (A × (B × ((mended_number r ≡ mend_refusal doc edition o m)
-      × ((mended_value r ≡ mend_returned doc edition o m) × ((mended_records r ≡ mend_noted doc edition o m) × (mended_length r ≡ check_fault doc))))))
-  told output records = (is, (output, (records, (number_is, (value_is, (noted_is, length_is))))))
+      → record {
+        answer : r ≡ mend_in doc edition o m;
+        output : A;
+        records : B;
+        number : mended_number r ≡ mend_refusal doc edition o m;
+        value : mended_value r ≡ mend_returned doc edition o m;
+        noted : mended_records r ≡ mend_noted doc edition o m;
+        length : mended_length r ≡ check_fault doc;
+      }
+  told out recs =
+      record {
+        answer = is;
+        output = out;
+        records = recs;
+        number = number_is;
+        value = value_is;
+        noted = noted_is;
+        length = length_is;
+      }

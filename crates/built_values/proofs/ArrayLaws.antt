@@ -15,12 +15,10 @@ use Rattle.decoder_rules.specs.declared.Edition.TheVariants.{Toml10, Toml11}
 use Rattle.built_values.specs.Values.{SimpleKey, Val, Keyval, Array, InlineTable}
 use Rattle.built_values.specs.Depth.{is_opening, is_closing}
 use Rattle.built_values.specs.Checkers.{is_string, is_scalar_part, in_run, table_run, last_comma, Takes}
-use Rattle.built_values.specs.declared.kinds.Run.{Run}
-use Rattle.built_values.specs.declared.kinds.Run.TheVariants.{Blanks, Lines}
-use Rattle.built_values.proofs.KindLaws.{tails, tops, not_nil}
+use Rattle.built_values.specs.declared.kinds.Run.TheVariants.{Lines}
+use Rattle.built_values.proofs.KindLaws.{tops, not_nil}
 use Rattle.built_values.proofs.ValLaws.{Begun, val_begun, way_not, keyval_begun}
 use Rattle.built_values.proofs.CountLaws.{even_val, even_keyval}
-use Rattle.built_values.proofs.TailLaws.{Fit}
 use Rattle.built_values.proofs.ItemLaws.{array_tail, tail_array, table_tail, tail_table}
 use Rattle.built_values.proofs.LoopLaws.{Bracketed}
 

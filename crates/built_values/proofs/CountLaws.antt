@@ -1,22 +1,17 @@
 -- Brackets counted: what a rule derives closes as many as it opens; and how many are open at a place.
 -- Assumes nothing.
-use Prim.Native.Nat.{ℕ, zero, suc, ◌+◌, ◌≤◌, ◌<◌}
+use Prim.Native.Nat.{ℕ, ◌+◌, ◌≤◌}
 use mathlib.Core.Path.{◌≡◌, refl, sym, ap, ◌∙◌}
-use mathlib.Core.Bool.{Bool, true, false, cond}
-use mathlib.Core.Logic.{◌↔◌}
+use mathlib.Core.Bool.{Bool, true, false}
 use mathlib.Core.List.{List, [], ◌∷◌, ◌++◌, append_assoc}
 use native.Mathlib.Decide.{dec_lt}
 use native.Mathlib.Omega.{arith}
-use borrow.Author.Tests.{ltb-true, ltb-false, lt-ltb}
-use lib.Dec.{ltb}
 use lib.ListN.{length, take, drop, take-append-drop}
-use Rattle.text_classes.proofs.Conds.{cond_case, not_both}
 use Rattle.decoder_rules.specs.declared.Edition.{Edition}
 use Rattle.built_values.specs.Values.{Ws, WsCommentNewline, SimpleKey, Spaced, DotKeys, Key, StringToken, ScalarPart, ScalarRun, Val, Keyval, Array, ArrayValues, InlineTable, Keyvals}
 use Rattle.text_refusals.specs.Refusals.{depth}
 use Rattle.built_values.specs.Depth.{is_opening, is_closing, count_if, Deep}
 use Rattle.built_values.specs.Checkers.{Takes, Inside}
-use Rattle.built_values.specs.Told.{passes, deep_from}
 
 pub count_append : (p : ℕ → Bool) (s t : List ℕ) → count_if p (s ++ t) ≡ count_if p s + count_if p t
 unfolding count_if

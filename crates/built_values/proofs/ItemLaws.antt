@@ -4,14 +4,13 @@ use Prim.Native.Nat.{ℕ}
 use mathlib.Core.Path.{◌≡◌, refl, sym, ap, subst, ◌∙◌}
 use mathlib.Core.Bool.{Bool, true, false}
 use mathlib.Core.Logic.{◌⊎◌, inl, inr}
-use mathlib.Core.List.{List, [], ◌∷◌, ◌++◌, append_assoc, append-nil}
+use mathlib.Core.List.{List, [], ◌∷◌, ◌++◌, append_assoc}
 use native.Mathlib.Omega.{arith}
 use Rattle.text_classes.proofs.Conds.{not_both}
 use Rattle.decoder_rules.specs.declared.Edition.{Edition}
 use Rattle.decoder_rules.specs.declared.Edition.TheVariants.{Toml10, Toml11}
 use Rattle.built_values.specs.Values.{Ws, WsCommentNewline, Spaced, Val, Keyval, Array, ArrayValues, InlineTable, Keyvals}
 use Rattle.built_values.specs.Checkers.{in_run, past, table_run, last_comma, Takes}
-use Rattle.built_values.specs.declared.kinds.Run.{Run}
 use Rattle.built_values.specs.declared.kinds.Run.TheVariants.{Blanks, Lines}
 use Rattle.built_values.proofs.KindLaws.{tails}
 use Rattle.built_values.proofs.RunLaws.{past_none, ws_past, lines_past, past_ws, past_lines}

@@ -2,15 +2,13 @@
 -- Assumes nothing.
 use Prim.Native.Nat.{ℕ}
 use mathlib.Core.Path.{◌≡◌, refl, sym, ap, subst, ◌∙◌}
-use mathlib.Core.Bool.{Bool, true, false}
+use mathlib.Core.Bool.{true, false}
 use mathlib.Core.List.{List, [], ◌∷◌, ◌++◌, append_assoc}
-use native.Mathlib.Omega.{arith}
-use borrow.Author.Tests.{eq-eqb}
-use Rattle.text_classes.specs.Runs.{first_is, stands}
+use Rattle.text_classes.specs.Runs.{stands}
 use Rattle.text_classes.proofs.Conds.{not_both}
 use Rattle.decoder_rules.specs.declared.Edition.{Edition}
 use Rattle.built_values.specs.Values.{Ws, SimpleKey, Spaced, DotKeys, Key, Val, Keyval}
-use Rattle.built_values.specs.Checkers.{is_simple_key, in_run, past, Takes, NoBlank, NoDot, NoPart}
+use Rattle.built_values.specs.Checkers.{is_simple_key, in_run, past, Takes, NoBlank, NoDot}
 use Rattle.built_values.specs.declared.kinds.Run.TheVariants.{Blanks}
 use Rattle.built_values.proofs.KindLaws.{tails, tops, not_nil, stands_not, is_simple, simple_is}
 use Rattle.built_values.proofs.RunLaws.{past_none, past_nil, ws_past, past_ws}

@@ -1,14 +1,13 @@
 -- The loop over the items of an array or an inline table, for both at once: what holds at each turn, and what each way out shows.
 -- Assumes nothing.
 use Prim.Native.Nat.{ℕ, ◌+◌, ◌≤◌, ◌<◌}
-use mathlib.Core.Path.{◌≡◌, refl, sym, ap, subst, ◌∙◌}
+use mathlib.Core.Path.{◌≡◌, sym, ap, subst, ◌∙◌}
 use mathlib.Core.Bool.{Bool, true, false}
-use mathlib.Core.List.{List, [], ◌∷◌}
+use mathlib.Core.List.{List, ◌∷◌}
 use native.Mathlib.Omega.{arith}
 use lib.ListN.{length, drop, drop_of_length-le}
 use Rattle.text_classes.specs.Runs.{stands}
 use Rattle.text_classes.proofs.FirstLaws.{stands_there}
-use Rattle.decoder_rules.specs.declared.Edition.{Edition}
 use Rattle.built_values.specs.Depth.{is_opening, is_closing, count_if}
 use Rattle.built_values.specs.Checkers.{in_run, past, NoPart, Takes, Found, Marked, Inside}
 use Rattle.built_values.specs.declared.kinds.Run.{Run}

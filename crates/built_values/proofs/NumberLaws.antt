@@ -1,8 +1,8 @@
 -- The numbers of each answer: which refusal, and the number returned. And that the rule admits one answer.
 -- Assumes nothing.
 use Prim.Native.Nat.{ℕ, ◌≤◌, ◌<◌}
-use mathlib.Core.Path.{◌≡◌, refl, sym, ap, subst, ◌∙◌}
-use mathlib.Core.Bool.{Bool, true, false, cond, ◌||◌}
+use mathlib.Core.Path.{◌≡◌, refl, sym, subst, ◌∙◌}
+use mathlib.Core.Bool.{Bool, true, false, cond}
 use mathlib.Core.Logic.{◌⊎◌, inl, inr}
 use mathlib.Core.List.{List}
 use native.Mathlib.Omega.{arith}
@@ -15,7 +15,7 @@ use Rattle.decoder_rules.specs.declared.Edition.{Edition}
 use Rattle.decoder_rules.specs.declared.Edition.TheVariants.{Toml10, Toml11}
 use Rattle.decoder_rules.specs.Encodings.{edition_number, is_edition}
 use Rattle.built_values.specs.Depth.{Deep}
-use Rattle.built_values.specs.Answers.{run_of, Judged, Named, ValueAnswer}
+use Rattle.built_values.specs.Answers.{Judged, Named, ValueAnswer}
 use Rattle.built_values.specs.Told.{value_number, value_value, is_outside, value_refusal, value_returned}
 use Rattle.built_values.specs.Told.{deep_from}
 use Rattle.built_values.specs.declared.ValueCheck.{ValueCheck}

@@ -8,8 +8,7 @@ use native.Mathlib.Omega.{arith}
 use borrow.Author.Tests.{eqb-true}
 use lib.Dec.{eqb}
 use lib.ListN.{length, get_or, drop, drop_of_length-le}
-use Rattle.text_classes.specs.Runs.{first_is, stands}
-use Rattle.text_classes.proofs.Conds.{cond_case, not_both, or_inv, both_left}
+use Rattle.text_classes.proofs.Conds.{cond_case}
 use Rattle.built_values.specs.Values.{Ws, WsCommentNewline, ScalarPart, ScalarRun}
 use Rattle.built_values.specs.Depth.{count_if}
 use Rattle.built_values.specs.Checkers.{is_scalar_part, in_run, past, Takes, NoPart}

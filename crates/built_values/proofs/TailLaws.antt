@@ -5,8 +5,7 @@
 use Prim.Native.Nat.{ℕ}
 use mathlib.Core.Path.{◌≡◌, refl, sym, ap, subst, ◌∙◌}
 use mathlib.Core.Bool.{Bool, true, false}
-use mathlib.Core.List.{List, [], ◌∷◌, ◌++◌}
-use native.Mathlib.Omega.{arith}
+use mathlib.Core.List.{List, [], ◌∷◌}
 use Rattle.text_classes.specs.Runs.{stands}
 use Rattle.built_values.specs.Checkers.{is_scalar_part, in_run, past, NoPart}
 use Rattle.built_values.specs.declared.kinds.Run.{Run}

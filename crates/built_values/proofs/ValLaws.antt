@@ -9,7 +9,7 @@ use Rattle.text_classes.specs.Runs.{stands}
 use Rattle.text_classes.proofs.Conds.{not_both}
 use Rattle.decoder_rules.specs.declared.Edition.{Edition}
 use Rattle.built_values.specs.Values.{SimpleKey, Key, Keyval, keyval, StringToken, ScalarPart, ScalarRun, Val, Array, InlineTable}
-use Rattle.built_values.specs.Checkers.{is_string, is_scalar_part, in_run, past, Takes, NoPart}
+use Rattle.built_values.specs.Checkers.{is_string, is_scalar_part, in_run, past, Takes}
 use Rattle.built_values.specs.declared.kinds.Run.{Run}
 use Rattle.built_values.specs.declared.kinds.Run.TheVariants.{Blanks, Lines}
 use Rattle.built_values.proofs.KindLaws.{tails, tops, is_string_lem, string_is, is_part, part_is}

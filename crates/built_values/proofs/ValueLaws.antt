@@ -2,17 +2,17 @@
 -- Assumes nothing.
 use Prim.Native.Nat.{ℕ, ◌+◌, ◌≤◌, ◌<◌}
 use mathlib.Core.Path.{◌≡◌, refl, sym, ap, subst, ◌∙◌}
-use mathlib.Core.Bool.{Bool, true, false}
+use mathlib.Core.Bool.{true, false}
 use mathlib.Core.List.{List, [], ◌∷◌, ◌++◌, append-nil}
 use native.Mathlib.Omega.{arith}
 use lib.ListN.{length, drop, get_or, drop_of_length-le, length-drop}
 use Rattle.decoder_rules.specs.declared.Edition.{Edition}
-use Rattle.built_values.specs.Values.{StringToken, ScalarRun, Val, Array, InlineTable}
+use Rattle.built_values.specs.Values.{Val, Array, InlineTable}
 use Rattle.built_values.specs.Checkers.{is_string, is_scalar_part, past, NoPart, Takes, Found, Finds}
 use Rattle.built_values.specs.declared.check.Taken.{Taken}
 use Rattle.built_values.specs.declared.check.Taken.TheVariants.{UpTo, Nothing}
 use Rattle.built_values.specs.declared.kinds.Run.TheVariants.{Parts}
-use Rattle.built_values.proofs.KindLaws.{tails, at_cons, not_nil, is_string_lem, is_part}
+use Rattle.built_values.proofs.KindLaws.{at_cons, not_nil, is_string_lem, is_part}
 use Rattle.built_values.proofs.RunLaws.{parts_run, run_parts}
 use Rattle.built_values.proofs.ValLaws.{Way, val_begun, Onward, onward, way_string, way_scalar, way_array, way_table, way_not}
 

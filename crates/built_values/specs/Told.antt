@@ -4,7 +4,7 @@
 -- Assumes nothing.
 use Rattle.std.specs.Prelude.{ℕ, ◌+◌}
 use mathlib.Core.{Bool.Bool, Bool.true, Bool.false, Bool.cond, Bool.◌||◌, List.List, List.[], List.◌∷◌}
-use lib.{ListN.length, Dec.ltb, Dec.eqb}
+use lib.{ListN.length, Dec.ltb}
 use Rattle.text_refusals.specs.{Refusals.depth, Refusals.refusal_number, Refusals.refusal_value}
 use Rattle.decoder_rules.specs.Encodings.{is_edition}
 use Rattle.built_values.specs.Answers.{run_of}

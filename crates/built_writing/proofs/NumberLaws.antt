@@ -46,6 +46,12 @@ module _ (value : List ℕ) (o : ℕ) (r : Wrote) (is : r ≡ write_answer value
       )
 
   pub wrote : {A : Type 0} → A
-      → (r ≡ write_answer value o) × (A × ((wrote_number r ≡ write_refusal value o)
-      × ((wrote_value r ≡ write_returned value o) × (wrote_length r ≡ check_fault value))))
-  wrote output = (is, (output, numbers))
+      → record {
+        answer : r ≡ write_answer value o;
+        output : A;
+        number : wrote_number r ≡ write_refusal value o;
+        returned : wrote_value r ≡ write_returned value o;
+        length : wrote_length r ≡ check_fault value;
+      }
+  wrote held =
+      record { answer = is; output = held; number = numbers.0; returned = numbers.1.0; length = numbers.1.1 }

@@ -1,6 +1,5 @@
 -- Each promise of this crate admits one answer only, and one content of each lent memory. A theorem bears its function's
 -- name, and is about the function's own contract: what a caller learns of its `ensures`.
--- Assumes nothing.
 use mathlib.Core.Path.{sym, ap, ◌∙◌}
 use Rattle.text_classes.proofs.OneAnswer.{OneAnswer, OneOutcome, ◌and◌, both}
 use Rattle.built_values.proofs.NumberLaws.{one_answer}

@@ -1,5 +1,4 @@
 -- The exported numbers are the numbers of the answers as Told.antt of each crate defines them: each field is the one of its name.
--- Assumes nothing.
 use Prim.Native.Nat.{◌+◌}
 use mathlib.Core.Path.{◌≡◌, refl}
 use native.Mathlib.Omega.{arith}

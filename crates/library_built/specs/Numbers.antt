@@ -1,6 +1,5 @@
 -- FOLLOWS. The answers of the calls that requests added, as the numbers that are exported: by the cases of each, as in
 -- library_numbers. That each field is the number of that name of the answer is proved in proofs/ToldLaws.antt.
--- Assumes nothing.
 use Rattle.std.specs.Prelude.{ℕ}
 use mathlib.Core.{Path.◌≡◌, List.List}
 use lib.{ListN.length}

@@ -1,5 +1,4 @@
 -- The start and the length that are answered are those of the text that `text_of` returns.
--- Assumes nothing.
 use Prim.Native.Nat.{ℕ}
 use mathlib.Core.Path.{◌≡◌, refl, ap, ◌∙◌}
 use mathlib.Core.List.{List}

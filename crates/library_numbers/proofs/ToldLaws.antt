@@ -1,5 +1,4 @@
 -- The exported numbers are the numbers of the answers as Told.antt of each crate defines them: each field is the one of its name.
--- Assumes nothing.
 use mathlib.Core.Path.{◌≡◌, refl}
 use Rattle.text.specs.Told.{check_number, check_value, check_length}
 use Rattle.text.specs.declared.utf8.Utf8Check.{Utf8Check}

@@ -1,7 +1,6 @@
 -- FOLLOWS. Each call's answer as the numbers that are exported: the refusal's number, 0 where answered; the value returned;
 -- with refusal 1 the length of the faulty sequence; and the call's own results, zero where refused. That each field is the
 -- number of that name of the answer is proved in proofs/ToldLaws.antt.
--- Assumes nothing.
 use Rattle.std.specs.Prelude.{ℕ, ◌-◌}
 use mathlib.Core.{Bool.Bool, Bool.false, Bool.not, List.List}
 use lib.{Dec.eqb, ListN.length, ListN.take, ListN.drop}

@@ -1,6 +1,5 @@
 -- A state's numbers stand for that state: of each mode by computing, of a character in progress because more than none of its
 -- bytes are still to come and the bounds of the next are bytes, which holds from the first call on.
--- Assumes nothing.
 use Prim.Native.Nat.{ℕ, ◌+◌, ◌-◌}
 use native.Mathlib.Omega.{arith}
 use mathlib.Core.Path.{◌≡◌, refl}

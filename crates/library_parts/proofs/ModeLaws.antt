@@ -1,5 +1,4 @@
 -- The mode that a number stands for, where the number is known.
--- Assumes nothing.
 use Prim.Native.Nat.{ℕ}
 use mathlib.Core.Path.{◌≡◌}
 use Rattle.built_bytes.specs.declared.Mode.{Mode}

@@ -1,7 +1,6 @@
 -- STATEMENT. What a caller keeps as numbers stands for the very state that a call gave: handed in at the next call, it is that
 -- state. So calls in numbers go on from one another as calls on states do, whatever numbers the first was handed. Proved in
 -- proofs/KeptLaws.antt.
--- Assumes nothing.
 use Rattle.std.specs.Prelude.{ℕ}
 use mathlib.Core.{Path.◌≡◌, List.List}
 use Rattle.built_parts.specs.{Feeding.no_parts, Feeding.feed_of, Feeding.close_of}

@@ -1,6 +1,5 @@
 -- FOLLOWS. The state of a document that comes in parts as ten numbers, the state that ten numbers stand for, and the answers of
 -- the calls as the numbers that are exported. That a state's numbers stand for that state is stated in Kept.antt.
--- Assumes nothing.
 use Rattle.std.specs.Prelude.{ℕ}
 use mathlib.Core.{Bool.Bool, Bool.true, Bool.false, Bool.cond, Bool.◌||◌, List.List, List.[], List.◌∷◌}
 use lib.{Dec.eqb, Dec.ltb, ListN.get_or}

@@ -1,6 +1,5 @@
 -- FOLLOWS. A text that is opened and a step over its body, as the numbers that are exported: by `opened_of` and `body_step`, for
 -- the kind and the edition that two numbers ask for. Where refused, all numbers but the answer's are zero.
--- Assumes nothing.
 use Rattle.std.specs.Prelude.{ℕ}
 use mathlib.Core.{Bool.Bool, List.List}
 use Rattle.lexer.specs.{Told.bit_of}

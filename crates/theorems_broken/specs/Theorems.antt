@@ -1,6 +1,5 @@
 -- STATEMENT. What is said of the first broken string besides its rule, each proved under the name that its comment gives. The calls
 -- `first_broken` and `first_broken_in` promise to answer `broken_answer`, so that each theorem is about their answers.
--- Assumes nothing.
 use Rattle.std.specs.Prelude.{ℕ, suc, ◌+◌, ◌*◌, ◌≤◌, ◌<◌, ◌≡◌, true, cond, eqb, length, get_or, take}
 use mathlib.Core.List.{List, [], ◌∷◌, Memᴰ}
 use Rattle.text_refusals.specs.Refusals.{limit, refusal_number}

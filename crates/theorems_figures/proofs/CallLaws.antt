@@ -1,6 +1,5 @@
 -- What `tally` promises is what `tallied` says: so the theorems of specs/Totals.antt are about the function. It is of the function's
 -- own contract, what a caller learns of its `ensures`.
--- Assumes nothing.
 use mathlib.Core.Path.{◌≡◌}
 use Rattle.built_figures.specs.Figures.{tallied}
 use Rattle.built_figures.proofs as promised

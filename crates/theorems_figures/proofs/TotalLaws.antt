@@ -1,6 +1,5 @@
 -- What a document adds is added where the answer is not 13; sums do not depend on the order in which they are added up, and all
 -- of them fit where the last one does.
--- Assumes nothing.
 use Prim.Native.Nat.{ℕ, zero, suc, ◌+◌, ◌≤◌, ◌<◌, ◌^◌}
 use mathlib.Core.Path.{◌≡◌, refl, sym, ap, ◌∙◌}
 use mathlib.Core.Bool.{Bool, true, false, cond, false≢true}

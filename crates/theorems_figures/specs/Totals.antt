@@ -5,7 +5,6 @@
 -- The names: `tallied` (crate built_figures) is the answer of `tally` for a document and totals, with the totals afterwards;
 -- `tally_number` there is the answer's number; `times n ms` is how often n stands among ms, `kinds_among` the numbers of the kinds
 -- of some tokens, `errors_among` the numbers of the errors of all strings among them, `kind_slot` a kind's place in the totals.
--- Assumes nothing.
 use Rattle.std.specs.Prelude.{ℕ, ◌+◌, ◌≤◌, ◌<◌}
 use mathlib.Core.{Path.◌≡◌, List.List, List.[], List.◌∷◌, List.Permᴰ}
 use lib.{ListN.length, ListN.get_or, ListN.set}

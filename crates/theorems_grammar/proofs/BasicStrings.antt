@@ -1,5 +1,4 @@
 -- Basic strings: the decoder's pieces and the grammar.
--- Assumes nothing.
 use Prim.Native.Nat.{ℕ, ◌+◌, ◌≤◌, ◌<◌}
 use mathlib.Core.Path.{◌≡◌, refl, sym, ◌∙◌, ap, subst}
 use mathlib.Core.Logic.{◌⊎◌, inl, inr}
@@ -23,7 +22,7 @@ use Rattle.decoder_rules.specs.Decoding.{bytes_of, errors_of}
 use Rattle.decoder_rules.proofs.PieceLaws.{wrong≢clean}
 use Rattle.decoder_rules.proofs.AsciiLaws.{basic_high}
 use Rattle.theorems_tokens.proofs.ByLength.{by_length}
-use Rattle.theorems_grammar.specs.Grammar.{escaped, basic_unescaped_lem, escaped_char, BasicChars, stop, more, BasicString, basic_string}
+use Rattle.theorems_grammar.specs.Grammar.{escaped, unescaped, escaped_char, BasicChars, stop, more, BasicString, basic_string}
 use Rattle.theorems_grammar.specs.Scalars.{CharsName, BasicNames}
 use Rattle.theorems_grammar.proofs.Encoded.{side, ascii, beyond, encodes_ascii, ascii_led}
 use Rattle.theorems_grammar.proofs.Reading.{IfClean, CopiesRuns, ErrorFree, ReadsAs, ReadsChars, reads_none, reads_then, reads_char, first_clean}
@@ -64,7 +63,7 @@ module _ (ed : Edition) where
 
   chars_read : {cs v : List ℕ} (d : BasicChars ed cs v) → CharsName d → ReadsAs pieces cs v
   chars_read stop names at = reads_none pieces false at []
-  chars_read (more {r = r} (basic_unescaped_lem {c} class) rest) names at =
+  chars_read (more {r = r} (unescaped {c} class) rest) names at =
       let first = char_reads c at (encodes r) (basic_at class) in reads_then pieces first (chars_read rest names.1 first.to)
   chars_read (more {r = r} (escaped_char (escaped {t} char)) rest) names at =
       let first = escape_reads pieces char names.0 at (encodes r) (slash at (t ++ encodes r)) in
@@ -77,7 +76,7 @@ module _ (ed : Edition) where
   Chars cs = (v : List ℕ) × (d : BasicChars ed cs v) × CharsName d
 
   put_char : (c : ℕ) (cs : List ℕ) → Scalar c → basic_unescaped c ≡ true → Chars cs → Chars (c ∷ cs)
-  put_char c cs scalar class (v, chars, names) = (c ∷ v, more (basic_unescaped_lem (basic_is c scalar class)) chars, (tt, names))
+  put_char c cs scalar class (v, chars, names) = (c ∷ v, more (unescaped (basic_is c scalar class)) chars, (tt, names))
 
   put_escape : (s : List ℕ) (escape : EscapedAt ed s) (r : List ℕ) → Chars r → Chars (0x5C ∷ (escape.text ++ r))
   put_escape s escape r (v, chars, names) =

@@ -1,5 +1,4 @@
 -- What demand 3 says of the call: what `decode_in` answers for a text of a kind of string, within the limit.
--- Assumes nothing.
 use Prim.Native.Nat.{ℕ, ◌≤◌, ◌<◌}
 use mathlib.Core.Path.{◌≡◌, refl, sym, ◌∙◌, ap, subst}
 use mathlib.Core.Logic.{◌↔◌}

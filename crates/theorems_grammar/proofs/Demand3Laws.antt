@@ -1,5 +1,4 @@
 -- Demand 3 holds: of a text by the laws of its kind, and of tokens and steps because each gives the token at its place.
--- Assumes nothing.
 use Prim.Native.Nat.{ℕ, ◌+◌, ◌-◌, ◌≤◌, ◌<◌}
 use mathlib.Core.Path.{◌≡◌, sym, ◌∙◌, ap, subst}
 use mathlib.Core.Logic.{◌↔◌}

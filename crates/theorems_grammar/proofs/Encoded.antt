@@ -1,5 +1,4 @@
 -- Bytes and code points: a code point below 0x80 is its only byte, and each byte of another is 0x80 or more.
--- Assumes nothing.
 use Prim.Native.Nat.{ℕ, ◌≤◌, ◌<◌}
 use mathlib.Core.Path.{◌≡◌, refl, sym, ◌∙◌, ap, subst}
 use mathlib.Core.Logic.{inl}

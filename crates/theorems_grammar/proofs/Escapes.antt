@@ -1,5 +1,4 @@
 -- An escape: the piece that it is, what it reads, and the grammar's escape-seq-char.
--- Assumes nothing.
 use Prim.Native.Nat.{ℕ, zero, suc, ◌+◌, ◌*◌, ◌≤◌, ◌<◌}
 use mathlib.Core.Path.{◌≡◌, refl, sym, ◌∙◌, ap, subst}
 use mathlib.Core.Logic.{inl}
@@ -23,7 +22,7 @@ use Rattle.decoder_rules.specs.Pieces.{Pieces, char_piece}
 use Rattle.decoder_rules.specs.Escapes.{new_letter, letter_of, hex_from, hex_value, hex_piece, escape_by, escape_piece}
 use Rattle.decoder_rules.proofs.PieceLaws.{wrong≢clean}
 use Rattle.decoder_rules.proofs.EscapeLaws.{hex_char, escape_hex, escape_simple}
-use Rattle.theorems_grammar.specs.Grammar.{HexDig, HexDigits, stop, more, EscapeSeqChar, x22, x5_c, x62, x66, x6_e, x72, x74, x75, x55, x65, x78}
+use Rattle.theorems_grammar.specs.Grammar.{HexDig, HexDigits, stop, more, EscapeSeqChar, x22, x5C, x62, x66, x6E, x72, x74, x75, x55, x65, x78}
 use Rattle.theorems_grammar.specs.Scalars.{Names}
 use Rattle.theorems_grammar.proofs.ListLaws.{all_weaken}
 use Rattle.theorems_grammar.proofs.Encoded.{AllAscii}
@@ -68,8 +67,13 @@ digit_small {c} {d} (HexDig.digit e h) = omega arith
 digit_small {c} {d} (HexDig.upper e h k) = omega arith
 digit_small {c} {d} (HexDig.lower e h k) = omega arith
 
+-- no more digits: the text ends, and the number is the one before them
+pub none_left : {a v : ℕ} {t : List ℕ} → HexDigits 0 a t v → (t ≡ []) × (v ≡ a)
+none_left stop = (refl, refl)
+
 pub two_scalar : {t : List ℕ} {v : ℕ} → HexDigits 2 0 t v → Scalar v
-two_scalar (more {d = d} first (more {d = e} second stop)) = inl (omega (arith, digit_small first, digit_small second))
+two_scalar (more {d = d} first (more {d = e} second rest)) =
+    inl (omega (arith, digit_small first, digit_small second, (none_left rest).1))
 
 -- ---- the shape of an escape: a visible byte, and then hex digits
 
@@ -103,10 +107,10 @@ digits_shape b least most {t = t} digits =
 
 pub shape : {ed : Edition} {t : List ℕ} {v : ℕ} → EscapeSeqChar ed t v → Shape t
 shape x22 = one_shape 0x22 (omega arith) (omega arith)
-shape x5_c = one_shape 0x5C (omega arith) (omega arith)
+shape x5C = one_shape 0x5C (omega arith) (omega arith)
 shape x62 = one_shape 0x62 (omega arith) (omega arith)
 shape x66 = one_shape 0x66 (omega arith) (omega arith)
-shape x6_e = one_shape 0x6E (omega arith) (omega arith)
+shape x6E = one_shape 0x6E (omega arith) (omega arith)
 shape x72 = one_shape 0x72 (omega arith) (omega arith)
 shape x74 = one_shape 0x74 (omega arith) (omega arith)
 shape (x75 digits) = digits_shape 0x75 (omega arith) (omega arith) digits
@@ -137,10 +141,10 @@ pub escape_at : {ed : Edition} {t : List ℕ} {v : ℕ} (e : EscapeSeqChar ed t 
     → escape_piece ed at (t ++ s) ≡ char_piece (suc (length t)) v
 unfolding letter_of
 escape_at {ed} x22 h = simple_at ed 0x22 0x22 refl
-escape_at {ed} x5_c h = simple_at ed 0x5C 0x5C refl
+escape_at {ed} x5C h = simple_at ed 0x5C 0x5C refl
 escape_at {ed} x62 h = simple_at ed 0x62 0x08 refl
 escape_at {ed} x66 h = simple_at ed 0x66 0x0C refl
-escape_at {ed} x6_e h = simple_at ed 0x6E 0x0A refl
+escape_at {ed} x6E h = simple_at ed 0x6E 0x0A refl
 escape_at {ed} x72 h = simple_at ed 0x72 0x0D refl
 escape_at {ed} x74 h = simple_at ed 0x74 0x09 refl
 escape_at {ed} (x75 {t = t} {v = v} digits) names = hex_at ed 0x75 4 v t refl digits names
@@ -201,10 +205,10 @@ letter_right : (ed : Edition) (b : ℕ) → Right ed b (letter_of ed b)
 unfolding letter_of
 letter_right ed b =
     by_eq (Right ed b) b 0x22 (right_stands ed 0x22 0x22 (x22, tt) b)
-    λ _. by_eq (Right ed b) b 0x5C (right_stands ed 0x5C 0x5C (x5_c, tt) b)
+    λ _. by_eq (Right ed b) b 0x5C (right_stands ed 0x5C 0x5C (x5C, tt) b)
     λ _. by_eq (Right ed b) b 0x62 (right_stands ed 0x62 0x08 (x62, tt) b)
     λ _. by_eq (Right ed b) b 0x66 (right_stands ed 0x66 0x0C (x66, tt) b)
-    λ _. by_eq (Right ed b) b 0x6E (right_stands ed 0x6E 0x0A (x6_e, tt) b)
+    λ _. by_eq (Right ed b) b 0x6E (right_stands ed 0x6E 0x0A (x6E, tt) b)
     λ _. by_eq (Right ed b) b 0x72 (right_stands ed 0x72 0x0D (x72, tt) b)
     λ _. by_eq (Right ed b) b 0x74 (right_stands ed 0x74 0x09 (x74, tt) b)
     λ _. by_eq (Right ed b) b 0x75 (right_asks ed 0x75 4 (λ t v digits scalar. (x75 digits, scalar)) b)

@@ -1,5 +1,4 @@
 -- A derived text that its own quote mark does not follow is lexed as one token of its kind.
--- Assumes nothing.
 use Prim.Native.Nat.{ℕ, suc, ◌+◌, ◌<◌}
 use mathlib.Core.Path.{◌≡◌, ◌∙◌, ap}
 use mathlib.Core.Bool.{false}
@@ -14,7 +13,7 @@ use Rattle.text_classes.specs.Runs.{triple}
 use Rattle.lexer_scans.specs.Extents.{line_tail}
 use Rattle.lexer.specs.Table.{kind_by, kind_of, extent, token_len}
 use Rattle.decoder_rules.specs.declared.Edition.{Edition}
-use Rattle.theorems_grammar.specs.Grammar.{LiteralChars, LiteralString, literal_string, BasicUnescaped, EscapeSeqChar, escaped, basic_unescaped_lem, escaped_char, BasicChars, BasicString, basic_string, MlLiteralString, ml_literal_string, MlBasicString, ml_basic_string}
+use Rattle.theorems_grammar.specs.Grammar.{LiteralChars, LiteralString, literal_string, BasicUnescaped, EscapeSeqChar, escaped, unescaped, escaped_char, BasicChars, BasicString, basic_string, MlLiteralString, ml_literal_string, MlBasicString, ml_basic_string}
 use Rattle.theorems_grammar.specs.Strings.{StringKind, literal, basic, ml_literal, ml_basic, token_kind, mark, Apart, Derived}
 use Rattle.theorems_grammar.proofs.ListLaws.{all_weaken}
 use Rattle.theorems_grammar.proofs.NameLaws.{ml_basic_names}
@@ -106,7 +105,7 @@ module _ (ed : Edition) where
   basic_tail : {s v : List ℕ} → BasicChars ed s v → (rest : List ℕ)
       → line_tail 34 false (encodes s ++ (34 ∷ rest)) ≡ suc (length (encodes s))
   basic_tail BasicChars.stop rest = line_close 34 rest
-  basic_tail (BasicChars.more {r = r} (basic_unescaped_lem {c} class) chars) rest =
+  basic_tail (BasicChars.more {r = r} (unescaped {c} class) chars) rest =
       let passed =
       pass_all (line_tail 34 false) (InLine 34) (line_pass 34) (encode_scalar c) (char_in class) (encodes r ++ (34 ∷ rest)) in
       rw (append_assoc (encode_scalar c) (encodes r) (34 ∷ rest), length-append (encode_scalar c) (encodes r))
@@ -118,7 +117,7 @@ module _ (ed : Edition) where
   basic_triple : {s v : List ℕ} → BasicChars ed s v → (rest : List ℕ) → Apart 34 rest
       → triple 34 (34 ∷ (encodes s ++ (34 ∷ rest))) ≡ false
   basic_triple BasicChars.stop rest apart = triple_two 34 rest apart
-  basic_triple (BasicChars.more {r = r} (basic_unescaped_lem {c} x) chars) rest apart =
+  basic_triple (BasicChars.more {r = r} (unescaped {c} x) chars) rest apart =
       rw (append_assoc (encode_scalar c) (encodes r) (34 ∷ rest))
       (first (encode_scalar c) (encodes r ++ (34 ∷ rest)) (char_in x) (encode_length c).0)
     where

@@ -1,5 +1,4 @@
 -- The pieces of an ml-basic body, on bytes: what each reads, and what a piece without error is.
--- Assumes nothing.
 use Prim.Native.Nat.{ℕ, suc, ◌+◌, ◌≤◌, ◌<◌}
 use mathlib.Core.Path.{◌≡◌, refl, sym, ◌∙◌, ap, subst}
 use mathlib.Core.Bool.{Bool, true, false, cond}
@@ -26,7 +25,7 @@ use Rattle.decoder_rules.specs.Bodies.{skips, escaped_line, escaped_nl, escaped_
 use Rattle.decoder_rules.proofs.PieceLaws.{wrong≢clean}
 use Rattle.decoder_rules.proofs.PlaceForms.{escaped_nl_is, escaped_more_is, content_is, ml_basic_piece_is}
 use Rattle.decoder_rules.proofs.AsciiLaws.{mlb_high}
-use Rattle.theorems_grammar.specs.Grammar.{x20, x09, Newline, x0_a, x0D-0A, EscapeSeqChar, Ws, MlbUnescaped, WscharNewline, newline}
+use Rattle.theorems_grammar.specs.Grammar.{x20, x09, Newline, x0A, x0D-0A, EscapeSeqChar, Ws, MlbUnescaped, WscharNewline, newline}
 use Rattle.theorems_grammar.proofs.ListLaws.{first_splits, two_split}
 use Rattle.theorems_grammar.proofs.Encoded.{side, ascii, beyond}
 use Rattle.theorems_grammar.proofs.Reading.{IfClean, CopiesRuns, Reads, ReadsChars, ReadsNewlines, reads_char, reads_plain, reads_copy, reads_drop}
@@ -61,14 +60,14 @@ visible_out b h =
 
 ws_run : {w n : List ℕ} → Ws w → Newline n → (s : List ℕ) → run wschar (w ++ (n ++ s)) ≡ length w
 unfolding wschar run
-ws_run Ws.stop x0_a s = refl
+ws_run Ws.stop x0A s = refl
 ws_run Ws.stop x0D-0A s = refl
 ws_run (Ws.more x20 w) n s = ap suc (ws_run w n s)
 ws_run (Ws.more x09 w) n s = ap suc (ws_run w n s)
 
 line_front : {w n : List ℕ} → Ws w → Newline n → (s : List ℕ) → first_is skips (w ++ (n ++ s)) ≡ true
 unfolding skips wschar
-line_front Ws.stop x0_a s = refl
+line_front Ws.stop x0A s = refl
 line_front Ws.stop x0D-0A s = refl
 line_front (Ws.more x20 w) n s = refl
 line_front (Ws.more x09 w) n s = refl
@@ -79,7 +78,7 @@ unfolding escaped_nl
 line_at at {w} {n} blanks line s = rw (ws_run blanks line s, drop_at w (n ++ s) (length w) refl) (by_line line)
   where
     by_line : {n : List ℕ} → Newline n → escaped_line at (length w) (n ++ s) ≡ drop_piece (1 + (length w + length n))
-    by_line x0_a = ap drop_piece (omega arith)
+    by_line x0A = ap drop_piece (omega arith)
     by_line x0D-0A = ap drop_piece (omega arith)
 
 -- after a line-ending backslash the bytes r are blanks, a newline, and `rest`
@@ -104,7 +103,7 @@ ended : (at : ℕ) (r : List ℕ) → (escaped_nl at r).verdict ≡ Clean → En
 ended at r =
     rw escaped_nl_is
     (by_eq (IfClean (Ended r)) (get_or r blank_len 0) 0x0A
-    (λ is clean. let split = first_splits onward 0x0A (omega arith) (zeroth ∙ is) in found (0x0A ∷ []) split.0 x0_a split.1)
+    (λ is clean. let split = first_splits onward 0x0A (omega arith) (zeroth ∙ is) in found (0x0A ∷ []) split.0 x0A split.1)
     λ _. by_eq (IfClean (Ended r)) (get_or r blank_len 0) 0x0D
     (λ is. by_eq (IfClean (Ended r)) (get_or r (blank_len + 1) 0) 0x0A
     (λ lf clean.
@@ -137,7 +136,7 @@ ended at r =
 
 pub skip_some : {t : List ℕ} → WscharNewline t → 0 < length t
 skip_some (WscharNewline.wschar w) = omega arith
-skip_some (newline x0_a) = omega arith
+skip_some (newline x0A) = omega arith
 skip_some (newline x0D-0A) = omega arith
 
 -- at the byte b, which r follows, the line-ending escape has ended, or it drops one byte or two
@@ -151,7 +150,7 @@ unfolding skips
 skip_is b skipped not-cr =
     or_inv (wschar b) _ skipped (λ is. WscharNewline.wschar (wschar_is b is))
     (λ test. or_inv (eqb b 0x0A) (eqb b 0x0D) test
-    (λ is. subst (λ y. WscharNewline (y ∷ [])) (sym (eqb-true b 0x0A is)) (newline x0_a))
+    (λ is. subst (λ y. WscharNewline (y ∷ [])) (sym (eqb-true b 0x0A is)) (newline x0A))
     (λ is. absurd (not-cr (eqb-true b 0x0D is))))
 
 -- in one edition of TOML
@@ -173,7 +172,7 @@ module _ (ed : Edition) where
   crlf_piece at s = refl
 
   pub newline_reads : ReadsNewlines pieces
-  newline_reads n x0_a at s = reads_plain pieces mlb_plain plain at 0x0A s lf_plain
+  newline_reads n x0A at s = reads_plain pieces mlb_plain plain at 0x0A s lf_plain
   newline_reads n x0D-0A at s = reads_copy pieces false at (0x0D ∷ (0x0A ∷ [])) s (crlf_piece at s) (omega arith)
 
   slash_piece : (at : ℕ) (r : List ℕ) → pieces false at (0x5C ∷ r) ≡ cond (first_is skips r) (escaped_nl at r) (escape_piece ed at r)
@@ -202,7 +201,7 @@ module _ (ed : Edition) where
   unfolding ml_basic_piece skips wschar escaped_more
   skip_piece at s (WscharNewline.wschar x20) = refl
   skip_piece at s (WscharNewline.wschar x09) = refl
-  skip_piece at s (newline x0_a) = refl
+  skip_piece at s (newline x0A) = refl
   skip_piece at s (newline x0D-0A) = refl
 
   pub skip_reads : {t : List ℕ} → WscharNewline t → (at : ℕ) (s : List ℕ) → Reads pieces true at (t ++ s) [] true s

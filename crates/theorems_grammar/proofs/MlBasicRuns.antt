@@ -1,5 +1,4 @@
 -- An ml-basic body of the grammar as a flat run, and back.
--- Assumes nothing.
 use mathlib.Core.Path.{◌≡◌, refl}
 use mathlib.Core.Bool.{Bool, true}
 use mathlib.Core.List.{List, [], ◌++◌, append_assoc, append-nil}

@@ -1,7 +1,6 @@
 -- Multi-line basic strings: the decoder's pieces, the lexer's extent and the grammar. A derivation that keeps blanks after
 -- a line-ending backslash is read without error too, though not to its value: so reading without error is proved both within
 -- such an escape and outside it.
--- Assumes nothing.
 use Prim.Native.Nat.{ℕ, suc, ◌+◌, ◌≤◌, ◌<◌}
 use mathlib.Core.Path.{◌≡◌, refl, sym, ◌∙◌, ap, subst}
 use mathlib.Core.Logic.{◌⊎◌, inl, inr}
@@ -25,7 +24,7 @@ use Rattle.decoder_rules.specs.Decoding.{bytes_of, errors_of}
 use Rattle.decoder_rules.proofs.AsciiLaws.{mlb_high}
 use Rattle.lexer_scans.specs.Extents.{ml_tail}
 use Rattle.theorems_tokens.proofs.ByLength.{by_length}
-use Rattle.theorems_grammar.specs.Grammar.{Wschar, x20, x09, Newline, x0_a, x0D-0A, OptNewline, EscapeSeqChar, escaped, Ws, MlbUnescaped, mlb_unescaped_lem, escaped_char, WscharNewline, WscharNewlines, mlb_escaped_nl, MlbContent, mlb_char, newline, escaped_nl, MlBasicString, ml_basic_string}
+use Rattle.theorems_grammar.specs.Grammar.{Wschar, x20, x09, Newline, x0A, x0D-0A, OptNewline, EscapeSeqChar, escaped, Ws, MlbUnescaped, MlbChar, unescaped, escaped_char, WscharNewline, WscharNewlines, mlb_escaped_nl, MlbContent, mlb_char, newline, escaped_nl, MlBasicString, ml_basic_string}
 use Rattle.theorems_grammar.specs.Scalars.{ContentNames, MlBasicNames}
 use Rattle.theorems_grammar.specs.Prose.{starts_newline, starts_blank, Trimmed, Drops, MlBasicObeys}
 use Rattle.theorems_grammar.specs.Strings.{Apart}
@@ -51,7 +50,7 @@ wschar_space x20 = omega arith
 wschar_space x09 = omega arith
 
 newline_space : {n : List ℕ} → Newline n → All Space n
-newline_space x0_a = (omega arith, tt)
+newline_space x0A = (omega arith, tt)
 newline_space x0D-0A = (omega arith, (omega arith, tt))
 
 ws_space : {w : List ℕ} → Ws w → All Space w
@@ -111,7 +110,7 @@ module _ (ed : Edition) where
   content_reads : {t w : List ℕ} (c : MlbContent ed t w) → ContentNames c → (at : ℕ) (s : List ℕ)
       → Reads (pieces ed) false at (encodes t ++ s) (encodes w) (after c) s
   unfolding after
-  content_reads (mlb_char (mlb_unescaped_lem {c} class)) names at s =
+  content_reads (mlb_char (unescaped {c} class)) names at s =
       rw (append-nil (encode_scalar c)) (char_reads ed c at s (char_plain class))
   content_reads (mlb_char (escaped_char (escaped {t} {v} char))) names at s =
       rw (slash_text t s (escape_ascii char), append-nil (encode_scalar v))
@@ -129,7 +128,7 @@ module _ (ed : Edition) where
   unescaped_skips : {c : ℕ} → MlbUnescaped c → Wschar c ⊎ (skips c ≡ false)
   unescaped_skips (MlbUnescaped.wschar blank) = inl blank
   unescaped_skips MlbUnescaped.x21 = inr (visible_out 0x21 (omega arith))
-  unescaped_skips {c} (MlbUnescaped.x23_5_b least most) = inr (visible_out c (omega arith))
+  unescaped_skips {c} (MlbUnescaped.x23-5B least most) = inr (visible_out c (omega arith))
   unescaped_skips {c} (MlbUnescaped.x5D-7E least most) = inr (visible_out c (omega arith))
   unescaped_skips {c} (MlbUnescaped.non_ascii class) = inr (visible_out c (omega (arith, non_ascii_high class)))
 
@@ -140,8 +139,8 @@ module _ (ed : Edition) where
 
   newline_blank : {n : List ℕ} → Newline n → (r : List ℕ) → starts_blank (n ++ r) ≡ true
   unfolding starts_blank starts_newline
-  newline_blank x0_a [] = refl
-  newline_blank x0_a (c ∷ r) = refl
+  newline_blank x0A [] = refl
+  newline_blank x0A (c ∷ r) = refl
   newline_blank x0D-0A r = refl
 
   slash_out : (t : List ℕ) → AllAscii t → (at : ℕ) (s : List ℕ) → Meets (0x5C ∷ t) at s
@@ -149,7 +148,7 @@ module _ (ed : Edition) where
       leaves (rw (slash_text t s all_IsAscii) (out_reads ed at 0x5C (t ++ s) (visible_out 0x5C (omega arith))))
 
   meets : {t w : List ℕ} → MlbContent ed t w → (at : ℕ) (s : List ℕ) → Meets t at s
-  meets (mlb_char (mlb_unescaped_lem {c} class)) at s = elim (unescaped_skips class) [
+  meets (mlb_char (unescaped {c} class)) at s = elim (unescaped_skips class) [
     | inl blank ↦ dropped (rw (ascii_whole (c ∷ []) (omega (arith, wschar_space blank), tt))
         (skip_reads ed (WscharNewline.wschar blank) at s)) (wschar_blank blank)
     | inr visible ↦ leaves (rw (append-nil (encode_scalar c)) (char_out ed c at s visible))
@@ -275,7 +274,7 @@ module _ (ed : Edition) where
   spaces_passed k (b ∷ t) some spaces = slash_passed k b t (space_ascii (b ∷ t) spaces) (space_in t spaces.1)
 
   newline_some : {n : List ℕ} → Newline n → 0 < length n
-  newline_some x0_a = omega arith
+  newline_some x0A = omega arith
   newline_some x0D-0A = omega arith
 
   line_passed : (k : Seen) {w n : List ℕ} → Ws w → Newline n → (r : List ℕ) → All Space r → Passed 0x22 k (0x5C ∷ (w ++ (n ++ r)))
@@ -287,7 +286,7 @@ module _ (ed : Edition) where
   some_passed = all_passed quotation
 
   content_passed : {t w : List ℕ} (k : Seen) → MlbContent ed t w → Passed 0x22 k t
-  content_passed k (mlb_char (mlb_unescaped_lem {c} class)) =
+  content_passed k (mlb_char (unescaped {c} class)) =
       some_passed k (c ∷ []) (omega arith) ((basic_in (mlb_basic.0 class)).0, tt)
   content_passed k (mlb_char (escaped_char (escaped char))) = escape_passed k char
   content_passed k (newline {t} line) = some_passed k t (newline_some line) (newline_in quotation line)
@@ -446,12 +445,12 @@ module _ (ed : Edition) where
       plain_clean plain =
           or_inv (mlb_unescaped c) _ plain
           (λ test.
-          let char = mlb_unescaped_lem (mlb_basic.1 (basic_is c scalars.0 (sym (mlb_same c) ∙ test))) in
+          let char = MlbChar.unescaped (mlb_basic.1 (basic_is c scalars.0 (sym (mlb_same c) ∙ test))) in
           content_front (c ∷ []) (c ∷ []) cs (mlb_char char) tt tt refl (omega arith) refl)
           (λ test. or_inv (eqb c 0x22) (eqb c 0x0A) test (λ same. mark_front (eqb-true c 0x22 same))
           (λ same.
           let lf : List ℕ = 0x0A ∷ [] in
-          content_front lf lf cs (newline x0_a) tt tt refl (omega arith) (ap (λ y. y ∷ cs) (eqb-true c 0x0A same))))
+          content_front lf lf cs (newline x0A) tt tt refl (omega arith) (ap (λ y. y ∷ cs) (eqb-true c 0x0A same))))
 
       ended_clean : c ≡ 0x5C → (ending : Ended (encodes cs)) → Strict k (c ∷ cs)
       ended_clean is-slash ending =

@@ -1,5 +1,4 @@
 -- Multi-line literal strings: the decoder's pieces, the lexer's extent and the grammar.
--- Assumes nothing.
 use Prim.Native.Nat.{ℕ, ◌+◌, ◌≤◌, ◌<◌}
 use mathlib.Core.Path.{◌≡◌, refl, sym, ◌∙◌, ap, subst}
 use mathlib.Core.Logic.{◌⊎◌, inl, inr}
@@ -24,7 +23,7 @@ use Rattle.decoder_rules.specs.Decoding.{bytes_of, errors_of}
 use Rattle.decoder_rules.proofs.PieceLaws.{wrong≢clean}
 use Rattle.decoder_rules.proofs.PlaceForms.{ml_literal_piece_is}
 use Rattle.decoder_rules.proofs.AsciiLaws.{literal_high}
-use Rattle.theorems_grammar.specs.Grammar.{x0_a, x0D-0A, MllChar, MllContent, mll_char_lem, newline, MllContents, MllContents1, some_content, MllQuotes, one, two, MllGroups, OptMllQuotes, absent, present, MlLiteralBody, ml_literal_body, MlLiteralString, ml_literal_string}
+use Rattle.theorems_grammar.specs.Grammar.{x0A, x0D-0A, MllChar, MllContent, character, newline, MllContents, MllContents1, some_content, MllQuotes, one, two, MllGroups, OptMllQuotes, absent, present, MlLiteralBody, ml_literal_body, MlLiteralString, ml_literal_string}
 use Rattle.theorems_tokens.proofs.ByLength.{by_length}
 use Rattle.theorems_grammar.specs.Prose.{MlLiteralObeys}
 use Rattle.theorems_grammar.specs.Strings.{Apart}
@@ -86,7 +85,7 @@ unfolding ml_literal_piece mll_plain mll_char
 cr_piece at s = refl
 
 newline_reads : ReadsNewlines pieces
-newline_reads n x0_a at s = reads_plain pieces mll_plain plain at 0x0A s lf_plain
+newline_reads n x0A at s = reads_plain pieces mll_plain plain at 0x0A s lf_plain
 newline_reads n x0D-0A at s =
     let first = reads_copy pieces false at (0x0D ∷ []) (0x0A ∷ s) (cr_piece at s) (omega arith) in
     reads_then pieces first (reads_plain pieces mll_plain plain first.to 0x0A s lf_plain)
@@ -99,13 +98,13 @@ data Copied : List ℕ → List ℕ → List ℕ → Type 0 where
 
 content_reads : {t w r : List ℕ} → Copied t w r → (at : ℕ) (s : List ℕ)
     → Reads pieces false at (encodes t ++ s) (encodes w) false s
-content_reads (copied (mll_char_lem {c} class)) at s = rw (append-nil (encode_scalar c)) (char_reads c at s (char_plain class))
+content_reads (copied (character {c} class)) at s = rw (append-nil (encode_scalar c)) (char_reads c at s (char_plain class))
 content_reads (copied (newline {t} line)) at s = rw (ascii_whole t (newline_ascii line)) (newline_reads t line at s)
 
 content_passed : Passes 0x27 Copied
-content_passed k t w r (copied (mll_char_lem class)) =
+content_passed k t w r (copied (character class)) =
     all_passed apostrophes k t (omega arith) ((literal_in (mll_literal.0 class)).0, tt)
-content_passed k t w r (copied (newline x0_a)) = all_passed apostrophes k t (omega arith) (newline_in apostrophes x0_a)
+content_passed k t w r (copied (newline x0A)) = all_passed apostrophes k t (omega arith) (newline_in apostrophes x0A)
 content_passed k t w r (copied (newline x0D-0A)) = all_passed apostrophes k t (omega arith) (newline_in apostrophes x0D-0A)
 
 -- ---- from the grammar to a run
@@ -198,9 +197,9 @@ module _ (rest : List ℕ) where
         or_inv (mll_char c) _ plain
         (λ test.
         let char = mll_literal.1 (literal_is c scalars.0 (sym (mll_same c) ∙ test)) in
-        content_front (c ∷ []) cs (mll_char_lem char) refl (omega arith))
+        content_front (c ∷ []) cs (character char) refl (omega arith))
         (λ test. or_inv (eqb c 0x27) (eqb c 0x0A) test (λ char. mark_front (eqb-true c 0x27 char))
-        (λ char. content_front (0x0A ∷ []) cs (newline x0_a) (ap (λ y. y ∷ cs) (eqb-true c 0x0A char)) (omega arith)))
+        (λ char. content_front (0x0A ∷ []) cs (newline x0A) (ap (λ y. y ∷ cs) (eqb-true c 0x0A char)) (omega arith)))
 
     ascii_clean : c < 0x80 → FlatOf 0x27 Copied k (c ∷ cs)
     ascii_clean size =

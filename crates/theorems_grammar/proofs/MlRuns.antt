@@ -1,6 +1,5 @@
 -- A flat run: contents and quote marks in any order, never three marks in a row. Both directions between the grammar of a
 -- multi-line body and the decoder go through it. The two kinds differ in their mark and in what is a content.
--- Assumes nothing.
 use Prim.Native.Nat.{ℕ, suc, ◌+◌, ◌≤◌, ◌<◌}
 use mathlib.Core.Path.{◌≡◌, sym, ◌∙◌, ap, subst}
 use mathlib.Core.Bool.{Bool, false}

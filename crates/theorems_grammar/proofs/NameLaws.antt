@@ -1,19 +1,18 @@
 -- Where the value of a derivation is of scalar values, each of its escapes names one.
--- Assumes nothing.
 use Prim.Native.Nat.{ℕ}
 use mathlib.Core.List.{List, ◌++◌}
 use Rattle.text_scalars.specs.Utf8.{Scalar, All}
 use Rattle.text_scalars.proofs.CutLaws.{all_parts}
 use Rattle.decoder_rules.specs.declared.Edition.{Edition}
-use Rattle.theorems_grammar.specs.Grammar.{EscapeSeqChar, x22, x5_c, x62, x66, x6_e, x72, x74, x75, x55, x65, x78, Escaped, escaped, BasicChar, BasicChars, BasicString, basic_string, MlbChar, MlbContent, mlb_char, newline, escaped_nl, MlbContents, MlbContents1, some_content, MlbGroups, ml_basic_body, MlBasicString, ml_basic_string}
+use Rattle.theorems_grammar.specs.Grammar.{EscapeSeqChar, x22, x5C, x62, x66, x6E, x72, x74, x75, x55, x65, x78, Escaped, escaped, BasicChar, BasicChars, BasicString, basic_string, MlbChar, MlbContent, mlb_char, newline, escaped_nl, MlbContents, MlbContents1, some_content, MlbGroups, ml_basic_body, MlBasicString, ml_basic_string}
 use Rattle.theorems_grammar.specs.Scalars.{Names, EscapedNames, CharNames, CharsName, BasicNames, MlbCharNames, ContentNames, ContentsName, Contents1Name, GroupsName, MlBasicNames}
 
 escape_names : {ed : Edition} {t : List ℕ} {v : ℕ} (e : EscapeSeqChar ed t v) → Scalar v → Names e
 escape_names x22 h = tt
-escape_names x5_c h = tt
+escape_names x5C h = tt
 escape_names x62 h = tt
 escape_names x66 h = tt
-escape_names x6_e h = tt
+escape_names x6E h = tt
 escape_names x72 h = tt
 escape_names x74 h = tt
 escape_names (x75 d) h = h
@@ -26,7 +25,7 @@ module _ {ed : Edition} where
   escaped_names (escaped e) h = escape_names e h
 
   char_names : {t : List ℕ} {v : ℕ} (c : BasicChar ed t v) → Scalar v → CharNames c
-  char_names (BasicChar.basic_unescaped_lem c) h = tt
+  char_names (BasicChar.unescaped c) h = tt
   char_names (BasicChar.escaped_char e) h = escaped_names e h
 
   chars_name : {t v : List ℕ} (d : BasicChars ed t v) → All Scalar v → CharsName d
@@ -37,7 +36,7 @@ module _ {ed : Edition} where
   basic_names (basic_string r) h = chars_name r h
 
   mlb_char_names : {t : List ℕ} {v : ℕ} (c : MlbChar ed t v) → Scalar v → MlbCharNames c
-  mlb_char_names (MlbChar.mlb_unescaped_lem c) h = tt
+  mlb_char_names (MlbChar.unescaped c) h = tt
   mlb_char_names (MlbChar.escaped_char e) h = escaped_names e h
 
   content_names : {t w : List ℕ} (c : MlbContent ed t w) → All Scalar w → ContentNames c

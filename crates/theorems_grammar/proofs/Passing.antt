@@ -1,6 +1,5 @@
 -- How the lexer's extents pass over the code points of a string. For the multi-line kinds the look-ahead for three marks
 -- becomes a count of the marks that stand right before the place.
--- Assumes nothing.
 use Prim.Native.Nat.{ℕ, suc, ◌+◌, ◌≤◌, ◌<◌}
 use mathlib.Core.Path.{◌≡◌, refl, sym, ◌∙◌, ap}
 use mathlib.Core.Logic.{◌↔◌}
@@ -16,7 +15,7 @@ use Rattle.text_scalars.proofs.ReadLaws.{encodes_append}
 use Rattle.text_classes.specs.Runs.{stands, triple}
 use Rattle.lexer_scans.specs.Extents.{hides}
 use Rattle.lexer_scans.specs.Extents.{line_tail, up_to_two, ml_tail}
-use Rattle.theorems_grammar.specs.Grammar.{x20, x09, Newline, x0_a, x0D-0A, BasicUnescaped, LiteralChar}
+use Rattle.theorems_grammar.specs.Grammar.{x20, x09, Newline, x0A, x0D-0A, BasicUnescaped, LiteralChar}
 use Rattle.theorems_grammar.specs.Strings.{Apart}
 use Rattle.theorems_grammar.proofs.Encoded.{chars_bytes}
 use Rattle.theorems_grammar.proofs.ClassLaws.{non_ascii_high}
@@ -81,15 +80,15 @@ pub line_high : {q : ℕ} → Mark q → (b : ℕ) → 0x80 ≤ b → InLine q b
 line_high m b h = (in_high m b h, λ e. omega arith)
 
 pub newline_in : {q : ℕ} → Mark q → {n : List ℕ} → Newline n → All (InMl q) n
-newline_in {q} m x0_a = (in_ml q 0x0A (λ e. omega arith) (λ e. omega arith), tt)
+newline_in {q} m x0A = (in_ml q 0x0A (λ e. omega arith) (λ e. omega arith), tt)
 newline_in {q} m x0D-0A =
     (in_ml q 0x0D (λ e. omega arith) (λ e. omega arith), (in_ml q 0x0A (λ e. omega arith) (λ e. omega arith), tt))
 
 -- the grammar's classes; in a string between apostrophes no byte hides another
 pub literal_in : {c : ℕ} → LiteralChar c → InLine 39 c
 literal_in LiteralChar.x09 = (((λ e. omega arith), refl), λ e. omega arith)
-literal_in {c} (LiteralChar.x20_26 h k) = (((λ e. omega arith), refl), λ e. omega arith)
-literal_in {c} (LiteralChar.x28_7_e h k) = (((λ e. omega arith), refl), λ e. omega arith)
+literal_in {c} (LiteralChar.x20-26 h k) = (((λ e. omega arith), refl), λ e. omega arith)
+literal_in {c} (LiteralChar.x28-7E h k) = (((λ e. omega arith), refl), λ e. omega arith)
 literal_in {c} (LiteralChar.non_ascii n) = line_high apostrophes c (non_ascii_high n)
 
 in_basic : (c : ℕ) → (c ≡ 34 → ⊥) → (c ≡ 92 → ⊥) → (c ≡ 10 → ⊥) → InLine 34 c
@@ -99,7 +98,7 @@ pub basic_in : {c : ℕ} → BasicUnescaped c → InLine 34 c
 basic_in (BasicUnescaped.wschar x20) = in_basic 0x20 (λ e. omega arith) (λ e. omega arith) (λ e. omega arith)
 basic_in (BasicUnescaped.wschar x09) = in_basic 0x09 (λ e. omega arith) (λ e. omega arith) (λ e. omega arith)
 basic_in BasicUnescaped.x21 = in_basic 0x21 (λ e. omega arith) (λ e. omega arith) (λ e. omega arith)
-basic_in {c} (BasicUnescaped.x23_5_b h k) = in_basic c (λ e. omega arith) (λ e. omega arith) (λ e. omega arith)
+basic_in {c} (BasicUnescaped.x23-5B h k) = in_basic c (λ e. omega arith) (λ e. omega arith) (λ e. omega arith)
 basic_in {c} (BasicUnescaped.x5D-7E h k) = in_basic c (λ e. omega arith) (λ e. omega arith) (λ e. omega arith)
 basic_in {c} (BasicUnescaped.non_ascii n) = line_high quotation c (non_ascii_high n)
 

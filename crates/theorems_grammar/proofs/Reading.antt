@@ -1,6 +1,5 @@
 -- What it is to read a part of a body without error, for any definition of pieces.
 -- The rest of the crate uses these names for what the four kinds of string have in common.
--- Assumes nothing.
 use Prim.Native.Nat.{ℕ, suc, ◌+◌, ◌≤◌, ◌<◌}
 use mathlib.Core.Path.{◌≡◌, refl, sym, ◌∙◌, ap}
 use mathlib.Core.Bool.{Bool, true, false, cond}

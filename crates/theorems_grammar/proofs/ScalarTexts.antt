@@ -1,5 +1,4 @@
 -- Each rule of the grammar derives scalar values only, because its classes hold no others.
--- Assumes nothing.
 use Prim.Native.Nat.{ℕ, ◌<◌}
 use mathlib.Core.Logic.{inl, inr}
 use mathlib.Core.List.{List, [], ◌∷◌, ◌++◌}
@@ -7,7 +6,7 @@ use native.Mathlib.Omega.{arith}
 use Rattle.text_scalars.specs.Utf8.{Scalar, All}
 use Rattle.text_scalars.proofs.CutLaws.{all_append}
 use Rattle.decoder_rules.specs.declared.Edition.{Edition}
-use Rattle.theorems_grammar.specs.Grammar.{Wschar, Ws, Newline, OptNewline, NonAscii, x80-D7FF, x_e000_10_fFFF, BasicUnescaped, HexDig, digit, upper, lower, HexDigits, EscapeSeqChar, x22, x5_c, x62, x66, x6_e, x72, x74, x75, x55, x65, x78, Escaped, escaped, BasicChar, BasicChars, BasicString, basic_string, MlbUnescaped, MlbChar, WscharNewline, WscharNewlines, MlbEscapedNl, mlb_escaped_nl, MlbContent, mlb_char, escaped_nl, MlbContents, MlbContents1, MlbQuotes, MlbGroups, OptMlbQuotes, MlBasicBody, ml_basic_body, MlBasicString, ml_basic_string, LiteralChar, LiteralChars, LiteralString, literal_string, MllChar, MllContent, mll_char_lem, MllContents, MllContents1, MllQuotes, MllGroups, OptMllQuotes, MlLiteralBody, ml_literal_body, MlLiteralString, ml_literal_string}
+use Rattle.theorems_grammar.specs.Grammar.{Wschar, Ws, Newline, OptNewline, NonAscii, x80-D7FF, xE000-10FFFF, BasicUnescaped, HexDig, digit, upper, lower, HexDigits, EscapeSeqChar, x22, x5C, x62, x66, x6E, x72, x74, x75, x55, x65, x78, Escaped, escaped, BasicChar, BasicChars, BasicString, basic_string, MlbUnescaped, MlbChar, WscharNewline, WscharNewlines, MlbEscapedNl, mlb_escaped_nl, MlbContent, mlb_char, escaped_nl, MlbContents, MlbContents1, MlbQuotes, MlbGroups, OptMlbQuotes, MlBasicBody, ml_basic_body, MlBasicString, ml_basic_string, LiteralChar, LiteralChars, LiteralString, literal_string, MllChar, MllContent, character, MllContents, MllContents1, MllQuotes, MllGroups, OptMllQuotes, MlLiteralBody, ml_literal_body, MlLiteralString, ml_literal_string}
 use Rattle.theorems_grammar.specs.Strings.{StringKind, literal, basic, ml_literal, ml_basic}
 use Rattle.theorems_grammar.specs.ScalarTexts.{NonAsciiIs, DerivedScalar}
 use Rattle.theorems_grammar.proofs.ClassLaws.{non_ascii_of, non_ascii_high, mll_literal, mlb_basic}
@@ -35,7 +34,7 @@ one h = next (low h) none
 
 non_ascii_scalar : {c : ℕ} → NonAscii c → Scalar c
 non_ascii_scalar (x80-D7FF h k) = inl (omega arith)
-non_ascii_scalar (x_e000_10_fFFF h k) = inr (h, omega arith)
+non_ascii_scalar (xE000-10FFFF h k) = inr (h, omega arith)
 
 pub non_ascii_is : NonAsciiIs
 non_ascii_is c = ((λ n. (non_ascii_scalar n, non_ascii_high n)), λ h. non_ascii_of c h.0 h.1)
@@ -45,7 +44,7 @@ wschar_scalar Wschar.x20 = low (omega arith)
 wschar_scalar Wschar.x09 = low (omega arith)
 
 newline_points : {t : List ℕ} → Newline t → Scalars t
-newline_points Newline.x0_a = one (omega arith)
+newline_points Newline.x0A = one (omega arith)
 newline_points Newline.x0D-0A = next (low (omega arith)) (one (omega arith))
 
 opt_newline_points : {t : List ℕ} → OptNewline t → Scalars t
@@ -55,14 +54,14 @@ opt_newline_points (OptNewline.present n) = newline_points n
 basic_scalar : {c : ℕ} → BasicUnescaped c → Scalar c
 basic_scalar (BasicUnescaped.wschar w) = wschar_scalar w
 basic_scalar BasicUnescaped.x21 = low (omega arith)
-basic_scalar (BasicUnescaped.x23_5_b h k) = low (omega arith)
+basic_scalar (BasicUnescaped.x23-5B h k) = low (omega arith)
 basic_scalar (BasicUnescaped.x5D-7E h k) = low (omega arith)
 basic_scalar (BasicUnescaped.non_ascii n) = non_ascii_scalar n
 
 literal_scalar : {c : ℕ} → LiteralChar c → Scalar c
 literal_scalar LiteralChar.x09 = low (omega arith)
-literal_scalar (LiteralChar.x20_26 h k) = low (omega arith)
-literal_scalar (LiteralChar.x28_7_e h k) = low (omega arith)
+literal_scalar (LiteralChar.x20-26 h k) = low (omega arith)
+literal_scalar (LiteralChar.x28-7E h k) = low (omega arith)
 literal_scalar (LiteralChar.non_ascii n) = non_ascii_scalar n
 
 -- ---- escapes
@@ -78,10 +77,10 @@ digits_points (HexDigits.more x r) = next (digit_scalar x) (digits_points r)
 
 escape_points : {ed : Edition} {t : List ℕ} {v : ℕ} → EscapeSeqChar ed t v → Scalars t
 escape_points x22 = one (omega arith)
-escape_points x5_c = one (omega arith)
+escape_points x5C = one (omega arith)
 escape_points x62 = one (omega arith)
 escape_points x66 = one (omega arith)
-escape_points x6_e = one (omega arith)
+escape_points x6E = one (omega arith)
 escape_points x72 = one (omega arith)
 escape_points x74 = one (omega arith)
 escape_points (x75 d) = next (low (omega arith)) (digits_points d)
@@ -96,7 +95,7 @@ module _ {ed : Edition} where
   -- ---- basic strings
 
   char_points : {t : List ℕ} {v : ℕ} → BasicChar ed t v → Scalars t
-  char_points (BasicChar.basic_unescaped_lem c) = next (basic_scalar c) none
+  char_points (BasicChar.unescaped c) = next (basic_scalar c) none
   char_points (BasicChar.escaped_char e) = escaped_points e
 
   chars_points : {t v : List ℕ} → BasicChars ed t v → Scalars t
@@ -134,7 +133,7 @@ opt_quotes_points (OptMlbQuotes.present q) = quotes_points q
 
 module _ {ed : Edition} where
   mlb_char_points : {t : List ℕ} {v : ℕ} → MlbChar ed t v → Scalars t
-  mlb_char_points (MlbChar.mlb_unescaped_lem c) = next (basic_scalar (mlb_basic.0 c)) none
+  mlb_char_points (MlbChar.unescaped c) = next (basic_scalar (mlb_basic.0 c)) none
   mlb_char_points (MlbChar.escaped_char e) = escaped_points e
 
   content_points : {t v : List ℕ} → MlbContent ed t v → Scalars t
@@ -171,7 +170,7 @@ literal_points : {t v : List ℕ} → LiteralString t v → Scalars t
 literal_points (literal_string r) = next (low (omega arith)) (join (literals_points r) (one (omega arith)))
 
 mll_content_points : {t : List ℕ} → MllContent t → Scalars t
-mll_content_points (mll_char_lem c) = next (literal_scalar (mll_literal.0 c)) none
+mll_content_points (character c) = next (literal_scalar (mll_literal.0 c)) none
 mll_content_points (MllContent.newline n) = newline_points n
 
 mll_contents_points : {t : List ℕ} → MllContents t → Scalars t

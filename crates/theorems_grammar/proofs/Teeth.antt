@@ -1,5 +1,4 @@
 -- Demand 3 excludes and allows something: for each case that it excludes there is a text, and each kind has texts that it allows.
--- Assumes nothing.
 use Prim.Native.Nat.{ℕ, ◌≤◌}
 use mathlib.Core.Path.{◌≡◌, refl, sym, ◌∙◌, ap}
 use mathlib.Core.Logic.{inl}
@@ -68,10 +67,10 @@ no_slash class is-slash = not_both (basic_at class) (ap basic_unescaped is-slash
 
 first_q : {ed : Edition} {t : List ℕ} {v : ℕ} → EscapeSeqChar ed t v → (r s : List ℕ) → t ++ r ≡ 113 ∷ s → ⊥
 first_q EscapeSeqChar.x22 r s text = let same : ◌≡◌ {A = ℕ} 0x22 113 = cc in omega arith
-first_q EscapeSeqChar.x5_c r s text = let same : ◌≡◌ {A = ℕ} 0x5C 113 = cc in omega arith
+first_q EscapeSeqChar.x5C r s text = let same : ◌≡◌ {A = ℕ} 0x5C 113 = cc in omega arith
 first_q EscapeSeqChar.x62 r s text = let same : ◌≡◌ {A = ℕ} 0x62 113 = cc in omega arith
 first_q EscapeSeqChar.x66 r s text = let same : ◌≡◌ {A = ℕ} 0x66 113 = cc in omega arith
-first_q EscapeSeqChar.x6_e r s text = let same : ◌≡◌ {A = ℕ} 0x6E 113 = cc in omega arith
+first_q EscapeSeqChar.x6E r s text = let same : ◌≡◌ {A = ℕ} 0x6E 113 = cc in omega arith
 first_q EscapeSeqChar.x72 r s text = let same : ◌≡◌ {A = ℕ} 0x72 113 = cc in omega arith
 first_q EscapeSeqChar.x74 r s text = let same : ◌≡◌ {A = ℕ} 0x74 113 = cc in omega arith
 first_q (EscapeSeqChar.x75 d) r s text = let same : ◌≡◌ {A = ℕ} 0x75 113 = cc in omega arith
@@ -81,7 +80,7 @@ first_q (EscapeSeqChar.x78 d) r s text = let same : ◌≡◌ {A = ℕ} 0x78 113
 
 no_chars : {ed : Edition} {t v : List ℕ} → BasicChars ed t v → t ++ (34 ∷ []) ≡ 92 ∷ 113 ∷ 34 ∷ [] → ⊥
 no_chars BasicChars.stop text = let same : ◌≡◌ {A = ℕ} 34 92 = cc in omega arith
-no_chars (BasicChars.more {r = r} (BasicChar.basic_unescaped_lem {c} class) rest) text =
+no_chars (BasicChars.more {r = r} (BasicChar.unescaped {c} class) rest) text =
     let is-slash : c ≡ 92 = cc in no_slash class is-slash
 no_chars (BasicChars.more {r = r} (BasicChar.escaped_char (escaped {t} char)) rest) text =
     let after-slash : (t ++ r) ++ (34 ∷ []) ≡ 113 ∷ 34 ∷ [] = cc in
@@ -117,14 +116,14 @@ abbrev two_ways : List ℕ
 two_ways = 39 ∷ 39 ∷ 39 ∷ 10 ∷ 97 ∷ 39 ∷ 39 ∷ 39 ∷ []
 
 mll : (c : ℕ) → 0x28 ≤ c → c ≤ 0x7E → MllContent (c ∷ [])
-mll c least most = MllContent.mll_char_lem (MllChar.x28_7_e least most)
+mll c least most = MllContent.character (MllChar.x28-7E least most)
 
 pub two_readings : Derived Toml10 ml_literal two_ways (97 ∷ []) × Derived Toml10 ml_literal two_ways (10 ∷ 97 ∷ [])
 two_readings =
     let contents : MllContents (97 ∷ []) = MllContents.more (mll 97 (omega arith) (omega arith)) MllContents.stop in (
-      ml_literal_string (OptNewline.present Newline.x0_a) (ml_literal_body contents MllGroups.stop OptMllQuotes.absent),
+      ml_literal_string (OptNewline.present Newline.x0A) (ml_literal_body contents MllGroups.stop OptMllQuotes.absent),
       ml_literal_string OptNewline.absent
-          (ml_literal_body (MllContents.more (MllContent.newline Newline.x0_a) contents) MllGroups.stop OptMllQuotes.absent),
+          (ml_literal_body (MllContents.more (MllContent.newline Newline.x0A) contents) MllGroups.stop OptMllQuotes.absent),
     )
 
 -- ---- a literal string: '\é' means \é
@@ -134,7 +133,7 @@ literal_text = 39 ∷ 92 ∷ 0xE9 ∷ 39 ∷ []
 
 pub literal_means : Means Toml10 literal literal_text (92 ∷ 0xE9 ∷ [])
 literal_means =
-    literal_string (LiteralChars.more (LiteralChar.x28_7_e {c = 92} (omega arith) (omega arith))
+    literal_string (LiteralChars.more (LiteralChar.x28-7E {c = 92} (omega arith) (omega arith))
     (LiteralChars.more (LiteralChar.non_ascii (NonAscii.x80-D7FF {c = 0xE9} (omega arith) (omega arith))) LiteralChars.stop))
 
 pub literal_decodes : Decodes Toml10 literal (encodes literal_text) (92 ∷ 0xC3 ∷ 0xA9 ∷ [])
@@ -148,13 +147,13 @@ basic_text = 34 ∷ 97 ∷ 92 ∷ 117 ∷ 48 ∷ 48 ∷ 69 ∷ 57 ∷ 92 ∷ 110
 
 pub basic_means : Means Toml10 basic basic_text (97 ∷ 0xE9 ∷ 10 ∷ [])
 basic_means = (
-  basic_string (BasicChars.more (BasicChar.basic_unescaped_lem (BasicUnescaped.x5D-7E {c = 97} (omega arith) (omega arith)))
+  basic_string (BasicChars.more (BasicChar.unescaped (BasicUnescaped.x5D-7E {c = 97} (omega arith) (omega arith)))
       (BasicChars.more (BasicChar.escaped_char (escaped (EscapeSeqChar.x75
       (HexDigits.more (HexDig.digit {d = 0} refl (omega arith))
       (HexDigits.more (HexDig.digit {d = 0} refl (omega arith))
       (HexDigits.more (HexDig.upper {d = 14} refl (omega arith) (omega arith))
       (HexDigits.more (HexDig.digit {d = 9} refl (omega arith)) HexDigits.stop)))))))
-      (BasicChars.more (BasicChar.escaped_char (escaped EscapeSeqChar.x6_e)) BasicChars.stop))),
+      (BasicChars.more (BasicChar.escaped_char (escaped EscapeSeqChar.x6E)) BasicChars.stop))),
   (inl (omega arith), (inl (omega arith), (inl (omega arith), tt))),
 )
 
@@ -171,7 +170,7 @@ pub ml_literal_means : Means Toml10 ml_literal ml_literal_text (97 ∷ 13 ∷ 10
 ml_literal_means =
     let line : MllContents (13 ∷ 10 ∷ []) = MllContents.more (MllContent.newline Newline.x0D-0A) MllContents.stop in
     let contents : MllContents1 (98 ∷ []) = MllContents1.some_content (mll 98 (omega arith) (omega arith)) MllContents.stop in (
-      ml_literal_string (OptNewline.present Newline.x0_a) (ml_literal_body
+      ml_literal_string (OptNewline.present Newline.x0A) (ml_literal_body
           (MllContents.more (mll 97 (omega arith) (omega arith)) line)
           (MllGroups.more MllQuotes.two contents MllGroups.stop)
           OptMllQuotes.absent),
@@ -188,11 +187,11 @@ abbrev ml_basic_text : List ℕ
 ml_basic_text = 34 ∷ 34 ∷ 34 ∷ 97 ∷ 92 ∷ 32 ∷ 10 ∷ 32 ∷ 34 ∷ 98 ∷ 13 ∷ 10 ∷ 34 ∷ 34 ∷ 34 ∷ []
 
 mlb : (c : ℕ) → 0x5D ≤ c → c ≤ 0x7E → MlbContent Toml10 (c ∷ []) (c ∷ [])
-mlb c least most = MlbContent.mlb_char (MlbChar.mlb_unescaped_lem (MlbUnescaped.x5D-7E least most))
+mlb c least most = MlbContent.mlb_char (MlbChar.unescaped (MlbUnescaped.x5D-7E least most))
 
 line_end : MlbContent Toml10 (92 ∷ 32 ∷ 10 ∷ 32 ∷ []) []
 line_end =
-    MlbContent.escaped_nl (mlb_escaped_nl (Ws.more Wschar.x20 Ws.stop) Newline.x0_a
+    MlbContent.escaped_nl (mlb_escaped_nl (Ws.more Wschar.x20 Ws.stop) Newline.x0A
     (WscharNewlines.more (WscharNewline.wschar Wschar.x20) WscharNewlines.stop))
 
 pub ml_basic_means : Means Toml10 ml_basic ml_basic_text (97 ∷ 34 ∷ 98 ∷ 13 ∷ 10 ∷ [])

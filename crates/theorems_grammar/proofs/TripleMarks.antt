@@ -1,6 +1,5 @@
 -- A text between two triple marks has the errors and the bytes of its body, which begins after the newline, if there is one,
 -- that follows the opening.
--- Assumes nothing.
 use Prim.Native.Nat.{ℕ, suc, ◌+◌, ◌-◌, ◌≤◌, ◌<◌}
 use mathlib.Core.Path.{◌≡◌, refl, sym, ◌∙◌, ap}
 use mathlib.Core.Logic.{◌↔◌}
@@ -27,7 +26,7 @@ use Rattle.text_classes.proofs.TripleLaws.{triple_bytes, triple_fits}
 use Rattle.decoder_rules.proofs.MarkLaws.{ml_is, start_open, closed_is, end_closed}
 use Rattle.decoder_rules.proofs.DecodeLaws.{bytes_is, errors_is}
 use Rattle.lexer_scans.specs.Extents.{ml_tail}
-use Rattle.theorems_grammar.specs.Grammar.{Newline, x0_a, x0D-0A, OptNewline, absent, present}
+use Rattle.theorems_grammar.specs.Grammar.{Newline, x0A, x0D-0A, OptNewline, absent, present}
 use Rattle.theorems_grammar.specs.Prose.{starts_newline, Trimmed}
 use Rattle.decoder_rules.proofs.AnswerLaws.{nil}
 use Rattle.theorems_grammar.proofs.Encoded.{side, ascii, beyond, first_is, AllAscii, encodes_ascii, between}
@@ -69,7 +68,7 @@ newline_split (b ∷ s) = by_tests_lem (eqb b 10) (eqb b 13) refl refl s
   where
     by_tests_lem : (is-lf is-cr : Bool) → eqb b 10 ≡ is-lf → eqb b 13 ≡ is-cr → (s : List ℕ) → Split (b ∷ s)
     by_tests_lem true is-cr lf cr s =
-        record { newline = 10 ∷ []; rest = s; opt = present x0_a; text = rw (eqb-true b 10 lf); long = rw lf }
+        record { newline = 10 ∷ []; rest = s; opt = present x0A; text = rw (eqb-true b 10 lf); long = rw lf }
     by_tests_lem false false lf cr s = record { newline = []; rest = b ∷ s; opt = absent; text = refl; long = rw (lf, cr) }
     by_tests_lem false true lf cr [] = record { newline = []; rest = b ∷ []; opt = absent; text = refl; long = rw (lf, cr) }
     by_tests_lem false true lf cr (c ∷ s) = by_next (eqb c 10) refl
@@ -86,7 +85,7 @@ newline_split (b ∷ s) = by_tests_lem (eqb b 10) (eqb b 13) refl refl s
         by_next false next = record { newline = []; rest = b ∷ (c ∷ s); opt = absent; text = refl; long = rw (lf, cr, next) }
 
 pub newline_ascii : {n : List ℕ} → Newline n → AllAscii n
-newline_ascii x0_a = (omega arith, tt)
+newline_ascii x0A = (omega arith, tt)
 newline_ascii x0D-0A = (omega arith, (omega arith, tt))
 
 option_ascii : {n : List ℕ} → OptNewline n → AllAscii n
@@ -95,7 +94,7 @@ option_ascii (present l) = newline_ascii l
 
 newline_long : {n : List ℕ} → Newline n → (s : List ℕ) → newline_len (n ++ s) ≡ length n
 unfolding newline_len
-newline_long x0_a s = refl
+newline_long x0A s = refl
 newline_long x0D-0A s = refl
 
 -- the prose rule's test fails exactly where the decoder's count is 0

@@ -1,5 +1,4 @@
 -- Where each escape of a derivation names a scalar value, its value is of scalar values. The converse stands in NameLaws.antt.
--- Assumes nothing.
 use Prim.Native.Nat.{ℕ}
 use mathlib.Core.Logic.{inl}
 use mathlib.Core.Bool.{Bool, false}
@@ -8,7 +7,7 @@ use native.Mathlib.Omega.{arith}
 use Rattle.text_scalars.specs.Utf8.{Scalar, All}
 use Rattle.text_scalars.proofs.CutLaws.{all_append, all_parts}
 use Rattle.decoder_rules.specs.declared.Edition.{Edition}
-use Rattle.theorems_grammar.specs.Grammar.{apostrophe, quotation_mark, LiteralString, literal_string, EscapeSeqChar, x22, x5_c, x62, x66, x6_e, x72, x74, x75, x55, x65, x78, Escaped, escaped, BasicChar, BasicChars, BasicString, basic_string, ml_literal_string_delim, MlLiteralString, ml_literal_string, MlbChar, MlbContent, mlb_char, newline, escaped_nl, ml_basic_string_delim, MlBasicString, ml_basic_string}
+use Rattle.theorems_grammar.specs.Grammar.{apostrophe, quotation_mark, LiteralString, literal_string, EscapeSeqChar, x22, x5C, x62, x66, x6E, x72, x74, x75, x55, x65, x78, Escaped, escaped, BasicChar, BasicChars, BasicString, basic_string, ml_literal_string_delim, MlLiteralString, ml_literal_string, MlbChar, MlbContent, mlb_char, newline, escaped_nl, ml_basic_string_delim, MlBasicString, ml_basic_string}
 use Rattle.theorems_grammar.specs.Scalars.{Names, EscapedNames, CharNames, CharsName, BasicNames, MlbCharNames, ContentNames, MlBasicNames, NamesMean}
 use Rattle.theorems_grammar.specs.Strings.{StringKind, literal, basic, ml_literal, ml_basic, Derived}
 use Rattle.theorems_grammar.proofs.ClassLaws.{no_true}
@@ -23,10 +22,10 @@ use Rattle.theorems_grammar.proofs.MlBasicRuns.{kept, Run, body_run}
 
 escape_scalar : {ed : Edition} {t : List ℕ} {v : ℕ} (e : EscapeSeqChar ed t v) → Names e → Scalar v
 escape_scalar x22 n = inl (omega arith)
-escape_scalar x5_c n = inl (omega arith)
+escape_scalar x5C n = inl (omega arith)
 escape_scalar x62 n = inl (omega arith)
 escape_scalar x66 n = inl (omega arith)
-escape_scalar x6_e n = inl (omega arith)
+escape_scalar x6E n = inl (omega arith)
 escape_scalar x72 n = inl (omega arith)
 escape_scalar x74 n = inl (omega arith)
 escape_scalar (x75 d) n = n
@@ -42,7 +41,7 @@ module _ (ed : Edition) where
   -- ---- basic strings
 
   char_scalar : {t : List ℕ} {v : ℕ} (c : BasicChar ed t v) → CharNames c → All Scalar t → Scalar v
-  char_scalar (BasicChar.basic_unescaped_lem u) n h = h.0
+  char_scalar (BasicChar.unescaped u) n h = h.0
   char_scalar (BasicChar.escaped_char e) n h = escaped_scalar e n
 
   chars_scalars : {cs v : List ℕ} (d : BasicChars ed cs v) → CharsName d → All Scalar cs → All Scalar v
@@ -68,7 +67,7 @@ module _ (ed : Edition) where
   ml_literal_scalars (ml_literal_string {n} {b} o d) h = inner n b ml_literal_string_delim h
 
   mlb_char_scalar : {t : List ℕ} {v : ℕ} (c : MlbChar ed t v) → MlbCharNames c → All Scalar t → Scalar v
-  mlb_char_scalar (MlbChar.mlb_unescaped_lem u) n h = h.0
+  mlb_char_scalar (MlbChar.unescaped u) n h = h.0
   mlb_char_scalar (MlbChar.escaped_char e) n h = escaped_scalar e n
 
   content_scalars : {t w : List ℕ} (c : MlbContent ed t w) → ContentNames c → All Scalar t → All Scalar w

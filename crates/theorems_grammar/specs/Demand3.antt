@@ -12,7 +12,6 @@
 -- is the UTF-8 of scalar values; `Derived`, `Means`, `Apart` (Strings.antt) are the grammar's side.
 -- Newlines are not normalised: the grammar gives a newline in a multi-line string its own code points as its value
 -- (Grammar.antt, `MlbContent.newline`; the value of an ml-literal-body is its text), and the bytes are that value's.
--- Assumes nothing.
 use Rattle.std.specs.Prelude.{ℕ, ◌+◌, ◌≤◌, ◌<◌}
 use mathlib.Core.{Path.◌≡◌, Logic.◌↔◌, List.List, List.[], List.◌++◌, List.Memᴰ}
 use lib.{ListN.length, ListN.drop}

@@ -23,7 +23,7 @@ pub data Ws : List ℕ → Type 0 where
 -- newline =  %x0A     ; LF
 -- newline =/ %x0D.0A  ; CRLF
 pub data Newline : List ℕ → Type 0 where
-  x0_a : Newline (0x0A ∷ [])
+  x0A : Newline (0x0A ∷ [])
   x0D-0A : Newline (0x0D ∷ (0x0A ∷ []))
 
 -- [ newline ]
@@ -35,7 +35,7 @@ pub data OptNewline : List ℕ → Type 0 where
 -- non-ascii = %x80-D7FF / %xE000-10FFFF
 pub data NonAscii : ℕ → Type 0 where
   x80-D7FF : {c : ℕ} → 0x80 ≤ c → c ≤ 0xD7FF → NonAscii c
-  x_e000_10_fFFF : {c : ℕ} → 0xE000 ≤ c → c ≤ 0x10FFFF → NonAscii c
+  xE000-10FFFF : {c : ℕ} → 0xE000 ≤ c → c ≤ 0x10FFFF → NonAscii c
 
 -- ---- Basic String
 -- quotation-mark = %x22            ; "
@@ -50,7 +50,7 @@ escape = 0x5C
 pub data BasicUnescaped : ℕ → Type 0 where
   wschar : {c : ℕ} → Wschar c → BasicUnescaped c
   x21 : BasicUnescaped 0x21
-  x23_5_b : {c : ℕ} → 0x23 ≤ c → c ≤ 0x5B → BasicUnescaped c
+  x23-5B : {c : ℕ} → 0x23 ≤ c → c ≤ 0x5B → BasicUnescaped c
   x5D-7E : {c : ℕ} → 0x5D ≤ c → c ≤ 0x7E → BasicUnescaped c
   non_ascii : {c : ℕ} → NonAscii c → BasicUnescaped c
 
@@ -80,10 +80,10 @@ pub data HexDigits : ℕ → ℕ → List ℕ → ℕ → Type 0 where
 -- escape-seq-char =/ %x78 2HEXDIG ; xHH                  U+00HH
 pub data EscapeSeqChar : Edition → List ℕ → ℕ → Type 0 where
   x22 : {ed : Edition} → EscapeSeqChar ed (0x22 ∷ []) 0x22
-  x5_c : {ed : Edition} → EscapeSeqChar ed (0x5C ∷ []) 0x5C
+  x5C : {ed : Edition} → EscapeSeqChar ed (0x5C ∷ []) 0x5C
   x62 : {ed : Edition} → EscapeSeqChar ed (0x62 ∷ []) 0x08
   x66 : {ed : Edition} → EscapeSeqChar ed (0x66 ∷ []) 0x0C
-  x6_e : {ed : Edition} → EscapeSeqChar ed (0x6E ∷ []) 0x0A
+  x6E : {ed : Edition} → EscapeSeqChar ed (0x6E ∷ []) 0x0A
   x72 : {ed : Edition} → EscapeSeqChar ed (0x72 ∷ []) 0x0D
   x74 : {ed : Edition} → EscapeSeqChar ed (0x74 ∷ []) 0x09
   x75 : {ed : Edition} {t : List ℕ} {v : ℕ} → HexDigits 4 0 t v → EscapeSeqChar ed (0x75 ∷ t) v
@@ -97,7 +97,7 @@ pub data Escaped (ed : Edition) : List ℕ → ℕ → Type 0 where
 
 -- basic-char = basic-unescaped / escaped
 pub data BasicChar (ed : Edition) : List ℕ → ℕ → Type 0 where
-  basic_unescaped_lem : {c : ℕ} → BasicUnescaped c → BasicChar ed (c ∷ []) c
+  unescaped : {c : ℕ} → BasicUnescaped c → BasicChar ed (c ∷ []) c
   escaped_char : {t : List ℕ} {v : ℕ} → Escaped ed t v → BasicChar ed t v
 
 -- *basic-char
@@ -118,13 +118,13 @@ ml_basic_string_delim = quotation_mark ∷ (quotation_mark ∷ (quotation_mark �
 pub data MlbUnescaped : ℕ → Type 0 where
   wschar : {c : ℕ} → Wschar c → MlbUnescaped c
   x21 : MlbUnescaped 0x21
-  x23_5_b : {c : ℕ} → 0x23 ≤ c → c ≤ 0x5B → MlbUnescaped c
+  x23-5B : {c : ℕ} → 0x23 ≤ c → c ≤ 0x5B → MlbUnescaped c
   x5D-7E : {c : ℕ} → 0x5D ≤ c → c ≤ 0x7E → MlbUnescaped c
   non_ascii : {c : ℕ} → NonAscii c → MlbUnescaped c
 
 -- mlb-char = mlb-unescaped / escaped
 pub data MlbChar (ed : Edition) : List ℕ → ℕ → Type 0 where
-  mlb_unescaped_lem : {c : ℕ} → MlbUnescaped c → MlbChar ed (c ∷ []) c
+  unescaped : {c : ℕ} → MlbUnescaped c → MlbChar ed (c ∷ []) c
   escaped_char : {t : List ℕ} {v : ℕ} → Escaped ed t v → MlbChar ed t v
 
 -- wschar / newline
@@ -191,8 +191,8 @@ apostrophe = 0x27
 -- literal-char = %x09 / %x20-26 / %x28-7E / non-ascii
 pub data LiteralChar : ℕ → Type 0 where
   x09 : LiteralChar 0x09
-  x20_26 : {c : ℕ} → 0x20 ≤ c → c ≤ 0x26 → LiteralChar c
-  x28_7_e : {c : ℕ} → 0x28 ≤ c → c ≤ 0x7E → LiteralChar c
+  x20-26 : {c : ℕ} → 0x20 ≤ c → c ≤ 0x26 → LiteralChar c
+  x28-7E : {c : ℕ} → 0x28 ≤ c → c ≤ 0x7E → LiteralChar c
   non_ascii : {c : ℕ} → NonAscii c → LiteralChar c
 
 -- *literal-char
@@ -212,13 +212,13 @@ ml_literal_string_delim = apostrophe ∷ (apostrophe ∷ (apostrophe ∷ []))
 -- mll-char = %x09 / %x20-26 / %x28-7E / non-ascii
 pub data MllChar : ℕ → Type 0 where
   x09 : MllChar 0x09
-  x20_26 : {c : ℕ} → 0x20 ≤ c → c ≤ 0x26 → MllChar c
-  x28_7_e : {c : ℕ} → 0x28 ≤ c → c ≤ 0x7E → MllChar c
+  x20-26 : {c : ℕ} → 0x20 ≤ c → c ≤ 0x26 → MllChar c
+  x28-7E : {c : ℕ} → 0x28 ≤ c → c ≤ 0x7E → MllChar c
   non_ascii : {c : ℕ} → NonAscii c → MllChar c
 
 -- mll-content = mll-char / newline
 pub data MllContent : List ℕ → Type 0 where
-  mll_char_lem : {c : ℕ} → MllChar c → MllContent (c ∷ [])
+  character : {c : ℕ} → MllChar c → MllContent (c ∷ [])
   newline : {t : List ℕ} → Newline t → MllContent t
 
 -- *mll-content

@@ -1,6 +1,5 @@
 -- STATEMENT. The grammar is one of Unicode's scalar values: its class beyond ASCII has them all and nothing else, and no rule
 -- derives anything but them. Proved in proofs/ScalarTexts.antt.
--- Assumes nothing.
 use Rattle.std.specs.Prelude.{ℕ, ◌≤◌, ◌↔◌, List}
 use Rattle.text_scalars.specs.Utf8.{Scalar, All}
 use Rattle.decoder_rules.specs.declared.Edition.{Edition}

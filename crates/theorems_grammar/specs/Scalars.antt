@@ -1,21 +1,20 @@
 -- STATEMENT. TOML's prose: each \u and \U names a Unicode scalar value. The grammar alone takes any digits. Here that is said
 -- of each escape of a derivation; Strings.antt says it of the value, and `names_mean` in proofs/Values.antt proves that both
 -- say the same. What \x names is a scalar value always: two digits reach U+00FF.
--- Assumes nothing.
 use Rattle.std.specs.Prelude.{ℕ}
 use mathlib.Core.{Logic.◌↔◌, List.List}
 use Rattle.text_scalars.specs.{Utf8.Scalar, Utf8.All}
 use Rattle.decoder_rules.specs.declared.{Edition.Edition}
-use Rattle.theorems_grammar.specs.Grammar.{EscapeSeqChar, x22, x5_c, x62, x66, x6_e, x72, x74, x75, x55, x65, x78, Escaped, escaped, BasicChar, BasicChars, BasicString, basic_string, MlbChar, MlbContent, mlb_char, newline, escaped_nl, MlbContents, MlbContents1, some_content, MlbGroups, MlBasicBody, ml_basic_body, MlBasicString, ml_basic_string}
+use Rattle.theorems_grammar.specs.Grammar.{EscapeSeqChar, x22, x5C, x62, x66, x6E, x72, x74, x75, x55, x65, x78, Escaped, escaped, BasicChar, BasicChars, BasicString, basic_string, MlbChar, MlbContent, mlb_char, newline, escaped_nl, MlbContents, MlbContents1, some_content, MlbGroups, MlBasicBody, ml_basic_body, MlBasicString, ml_basic_string}
 
 -- ---- in an escape
 
 abbrev pub Names : {ed : Edition} {t : List ℕ} {v : ℕ} → EscapeSeqChar ed t v → Type 0
 Names x22 = Unit {0}
-Names x5_c = Unit {0}
+Names x5C = Unit {0}
 Names x62 = Unit {0}
 Names x66 = Unit {0}
-Names x6_e = Unit {0}
+Names x6E = Unit {0}
 Names x72 = Unit {0}
 Names x74 = Unit {0}
 Names (x75 {t = t} {v = v} digits) = Scalar v
@@ -29,7 +28,7 @@ EscapedNames (escaped e) = Names e
 -- ---- in a basic string
 
 abbrev pub CharNames : {ed : Edition} {t : List ℕ} {v : ℕ} → BasicChar ed t v → Type 0
-CharNames (BasicChar.basic_unescaped_lem c) = Unit {0}
+CharNames (BasicChar.unescaped c) = Unit {0}
 CharNames (BasicChar.escaped_char e) = EscapedNames e
 
 abbrev pub CharsName : {ed : Edition} {t v : List ℕ} → BasicChars ed t v → Type 0
@@ -42,7 +41,7 @@ BasicNames (basic_string r) = CharsName r
 -- ---- in a multi-line basic string
 
 abbrev pub MlbCharNames : {ed : Edition} {t : List ℕ} {v : ℕ} → MlbChar ed t v → Type 0
-MlbCharNames (MlbChar.mlb_unescaped_lem c) = Unit {0}
+MlbCharNames (MlbChar.unescaped c) = Unit {0}
 MlbCharNames (MlbChar.escaped_char e) = EscapedNames e
 
 abbrev pub ContentNames : {ed : Edition} {t w : List ℕ} → MlbContent ed t w → Type 0

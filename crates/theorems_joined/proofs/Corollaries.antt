@@ -1,6 +1,5 @@
 -- What follows from the law, as specs/Joined.antt states it: for the call `lex`, for the text of each token and what it decodes
 -- to, and for positions.
--- Assumes nothing.
 use Prim.Native.Nat.{ℕ, ◌+◌, ◌-◌, ◌≤◌}
 use mathlib.Core.Path.{◌≡◌, refl, sym, ap, ◌∙◌, subst}
 use mathlib.Core.Logic.{⊎_map}

@@ -1,6 +1,5 @@
 -- The law of specs/Joined.antt, for two parts and for more: the joined document is lexed from where the head is, the seam changes
 -- no token of the head (Seam.antt), and the tail's tokens are those of the tail alone, moved on.
--- Assumes nothing.
 use Prim.Native.Nat.{ℕ, ◌+◌, ◌≤◌, ◌<◌}
 use mathlib.Core.Path.{◌≡◌, refl, sym, ap, ◌∙◌}
 use mathlib.Core.Bool.{Bool, true, false, ◌&&◌}

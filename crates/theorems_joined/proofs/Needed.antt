@@ -1,5 +1,4 @@
 -- Each condition is needed: three pairs that break the law, by computation. The joined document has another number of tokens.
--- Assumes nothing.
 use Prim.Native.Nat.{ℕ}
 use mathlib.Core.Path.{◌≡◌, refl, ap}
 use mathlib.Core.Logic.{inl, inr}

@@ -1,6 +1,5 @@
 -- Why the seam changes no token: each token of the head but the last is followed by a byte of the head, and a token depends on
 -- its own bytes and one byte more; the last is a Newline, for which only an LF that follows a CR matters.
--- Assumes nothing.
 use Prim.Native.Nat.{ℕ, zero, suc, pred, ◌+◌, ◌≤◌, ◌<◌}
 use mathlib.Core.Path.{◌≡◌, refl, sym, ap, ◌∙◌, subst}
 use mathlib.Core.Bool.{Bool, true, false, ◌&&◌}

@@ -3,7 +3,6 @@
 -- parts. Each is proved under the name that its comment gives: the law for two parts and more in proofs/Joined.antt, the pairs
 -- that break it in proofs/Needed.antt, the others in proofs/Corollaries.antt.
 -- The head's lines are its LFs: a CR alone is a Newline token, and ends no line.
--- Assumes nothing.
 use Rattle.std.specs.Prelude.{ℕ, ◌+◌, ◌-◌, ◌≤◌, ◌≡◌, ◌⊎◌, false, length, get_or, take, drop}
 use Rattle.std.proofs.Math.Option.{some}
 use mathlib.Core.List.{List, [], ◌∷◌, ◌++◌, map, flatten, head?, get_last?, drop_last, Memᴰ}

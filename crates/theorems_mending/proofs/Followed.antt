@@ -1,5 +1,4 @@
 -- A token that a quote mark follows lexes the same where a quotation mark follows it instead, or, if it ends in one itself, a space.
--- Assumes nothing.
 use Prim.Native.Nat.{ℕ, suc, ◌+◌, ◌≤◌, ◌<◌}
 use mathlib.Core.Path.{◌≡◌, refl, sym, ◌∙◌, ap, subst}
 use mathlib.Core.Logic.{◌⊎◌, inl, inr, ⊎_elim}

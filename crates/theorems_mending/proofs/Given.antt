@@ -1,7 +1,6 @@
 -- A broken token that a quotation mark follows decodes to some bytes. Of each kind but one every piece gives some, so that a closed
 -- string that gives none has none in its body, and no error. A multi-line basic string drops line-ending escapes; but where a
 -- quotation mark follows it, two stand in its body, and no escape drops those.
--- Assumes nothing.
 use Prim.Native.Nat.{ℕ, zero, suc, ◌+◌, ◌-◌, ◌≤◌, ◌<◌}
 use mathlib.Core.Path.{◌≡◌, refl, sym, ◌∙◌, ap, subst}
 use mathlib.Core.Logic.{◌⊎◌, inl, inr, ⊎_elim}

@@ -1,6 +1,5 @@
 -- Lexing as a relation between bytes and tokens without places: each token's bytes stand at the front, and lex as that token where
 -- the rest follows. It says what whole lexing says, from any place of a document on.
--- Assumes nothing.
 use Prim.Native.Nat.{ℕ, zero, suc, ◌+◌, ◌-◌, ◌≤◌, ◌<◌}
 use mathlib.Core.Path.{◌≡◌, refl, sym, ◌∙◌, ap, subst}
 use mathlib.Core.List.{List, [], ◌∷◌, ◌++◌, map}

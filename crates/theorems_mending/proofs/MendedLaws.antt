@@ -1,6 +1,5 @@
 -- The theorem of specs/Mended.antt: the result is lexed from where the document is, seam by seam as it should be (Mends.antt); a
 -- replacement is UTF-8 and decodes to its value (Respelt.antt); and what has no broken string is left as it is.
--- Assumes nothing.
 use Prim.Native.Nat.{ℕ, suc, ◌+◌, ◌*◌, ◌≤◌, ◌<◌}
 use mathlib.Core.Path.{◌≡◌, refl, sym, ◌∙◌, ap, subst}
 use mathlib.Core.Logic.{◌⊎◌, inl, inr, ⊎_elim}

@@ -1,6 +1,5 @@
 -- What the tokens of a document become is lexed, token by token, as it should be: no seam joins or cuts anything (Seams.antt), and
 -- after an empty replacement no quotation mark follows (Given.antt).
--- Assumes nothing.
 use Prim.Native.Nat.{ℕ, zero, suc, ◌+◌, ◌-◌, ◌*◌, ◌≤◌, ◌<◌}
 use mathlib.Core.Path.{◌≡◌, refl, sym, ◌∙◌, ap, subst}
 use mathlib.Core.Logic.{◌⊎◌, inl, inr, ⊎_elim}

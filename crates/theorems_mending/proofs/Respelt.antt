@@ -1,6 +1,5 @@
 -- A replacement is a basic string that each edition of TOML derives with its value; so it is UTF-8, and decodes to that value without
 -- an error. Bytes and code points are spelt alike.
--- Assumes nothing.
 use Prim.Native.Nat.{ℕ, ◌≤◌, ◌<◌}
 use mathlib.Core.Path.{◌≡◌, refl, sym, ◌∙◌, ap, subst}
 use mathlib.Core.Bool.{true, false}
@@ -18,7 +17,7 @@ use Rattle.decoder_rules.specs.declared.Edition.{Edition}
 use Rattle.decoder_rules.specs.declared.Edition.TheVariants.{Toml10}
 use Rattle.decoder_rules.specs.declared.Encoding.TheVariants.{BasicString as BasicText}
 use Rattle.decoder_rules.specs.Decoding.{bytes_of, errors_of}
-use Rattle.theorems_grammar.specs.Grammar.{x22, x5_c, BasicChars, BasicString, basic_string}
+use Rattle.theorems_grammar.specs.Grammar.{x22, x5C, BasicChars, BasicString, basic_string}
 use Rattle.theorems_grammar.specs.Strings.{basic}
 use Rattle.theorems_grammar.proofs.Encoded.{ascii, beyond, side, ascii_whole, char_bytes}
 use Rattle.theorems_grammar.proofs.LineMarks.{marked, encodes_marked}
@@ -63,7 +62,7 @@ respelled c =
     cond_case (Spelled c) (slashed c)
     (λ h. or_inv (eqb c 0x22) (eqb c 0x5C) h
     (λ e. rw (eqb-true c 0x22 e) (shortly (λ ed. x22) (omega arith) (omega arith)))
-    (λ e. rw (eqb-true c 0x5C e) (shortly (λ ed. x5_c) (omega arith) (omega arith))))
+    (λ e. rw (eqb-true c 0x5C e) (shortly (λ ed. x5C) (omega arith) (omega arith))))
     (λ n. cond_case (Spelled c) (coded c) (λ h. by_code (coded_low c h))
     (λ m. plainly (own_plain c
     (λ e. not_both (or_left (eqb c 0x22) (eqb c 0x5C) (eq-eqb c 0x22 e)) n)

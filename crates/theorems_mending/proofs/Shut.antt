@@ -1,6 +1,5 @@
 -- A string that is closed ends there whatever follows. Each law speaks of the bytes x after the opening marks, of an extent that
 -- ends with x where b follows, and of another byte c in the place of b.
--- Assumes nothing.
 use Prim.Native.Nat.{ℕ, suc, ◌+◌, ◌≤◌, ◌<◌}
 use mathlib.Core.Path.{◌≡◌, refl, sym, ◌∙◌, ap}
 use mathlib.Core.Logic.{◌⊎◌, inl, inr, ⊎_elim}

@@ -17,7 +17,6 @@
 -- The names: `mended`, `listed`, `mend_in`, `mended_after`, `part_of`, `reported`, `decoded`, `replacement` (crate built_mending)
 -- are the text, the records, the answer and the memory of the call, a token's kind and bytes, the errors and the bytes that it
 -- decodes to, and a basic string of given bytes; `tokens_of` (lexer) is whole lexing.
--- Assumes nothing.
 use Rattle.std.specs.Prelude.{ℕ, ◌*◌, ◌≤◌}
 use mathlib.Core.{Path.◌≡◌, Bool.Bool, Bool.true, Bool.false, Bool.cond, List.List, List.[], List.◌∷◌, List.◌++◌, List.map, List.Memᴰ}
 use lib.{ListN.length, ListN.drop}

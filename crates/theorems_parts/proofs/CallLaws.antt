@@ -1,6 +1,5 @@
 -- What the functions promise is what specs/Calls.antt speaks of: so its theorems are about the functions. Each is of the
 -- function's own contract, what a caller learns of its `ensures`; and what stands in the lent records afterwards is told too.
--- Assumes nothing.
 use Prim.Native.Nat.{ℕ, ◌≤◌}
 use mathlib.Core.Path.{◌≡◌, refl, sym, ap, ◌∙◌}
 use mathlib.Core.List.{List, [], ◌∷◌, ◌++◌, map}

@@ -1,5 +1,4 @@
 -- The tokens given are the decided ones: they are the same for all further bytes, and the next token could still be another one.
--- Assumes nothing.
 use Prim.Native.Nat.{ℕ, zero, suc, ◌+◌, ◌≤◌}
 use mathlib.Core.Path.{◌≡◌, refl, sym, ap, ◌∙◌}
 use mathlib.Core.Bool.{Bool, true, false, cond}

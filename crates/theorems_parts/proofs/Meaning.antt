@@ -1,6 +1,5 @@
 -- What is still to come from a state is what the token rules say of the bytes to come; so the tokens that bytes give, and those
 -- at the closing word, are those of the joined bytes.
--- Assumes nothing.
 use Prim.Native.Nat.{ℕ, zero, suc, ◌+◌, ◌≤◌, ◌<◌}
 use mathlib.Core.Path.{◌≡◌, refl, sym, ap, ◌∙◌, subst}
 use mathlib.Core.Bool.{Bool, true, false, cond, ◌&&◌}

@@ -1,7 +1,6 @@
 -- STATEMENT. What the calls of crate `built_parts` come to over any number of parts, wherever the document was cut. Each is proved
 -- under the name that its comment gives: what is said of any one call in proofs/Cases.antt, the others in proofs/Calling.antt; that
 -- the functions promise these answers, and the records with them, in proofs/CallLaws.antt.
--- Assumes nothing.
 use Rattle.std.specs.Prelude.{ℕ, ◌+◌, ◌≤◌, ◌<◌, ◌≡◌, List, [], ◌∷◌, ◌++◌, length}
 use Rattle.text_refusals.specs.Refusals.{limit}
 use Rattle.text_refusals.specs.declared.Refusal.{Refusal}

@@ -1,6 +1,5 @@
 -- STATEMENT. Which tokens of a document that comes in parts may be given after some of its bytes: those that no further bytes, the
 -- limit set aside, could change, and no others. Proved in proofs/Deciding.antt.
--- Assumes nothing.
 use Rattle.std.specs.Prelude.{ℕ, ◌≡◌, List, ◌++◌}
 use Rattle.lexer_token.specs.declared.Token.{Token}
 use Rattle.lexer.specs.Tokens.{tokens_of}

@@ -1,6 +1,5 @@
 -- What the functions promise is what specs/ValuesTell.antt speaks of: so its theorems are about the functions. Each is of the
 -- function's own contract, what a caller learns of its `ensures`.
--- Assumes nothing.
 use Rattle.decoder_rules.specs.declared.Edition.TheVariants.{Toml10}
 use Rattle.decoder_rules.specs.Encodings.{edition_number}
 use Rattle.built_values.proofs.is_value.Reads as is_value

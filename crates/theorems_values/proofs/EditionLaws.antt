@@ -1,5 +1,4 @@
 -- What is a value by TOML 1.0.0 is one by TOML 1.1.0: blanks are lines too, and a separator's blanks go to the keyvals around it.
--- Assumes nothing.
 use Prim.Native.Nat.{ℕ}
 use mathlib.Core.Path.{◌≡◌, refl, sym, ap, subst, ◌∙◌}
 use mathlib.Core.List.{List, [], ◌∷◌, ◌++◌, append_assoc, append-nil}

@@ -3,7 +3,6 @@
 --
 -- The names: `ValueAnswer`, `run_of`, `Val`, `Deep` (crate built_values) are what the calls promise, the kinds of a run,
 -- the grammar of a value, and a run whose brackets are nested too deep.
--- Assumes nothing.
 use Rattle.std.specs.Prelude.{ℕ, zero, suc, ◌≤◌, ◌<◌}
 use mathlib.Core.{Path.◌≡◌, Bool.true, Logic.◌⊎◌, Logic.◌↔◌, List.List, List.[], List.◌∷◌, List.◌++◌}
 use lib.{ListN.length}

@@ -1,6 +1,5 @@
 -- A whole value: what is spelt is derived, and leads every other basic string; and a literal string has the value as it is.
 -- Bytes and code points are spelt alike.
--- Assumes nothing.
 use Prim.Native.Nat.{ℕ, suc, ◌+◌, ◌≤◌}
 use mathlib.Core.Path.{◌≡◌, refl, sym, ◌∙◌, ap}
 use mathlib.Core.Bool.{Bool, true, false, cond}

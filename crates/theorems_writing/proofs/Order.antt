@@ -1,6 +1,5 @@
 -- Which of two texts is preferred: the shorter one, and of two of one length the one with the smaller byte at the first
 -- difference. This goes through a concatenation, so a text may be chosen piece by piece.
--- Assumes nothing.
 use Prim.Native.Nat.{ℕ, ◌≤◌, ◌<◌}
 use mathlib.Core.Path.{◌≡◌, refl, ap}
 use mathlib.Core.Logic.{⊎_elim}
@@ -24,12 +23,29 @@ not_after_join end r = r
 not_after_join (smaller h) r = smaller h
 not_after_join (same q) r = same (not_after_join q r)
 
+-- with two names for each text, since a case of the one order does not yet say what the other is between
+both_at : {s t s₂ t₂ : List ℕ} → NotAfter s t → NotAfter t₂ s₂ → s ≡ s₂ → t ≡ t₂ → s ≡ t
+both_at end end e f = refl
+both_at end (smaller k) e f = cc
+both_at end (same q) e f = cc
+both_at (smaller h) end e f = cc
+both_at (same p) end e f = cc
+both_at (smaller {a} {b} h) (smaller {a = c} {b = d} k) e f =
+    let a_is : a ≡ d = cc in
+    let b_is : b ≡ c = cc in
+    absurd (omega arith)
+both_at (smaller {a} {b} h) (same {a = c} q) e f =
+    let a_is : a ≡ c = cc in
+    let b_is : b ≡ c = cc in
+    absurd (omega arith)
+both_at (same {a} p) (smaller {a = c} {b = d} k) e f =
+    let a_is : a ≡ d = cc in
+    let b_is : a ≡ c = cc in
+    absurd (omega arith)
+both_at (same {a} p) (same q) e f = ap (a ∷◌) (both_at p q (cc) (cc))
+
 pub not_after_both : {s t : List ℕ} → NotAfter s t → NotAfter t s → s ≡ t
-not_after_both end end = refl
-not_after_both (smaller h) (smaller k) = absurd (omega arith)
-not_after_both (smaller h) (same q) = absurd (omega arith)
-not_after_both (same p) (smaller k) = absurd (omega arith)
-not_after_both (same {a} p) (same q) = ap (a ∷◌) (not_after_both p q)
+not_after_both p q = both_at p q refl refl
 
 -- ---- the order
 

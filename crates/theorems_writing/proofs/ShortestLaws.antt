@@ -1,6 +1,5 @@
 -- The text that is written is the one that is asked for: the literal string where there is one, since no basic string is
 -- shorter; else the basic string that leads all others. It is one, it is read back, and the call says so.
--- Assumes nothing.
 use Prim.Native.Nat.{ℕ, ◌≤◌, ◌<◌}
 use mathlib.Core.Path.{◌≡◌, refl, sym, ◌∙◌, ap, subst}
 use mathlib.Core.Logic.{◌⊎◌, inl, inr, ⊎_elim}

@@ -1,5 +1,4 @@
 -- The spelling of one character: TOML derives it, and it leads every other spelling that TOML 1.0.0 derives.
--- Assumes nothing.
 use Prim.Native.Nat.{ℕ, ◌+◌, ◌*◌, ◌/◌, ◌%◌, ◌≤◌, ◌<◌}
 use mathlib.Core.Path.{◌≡◌, refl, ap, subst}
 use mathlib.Core.Bool.{true, false}
@@ -13,10 +12,10 @@ use Rattle.text_scalars.proofs.EncodeLaws.{encode_length}
 use Rattle.decoder_rules.specs.declared.Edition.{Edition}
 use Rattle.decoder_rules.specs.declared.Edition.TheVariants.{Toml10, Toml11}
 use Rattle.decoder_rules.proofs.AsciiLaws.{basic_high}
-use Rattle.theorems_grammar.specs.Grammar.{HexDig, HexDigits, stop, more, EscapeSeqChar, x22, x5_c, x62, x66, x6_e, x72, x74, x75, x55, x65, x78, escaped, BasicChar}
+use Rattle.theorems_grammar.specs.Grammar.{HexDig, HexDigits, stop, more, EscapeSeqChar, x22, x5C, x62, x66, x6E, x72, x74, x75, x55, x65, x78, escaped, BasicChar}
 use Rattle.theorems_grammar.proofs.ClassLaws.{basic_at, basic_is}
 use Rattle.theorems_grammar.proofs.Encoded.{ascii, beyond, side, AllAscii, ascii_whole}
-use Rattle.theorems_grammar.proofs.Escapes.{digits_long, digit_small, escape_ascii}
+use Rattle.theorems_grammar.proofs.Escapes.{digits_long, digit_small, none_left, escape_ascii}
 use Rattle.built_writing.specs.declared.spell.Spelling.{Spelling}
 use Rattle.built_writing.specs.declared.spell.Spelling.TheVariants.{Coded}
 use Rattle.built_writing.specs.Writing.{hex_digit, spelling_of, spelling, spell}
@@ -38,10 +37,10 @@ unfolding spell spelling_of
 spelled c = cond_case (Spelled c) (basic_unescaped c) plainly λ n.
     let P : Spelling → Type 0 = λ r. Spelled c (spelling r c) in
     by_eq P c 0x22 (λ e. rw e (shortly (λ ed. x22) (omega arith) (omega arith)))
-    λ _. by_eq P c 0x5C (λ e. rw e (shortly (λ ed. x5_c) (omega arith) (omega arith)))
+    λ _. by_eq P c 0x5C (λ e. rw e (shortly (λ ed. x5C) (omega arith) (omega arith)))
     λ _. by_eq P c 0x08 (λ e. rw e (shortly (λ ed. x62) (omega arith) (omega arith)))
     λ _. by_eq P c 0x0C (λ e. rw e (shortly (λ ed. x66) (omega arith) (omega arith)))
-    λ _. by_eq P c 0x0A (λ e. rw e (shortly (λ ed. x6_e) (omega arith) (omega arith)))
+    λ _. by_eq P c 0x0A (λ e. rw e (shortly (λ ed. x6E) (omega arith) (omega arith)))
     λ _. by_eq P c 0x0D (λ e. rw e (shortly (λ ed. x72) (omega arith) (omega arith)))
     λ _. by_code (plain_high c n)
 
@@ -58,7 +57,7 @@ coded_digits c h =
     (more (hex_digit_lem (c / 16) (omega arith)) (more (hex_digit_lem (c % 16) (omega arith)) stop))))
 
 pub spelled_derived : {ed : Edition} {c : ℕ} {w : List ℕ} → Scalar c → Spelled c w → BasicChar ed w c
-spelled_derived {c = c} s (plainly h) = BasicChar.basic_unescaped_lem (basic_is c s h)
+spelled_derived {c = c} s (plainly h) = BasicChar.unescaped (basic_is c s h)
 spelled_derived {ed} s (shortly e h k) = BasicChar.escaped_char (escaped (e ed))
 spelled_derived {c = c} s (by_code h) = BasicChar.escaped_char (escaped (x75 (coded_digits c h)))
 
@@ -97,12 +96,14 @@ digit_at h n e = rw e (digit_least h)
 
 digits_least : {t : List ℕ} {v : ℕ} → HexDigits 4 0 t v → v < 0x80
     → NotAfter (0x30 ∷ (0x30 ∷ (hex_digit (v / 16) ∷ (hex_digit (v % 16) ∷ [])))) t
-digits_least (more {d = a} x (more {d = b} y (more {d = c} z (more {d = d} w stop)))) h =
+digits_least (more {d = a} x (more {d = b} y (more {d = c} z (more {d = d} w rest)))) h =
+    let left = none_left rest in
     let v = (((0 * 16 + a) * 16 + b) * 16 + c) * 16 + d in
-    not_after_cons (digit_at x 0 (omega arith))
+    rw (left.1, left.0)
+    (not_after_cons (digit_at x 0 (omega arith))
     (not_after_cons (digit_at y 0 (omega arith))
     (not_after_cons (digit_at z (v / 16) (omega (arith, digit_small w)))
-    (not_after_cons (digit_at w (v % 16) (omega (arith, digit_small w))) end)))
+    (not_after_cons (digit_at w (v % 16) (omega (arith, digit_small w))) end))))
 
 code_least : {c : ℕ} {w t : List ℕ} → Spelled c w → HexDigits 4 0 t c → Leads (encodes w) (0x5C ∷ (0x75 ∷ t))
 code_least {c} (plainly e) d = shorter (omega (arith, ap length (one_char c), encode_length c, digits_long d))
@@ -120,10 +121,10 @@ escape_least : {ed : Edition} {t : List ℕ} {c : ℕ} → EscapeSeqChar ed t c 
     → Leads (encodes (spell c)) (encodes (0x5C ∷ t))
 unfolding spell spelling_of basic_unescaped
 escape_least x22 e = leads_self (encodes (0x5C ∷ (0x22 ∷ [])))
-escape_least x5_c e = leads_self (encodes (0x5C ∷ (0x5C ∷ [])))
+escape_least x5C e = leads_self (encodes (0x5C ∷ (0x5C ∷ [])))
 escape_least x62 e = leads_self (encodes (0x5C ∷ (0x62 ∷ [])))
 escape_least x66 e = leads_self (encodes (0x5C ∷ (0x66 ∷ [])))
-escape_least x6_e e = leads_self (encodes (0x5C ∷ (0x6E ∷ [])))
+escape_least x6E e = leads_self (encodes (0x5C ∷ (0x6E ∷ [])))
 escape_least x72 e = leads_self (encodes (0x5C ∷ (0x72 ∷ [])))
 escape_least x74 e = rw (escape_bytes {ed = Toml10} x74, ascii_whole (0x09 ∷ []) (omega arith, tt)) (shorter (omega arith))
 escape_least (x75 {v = c} d) e = rw (escape_bytes {ed = Toml10} (x75 d)) (code_least (spelled c) d)
@@ -134,5 +135,5 @@ escape_least (x78 d) e = absurd (other_edition e)
 
 pub spell_least : {t : List ℕ} {c : ℕ} → BasicChar Toml10 t c → Leads (encodes (spell c)) (encodes t)
 unfolding spell
-spell_least {c = c} (BasicChar.basic_unescaped_lem u) = rw (basic_at u) (leads_self (encodes (c ∷ [])))
+spell_least {c = c} (BasicChar.unescaped u) = rw (basic_at u) (leads_self (encodes (c ∷ [])))
 spell_least (BasicChar.escaped_char (escaped e)) = escape_least e refl

@@ -9,7 +9,6 @@
 -- The names: `written`, `write_answer`, `written_after` (crate built_writing) are the text of a value, and what `write_value`
 -- promises to answer and to leave in the output; `TextDerived`, `answer_of`, `output_of` (crate theorems_grammar) are a text in
 -- bytes that the grammar derives, and the same of the call `decode_in`; the others are those of Demand3.antt there.
--- Assumes nothing.
 use Rattle.std.specs.Prelude.{ℕ, ◌+◌, ◌≤◌, ◌<◌}
 use mathlib.Core.{Path.◌≡◌, List.List, List.[], List.◌∷◌, List.◌++◌, List.Memᴰ}
 use lib.{ListN.length, ListN.drop}

@@ -14,19 +14,19 @@ bounds-figures-32 c = omega (arith, ap length c.requires)
 pub returns-then-doc-gt-MOST : goal.returns-then-doc-gt-MOST
 returns-then-doc-gt-MOST c =
     let is = long c.args.doc.now c.if-doc-gt-MOST.true in
-    (sym is.0, ap (λ (r : List ℕ). set r 32 1) c.requires ∙ sym is.1)
+    record { verdict = sym is.verdict; figures = ap (λ (r : List ℕ). set r 32 1) c.requires ∙ sym is.figures }
 
 pub bounds-figures-31 : goal.bounds-figures-31
 bounds-figures-31 c = omega (arith, ap length c.requires)
 
 pub returns-in-Refused : goal.returns-in-Refused
 returns-in-Refused c =
-    let check = sym c.check_utf8.ensures.0 ∙ c.in-Refused.is in
+    let check = sym c.check_utf8.ensures.answer ∙ c.in-Refused.is in
     let is = short c.args.doc.now c.if-doc-gt-MOST.false _ check in
-    (sym is.0, ap (λ (r : List ℕ). set r 31 1) c.requires ∙ sym is.1)
+    record { verdict = sym is.verdict; figures = ap (λ (r : List ℕ). set r 31 1) c.requires ∙ sym is.figures }
 
 pub returns : goal.returns
 returns c =
-    let check = sym c.check_utf8.ensures.0 ∙ c.in_default.is in
+    let check = sym c.check_utf8.ensures.answer ∙ c.in_default.is in
     let is = short c.args.doc.now c.if-doc-gt-MOST.false _ check in
-    (sym is.0, c.count_tokens.ensures ∙ sym is.1)
+    record { verdict = sym is.verdict; figures = c.count_tokens.ensures ∙ sym is.figures }

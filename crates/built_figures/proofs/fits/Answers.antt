@@ -14,7 +14,7 @@ pub loop-i-init : goal.loop-i-init
 loop-i-init c = (omega arith, λ k h. absurd (omega arith))
 
 pub overflow_sub-totals : goal.overflow_sub-totals
-overflow_sub-totals c = omega (arith, c.shared_slice_known-1.given c.loop-i.i)
+overflow_sub-totals c = omega (arith, c.type_inv.totals c.loop-i.i)
 
 pub returns-then-totals-i : goal.returns-then-totals-i
 returns-then-totals-i c =
@@ -27,7 +27,7 @@ loop-i-preserved c =
     let a = c.args in
     let l = c.loop-i in
     let here : get_or (added a.totals.now a.figures.now) l.i 0 ≤ greatest =
-    omega (arith, c.if-totals-i.false, c.shared_slice_known-1.given l.i, added_at a.totals.now a.figures.now l.i) in
+    omega (arith, c.if-totals-i.false, c.type_inv.totals l.i, added_at a.totals.now a.figures.now l.i) in
     (omega arith, below_more _ _ l.invariant.1 here)
 
 pub returns : goal.returns

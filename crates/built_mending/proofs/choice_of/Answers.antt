@@ -10,5 +10,5 @@ use Rattle.built_mending.proofs.choice_of.Goals as goal
 pub returns : goal.returns
 returns c =
     let a = c.args in
-    let number = ap (λ x. x.number) c.encoding-encoding.ensures.0 ∙ ap (λ (n : ℕ). (encoding_of n).number) c.number.ensures in
+    let number = ap (λ x. x.number) c.encoding-encoding.ensures.answer ∙ ap (λ (n : ℕ). (encoding_of n).number) c.number.ensures in
     c.choice_by.ensures ∙ ap (choice_by a.edition) (number ∙ encoding_is a.kind)

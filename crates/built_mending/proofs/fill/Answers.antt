@@ -22,7 +22,7 @@ reading_of-requires c =
     let a = c.args in
     let l = c.loop-at in
     let t = c.token_at-next in
-    let fits = token_within a.doc.now l.at l.line c.loop-at-test.true t.result.token t.ensures.0 in
+    let fits = token_within a.doc.now l.at l.line c.loop-at-test.true t.result.token t.ensures.token in
     (omega (arith, fits.0, fits.1), fits.2)
 
 pub copy_in-o1-requires : goal.copy_in-o1-requires
@@ -32,8 +32,7 @@ copy_in-o1-requires c =
     let t = c.token_at-next in
     let r = c.reading_of in
     let pre = c.requires in
-    let x = c.e-1.given in
-    let s = filled_space a.doc.now l.at l.line c.loop-at-test.true t.result.token t.ensures.0 a.edition t.result.line t.ensures.1 r.result r.ensures a.output.now a.records.now l.invariant x.0.0 x.1 pre.1 pre.2 in
+    let s = filled_space a.doc.now l.at l.line c.loop-at-test.true t.result.token t.ensures.token a.edition t.result.line t.ensures.line r.result r.ensures a.output.now a.records.now l.invariant c.in-Broken.e c.in-Broken.is pre.1 pre.2 in
     (l.invariant.back, l.invariant.within, omega (arith, s.0))
 
 pub slice_bounds-replace-count : goal.slice_bounds-replace-count
@@ -41,7 +40,7 @@ slice_bounds-replace-count c =
     let a = c.args in
     let l = c.loop-at in
     let t = c.token_at-next in
-    let fits = token_within a.doc.now l.at l.line c.loop-at-test.true t.result.token t.ensures.0 in
+    let fits = token_within a.doc.now l.at l.line c.loop-at-test.true t.result.token t.ensures.token in
     omega (arith, fits.1)
 
 pub slice_bounds-replace-start : goal.slice_bounds-replace-start
@@ -49,7 +48,7 @@ slice_bounds-replace-start c =
     let a = c.args in
     let l = c.loop-at in
     let t = c.token_at-next in
-    let fits = token_within a.doc.now l.at l.line c.loop-at-test.true t.result.token t.ensures.0 in
+    let fits = token_within a.doc.now l.at l.line c.loop-at-test.true t.result.token t.ensures.token in
     omega (arith, fits.1, fits.2)
 
 pub slice_bounds-replace-end : goal.slice_bounds-replace-end
@@ -57,7 +56,7 @@ slice_bounds-replace-end c =
     let a = c.args in
     let l = c.loop-at in
     let t = c.token_at-next in
-    let fits = token_within a.doc.now l.at l.line c.loop-at-test.true t.result.token t.ensures.0 in
+    let fits = token_within a.doc.now l.at l.line c.loop-at-test.true t.result.token t.ensures.token in
     fits.2
 
 pub replace-done-requires : goal.replace-done-requires
@@ -67,17 +66,16 @@ replace-done-requires c =
     let t = c.token_at-next in
     let r = c.reading_of in
     let pre = c.requires in
-    let x = c.e-1.given in
-    let s = filled_space a.doc.now l.at l.line c.loop-at-test.true t.result.token t.ensures.0 a.edition t.result.line t.ensures.1 r.result r.ensures a.output.now a.records.now l.invariant x.0.0 x.1 pre.1 pre.2 in
+    let s = filled_space a.doc.now l.at l.line c.loop-at-test.true t.result.token t.ensures.token a.edition t.result.line t.ensures.line r.result r.ensures a.output.now a.records.now l.invariant c.in-Broken.e c.in-Broken.is pre.1 pre.2 in
     let copy = c.copy_in-o1 in
-    (omega (arith, s.0, copy.ensures.place, copy.auto.1.1.1.0), s.1)
+    (omega (arith, s.0, copy.ensures.place, copy.auto.output), s.1)
 
 pub loop-at-smaller-in-Broken : goal.loop-at-smaller-in-Broken
 loop-at-smaller-in-Broken c =
     let a = c.args in
     let l = c.loop-at in
     let t = c.token_at-next in
-    let fits = token_within a.doc.now l.at l.line c.loop-at-test.true t.result.token t.ensures.0 in
+    let fits = token_within a.doc.now l.at l.line c.loop-at-test.true t.result.token t.ensures.token in
     omega (arith, fits.1, fits.2)
 
 pub loop-at-preserved-in-Broken : goal.loop-at-preserved-in-Broken
@@ -86,18 +84,17 @@ loop-at-preserved-in-Broken c =
     let l = c.loop-at in
     let t = c.token_at-next in
     let r = c.reading_of in
-    let x = c.e-1.given in
     let copy = c.copy_in-o1 in
     let put = c.replace-done in
-    filled_replaced a.doc.now l.at l.line c.loop-at-test.true t.result.token t.ensures.0 a.edition t.result.line t.ensures.1 r.result r.ensures a.output.now a.records.now l.invariant x.0.0 x.1
-    (put.auto.1.1.1.1.0 ∙ copy.auto.1.1.1.0) put.auto.1.1.1.1.1.1.0 copy.ensures put.ensures.0 put.ensures.1
+    filled_replaced a.doc.now l.at l.line c.loop-at-test.true t.result.token t.ensures.token a.edition t.result.line t.ensures.line r.result r.ensures a.output.now a.records.now l.invariant c.in-Broken.e c.in-Broken.is
+    (put.auto.output ∙ copy.auto.output) put.auto.records copy.ensures put.ensures.output put.ensures.records
 
 pub overflow_sub-quoted : goal.overflow_sub-quoted
 overflow_sub-quoted c =
     let a = c.args in
     let l = c.loop-at in
     let t = c.token_at-next in
-    let fits = token_within a.doc.now l.at l.line c.loop-at-test.true t.result.token t.ensures.0 in
+    let fits = token_within a.doc.now l.at l.line c.loop-at-test.true t.result.token t.ensures.token in
     omega (arith, fits.1)
 
 pub bounds-doc-end : goal.bounds-doc-end
@@ -105,7 +102,7 @@ bounds-doc-end c =
     let a = c.args in
     let l = c.loop-at in
     let t = c.token_at-next in
-    let fits = token_within a.doc.now l.at l.line c.loop-at-test.true t.result.token t.ensures.0 in
+    let fits = token_within a.doc.now l.at l.line c.loop-at-test.true t.result.token t.ensures.token in
     omega (arith, fits.1, fits.2)
 
 pub loop-at-smaller : goal.loop-at-smaller
@@ -113,7 +110,7 @@ loop-at-smaller c =
     let a = c.args in
     let l = c.loop-at in
     let t = c.token_at-next in
-    let fits = token_within a.doc.now l.at l.line c.loop-at-test.true t.result.token t.ensures.0 in
+    let fits = token_within a.doc.now l.at l.line c.loop-at-test.true t.result.token t.ensures.token in
     omega (arith, fits.1, fits.2)
 
 pub loop-at-preserved : goal.loop-at-preserved
@@ -122,7 +119,7 @@ loop-at-preserved c =
     let l = c.loop-at in
     let t = c.token_at-next in
     let r = c.reading_of in
-    filled_kept a.doc.now l.at l.line c.loop-at-test.true t.result.token t.ensures.0 a.edition t.result.line t.ensures.1 r.result r.ensures a.output.now a.records.now l.invariant c.in_default.is
+    filled_kept a.doc.now l.at l.line c.loop-at-test.true t.result.token t.ensures.token a.edition t.result.line t.ensures.line r.result r.ensures a.output.now a.records.now l.invariant c.in_default.is
 
 pub copy_in-o1-requires-2 : goal.copy_in-o1-requires-2
 copy_in-o1-requires-2 c =
@@ -131,7 +128,7 @@ copy_in-o1-requires-2 c =
     (left.0, omega arith, left.1)
 
 pub shape_of-output : goal.shape_of-output
-shape_of-output c = c.copy_in-o1-2.auto.1.1.1.0 ∙ c.loop-at.invariant.out_long
+shape_of-output c = c.copy_in-o1-2.auto.output ∙ c.loop-at.invariant.out_long
 
 pub shape_of-records : goal.shape_of-records
 shape_of-records c = c.loop-at.invariant.recs_long
@@ -139,4 +136,6 @@ shape_of-records c = c.loop-at.invariant.recs_long
 pub returns : goal.returns
 returns c =
     let a = c.args in
-    filled_end a.edition a.doc.now a.output.now a.records.now c.loop-at-test.false c.loop-at.invariant c.copy_in-o1-2.ensures
+    let end =
+    filled_end a.edition a.doc.now a.output.now a.records.now c.loop-at-test.false c.loop-at.invariant c.copy_in-o1-2.ensures in
+    record { output = end.0; records = end.1 }

@@ -23,7 +23,7 @@ reading_of-requires c =
     let a = c.args in
     let l = c.loop-at in
     let t = c.token_at-next in
-    let fits = token_within a.doc.now l.at l.line c.loop-at-test.true t.result.token t.ensures.0 in
+    let fits = token_within a.doc.now l.at l.line c.loop-at-test.true t.result.token t.ensures.token in
     (omega (arith, fits.0, fits.1), fits.2)
 
 pub slice_bounds-replacement_needs-count : goal.slice_bounds-replacement_needs-count
@@ -31,7 +31,7 @@ slice_bounds-replacement_needs-count c =
     let a = c.args in
     let l = c.loop-at in
     let t = c.token_at-next in
-    let fits = token_within a.doc.now l.at l.line c.loop-at-test.true t.result.token t.ensures.0 in
+    let fits = token_within a.doc.now l.at l.line c.loop-at-test.true t.result.token t.ensures.token in
     omega (arith, fits.1)
 
 pub slice_bounds-replacement_needs-start : goal.slice_bounds-replacement_needs-start
@@ -39,7 +39,7 @@ slice_bounds-replacement_needs-start c =
     let a = c.args in
     let l = c.loop-at in
     let t = c.token_at-next in
-    let fits = token_within a.doc.now l.at l.line c.loop-at-test.true t.result.token t.ensures.0 in
+    let fits = token_within a.doc.now l.at l.line c.loop-at-test.true t.result.token t.ensures.token in
     omega (arith, fits.1, fits.2)
 
 pub slice_bounds-replacement_needs-end : goal.slice_bounds-replacement_needs-end
@@ -47,7 +47,7 @@ slice_bounds-replacement_needs-end c =
     let a = c.args in
     let l = c.loop-at in
     let t = c.token_at-next in
-    let fits = token_within a.doc.now l.at l.line c.loop-at-test.true t.result.token t.ensures.0 in
+    let fits = token_within a.doc.now l.at l.line c.loop-at-test.true t.result.token t.ensures.token in
     fits.2
 
 pub replacement_needs-need-requires : goal.replacement_needs-need-requires
@@ -55,7 +55,7 @@ replacement_needs-need-requires c =
     let a = c.args in
     let l = c.loop-at in
     let t = c.token_at-next in
-    let fits = token_within a.doc.now l.at l.line c.loop-at-test.true t.result.token t.ensures.0 in
+    let fits = token_within a.doc.now l.at l.line c.loop-at-test.true t.result.token t.ensures.token in
     omega (arith, part_long a.doc.now l.at t.result.token.span.end (omega (arith, fits.1)) fits.2, fits.2, c.requires)
 
 pub overflow_add-n : goal.overflow_add-n
@@ -67,8 +67,8 @@ overflow_add-n c =
     let need = c.replacement_needs-need in
     let gap = c.gap_width in
     let same : gap.result + need.result.bytes ≡ length (gap_of l.quoted) + length (replacement (bytes_of c.in-Broken.e (between a.doc.now l.at t.result.token.span.end))) =
-    omega (arith, gap.ensures, need.ensures.0) in
-    let v = counted_replaced a.doc.now l.at l.line c.loop-at-test.true t.result.token t.ensures.0 a.edition t.result.line t.ensures.1 r.result r.ensures c.in-Broken.e c.in-Broken.is l.invariant same need.ensures.1 in
+    omega (arith, gap.ensures, need.ensures.bytes) in
+    let v = counted_replaced a.doc.now l.at l.line c.loop-at-test.true t.result.token t.ensures.token a.edition t.result.line t.ensures.line r.result r.ensures c.in-Broken.e c.in-Broken.is l.invariant same need.ensures.records in
     omega (arith, v.bytes, mended_most a.edition a.doc.now, c.requires)
 
 pub overflow_add-n-in-Broken : goal.overflow_add-n-in-Broken
@@ -80,8 +80,8 @@ overflow_add-n-in-Broken c =
     let need = c.replacement_needs-need in
     let gap = c.gap_width in
     let same : gap.result + need.result.bytes ≡ length (gap_of l.quoted) + length (replacement (bytes_of c.in-Broken.e (between a.doc.now l.at t.result.token.span.end))) =
-    omega (arith, gap.ensures, need.ensures.0) in
-    let v = counted_replaced a.doc.now l.at l.line c.loop-at-test.true t.result.token t.ensures.0 a.edition t.result.line t.ensures.1 r.result r.ensures c.in-Broken.e c.in-Broken.is l.invariant same need.ensures.1 in
+    omega (arith, gap.ensures, need.ensures.bytes) in
+    let v = counted_replaced a.doc.now l.at l.line c.loop-at-test.true t.result.token t.ensures.token a.edition t.result.line t.ensures.line r.result r.ensures c.in-Broken.e c.in-Broken.is l.invariant same need.ensures.records in
     omega (arith, v.bytes, mended_most a.edition a.doc.now, c.requires)
 
 pub overflow_add-m : goal.overflow_add-m
@@ -93,8 +93,8 @@ overflow_add-m c =
     let need = c.replacement_needs-need in
     let gap = c.gap_width in
     let same : gap.result + need.result.bytes ≡ length (gap_of l.quoted) + length (replacement (bytes_of c.in-Broken.e (between a.doc.now l.at t.result.token.span.end))) =
-    omega (arith, gap.ensures, need.ensures.0) in
-    let v = counted_replaced a.doc.now l.at l.line c.loop-at-test.true t.result.token t.ensures.0 a.edition t.result.line t.ensures.1 r.result r.ensures c.in-Broken.e c.in-Broken.is l.invariant same need.ensures.1 in
+    omega (arith, gap.ensures, need.ensures.bytes) in
+    let v = counted_replaced a.doc.now l.at l.line c.loop-at-test.true t.result.token t.ensures.token a.edition t.result.line t.ensures.line r.result r.ensures c.in-Broken.e c.in-Broken.is l.invariant same need.ensures.records in
     omega (arith, v.records, listed_few a.edition a.doc.now, c.requires)
 
 pub loop-at-smaller-in-Broken : goal.loop-at-smaller-in-Broken
@@ -102,7 +102,7 @@ loop-at-smaller-in-Broken c =
     let a = c.args in
     let l = c.loop-at in
     let t = c.token_at-next in
-    let fits = token_within a.doc.now l.at l.line c.loop-at-test.true t.result.token t.ensures.0 in
+    let fits = token_within a.doc.now l.at l.line c.loop-at-test.true t.result.token t.ensures.token in
     omega (arith, fits.1, fits.2)
 
 pub loop-at-preserved-in-Broken : goal.loop-at-preserved-in-Broken
@@ -114,8 +114,8 @@ loop-at-preserved-in-Broken c =
     let need = c.replacement_needs-need in
     let gap = c.gap_width in
     let same : gap.result + need.result.bytes ≡ length (gap_of l.quoted) + length (replacement (bytes_of c.in-Broken.e (between a.doc.now l.at t.result.token.span.end))) =
-    omega (arith, gap.ensures, need.ensures.0) in
-    let v = counted_replaced a.doc.now l.at l.line c.loop-at-test.true t.result.token t.ensures.0 a.edition t.result.line t.ensures.1 r.result r.ensures c.in-Broken.e c.in-Broken.is l.invariant same need.ensures.1 in
+    omega (arith, gap.ensures, need.ensures.bytes) in
+    let v = counted_replaced a.doc.now l.at l.line c.loop-at-test.true t.result.token t.ensures.token a.edition t.result.line t.ensures.line r.result r.ensures c.in-Broken.e c.in-Broken.is l.invariant same need.ensures.records in
     v
 
 pub overflow_sub-n : goal.overflow_sub-n
@@ -123,7 +123,7 @@ overflow_sub-n c =
     let a = c.args in
     let l = c.loop-at in
     let t = c.token_at-next in
-    let fits = token_within a.doc.now l.at l.line c.loop-at-test.true t.result.token t.ensures.0 in
+    let fits = token_within a.doc.now l.at l.line c.loop-at-test.true t.result.token t.ensures.token in
     omega (arith, fits.1)
 
 pub overflow_add-n-in-loop-at : goal.overflow_add-n-in-loop-at
@@ -132,7 +132,7 @@ overflow_add-n-in-loop-at c =
     let l = c.loop-at in
     let t = c.token_at-next in
     let r = c.reading_of in
-    let v = counted_kept a.doc.now l.at l.line c.loop-at-test.true t.result.token t.ensures.0 a.edition t.result.line t.ensures.1 r.result r.ensures c.in_default.is l.invariant in
+    let v = counted_kept a.doc.now l.at l.line c.loop-at-test.true t.result.token t.ensures.token a.edition t.result.line t.ensures.line r.result r.ensures c.in_default.is l.invariant in
     omega (arith, v.bytes, mended_most a.edition a.doc.now, c.requires)
 
 pub overflow_sub-quoted : goal.overflow_sub-quoted
@@ -140,7 +140,7 @@ overflow_sub-quoted c =
     let a = c.args in
     let l = c.loop-at in
     let t = c.token_at-next in
-    let fits = token_within a.doc.now l.at l.line c.loop-at-test.true t.result.token t.ensures.0 in
+    let fits = token_within a.doc.now l.at l.line c.loop-at-test.true t.result.token t.ensures.token in
     omega (arith, fits.1)
 
 pub bounds-doc-end : goal.bounds-doc-end
@@ -148,7 +148,7 @@ bounds-doc-end c =
     let a = c.args in
     let l = c.loop-at in
     let t = c.token_at-next in
-    let fits = token_within a.doc.now l.at l.line c.loop-at-test.true t.result.token t.ensures.0 in
+    let fits = token_within a.doc.now l.at l.line c.loop-at-test.true t.result.token t.ensures.token in
     omega (arith, fits.1, fits.2)
 
 pub loop-at-smaller : goal.loop-at-smaller
@@ -156,7 +156,7 @@ loop-at-smaller c =
     let a = c.args in
     let l = c.loop-at in
     let t = c.token_at-next in
-    let fits = token_within a.doc.now l.at l.line c.loop-at-test.true t.result.token t.ensures.0 in
+    let fits = token_within a.doc.now l.at l.line c.loop-at-test.true t.result.token t.ensures.token in
     omega (arith, fits.1, fits.2)
 
 pub loop-at-preserved : goal.loop-at-preserved
@@ -165,8 +165,10 @@ loop-at-preserved c =
     let l = c.loop-at in
     let t = c.token_at-next in
     let r = c.reading_of in
-    let v = counted_kept a.doc.now l.at l.line c.loop-at-test.true t.result.token t.ensures.0 a.edition t.result.line t.ensures.1 r.result r.ensures c.in_default.is l.invariant in
+    let v = counted_kept a.doc.now l.at l.line c.loop-at-test.true t.result.token t.ensures.token a.edition t.result.line t.ensures.line r.result r.ensures c.in_default.is l.invariant in
     v
 
 pub returns : goal.returns
-returns c = counted_end c.args.edition c.args.doc.now c.loop-at-test.false c.loop-at.invariant
+returns c =
+    let end = counted_end c.args.edition c.args.doc.now c.loop-at-test.false c.loop-at.invariant in
+    record { bytes = end.0; records = end.1 }

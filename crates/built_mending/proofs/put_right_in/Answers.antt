@@ -8,14 +8,14 @@ use borrow.Author.Rules.{rules}
 use Rattle.built_mending.proofs.put_right_in.Goals as goal
 
 pub mend-requires : goal.mend-requires
-mend-requires c = (checked c.args.doc.now (sym c.check_utf8-check.ensures.0 ∙ c.in-Valid.is)).0
+mend-requires c = (checked c.args.doc.now (sym c.in-Valid.ensures.answer)).0
 
 pub returns-in-Refused : goal.returns-in-Refused
 returns-in-Refused c =
     let a = c.args in
     let o = length a.output.now in
     let m = length a.records.now in
-    let refused = sym c.in-Refused.is ∙ c.check_utf8-check.ensures.0 in
+    let refused = c.in-Refused.ensures.answer in
     told a.doc.now a.edition o m _ (answer_refused a.doc.now a.edition o m _ refused) refl refl
 
 pub returns-then-is_edition : goal.returns-then-is_edition
@@ -23,7 +23,7 @@ returns-then-is_edition c =
     let a = c.args in
     let o = length a.output.now in
     let m = length a.records.now in
-    let valid = sym c.in-Valid.is ∙ c.check_utf8-check.ensures.0 in
+    let valid = c.in-Valid.ensures.answer in
     let named = sym c.is_edition.ensures ∙ c.if-is_edition.true in
     let done = c.mend.ensures in
     told a.doc.now a.edition o m _ (done.answer ∙ answer_mended a.doc.now a.edition o m valid named) done.output done.records
@@ -33,6 +33,6 @@ returns-else-is_edition c =
     let a = c.args in
     let o = length a.output.now in
     let m = length a.records.now in
-    let valid = sym c.in-Valid.is ∙ c.check_utf8-check.ensures.0 in
+    let valid = c.in-Valid.ensures.answer in
     let unnamed = sym c.is_edition.ensures ∙ c.if-is_edition.false in
     told a.doc.now a.edition o m _ (answer_unnamed a.doc.now a.edition o m valid unnamed) refl refl

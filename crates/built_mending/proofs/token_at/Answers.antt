@@ -12,16 +12,17 @@ pub returns-in-Token : goal.returns-in-Token
 returns-in-Token c =
     let a = c.args in
     let pre = c.requires in
-    step_gives a.doc.now pre.2 a.at a.line pre.0 pre.1 _ _ (sym c.step_by.ensures.0 ∙ c.in-Token.is)
+    let given = step_gives a.doc.now pre.2 a.at a.line pre.0 pre.1 _ _ (sym c.in-Token.ensures.answer) in
+    record { token = given.0; line = given.1 }
 
 pub returns-in-End : goal.returns-in-End
 returns-in-End c =
     let a = c.args in
     let pre = c.requires in
-    absurd (not_end a.doc.now pre.2 a.at a.line pre.0 pre.1 (sym c.step_by.ensures.0 ∙ c.in-End.is))
+    absurd (not_end a.doc.now pre.2 a.at a.line pre.0 pre.1 (sym c.in-End.ensures.answer))
 
 pub returns-in-Refused : goal.returns-in-Refused
 returns-in-Refused c =
     let a = c.args in
     let pre = c.requires in
-    absurd (not_refused a.doc.now pre.2 a.at a.line pre.0 pre.1 _ (sym c.step_by.ensures.0 ∙ c.in-Refused.is))
+    absurd (not_refused a.doc.now pre.2 a.at a.line pre.0 pre.1 _ (sym c.in-Refused.ensures.answer))

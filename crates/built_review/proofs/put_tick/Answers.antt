@@ -1,6 +1,6 @@
 -- `put_tick` is right because its first test is the rule's, and because `or` with the reviewer's bit sets that bit alone, and
 -- `and` with all others clears it alone.
-use Rattle.std.proofs.Common.{◌≡◌, ℕ, ◌-◌, ◌<◌, Bool, cond, length, get_or, bit_and, bit_or, sym, ap, ◌∙◌, arith}
+use Rattle.std.proofs.Common.{◌≡◌, ℕ, ◌-◌, ◌<◌, Bool, cond, get_or, bit_and, bit_or, sym, ap, ◌∙◌, arith}
 use Rattle.built_review.specs.Review.{put_bit}
 use Rattle.built_review.proofs.BitLaws.{or_bit, and_not_bit}
 use Rattle.built_review.proofs.TableLaws.{serves, marks_kept, marks_stored}

@@ -1,7 +1,6 @@
 -- `is_value_in` is right because its tests stand in the order of the rule's refusals.
-use mathlib.Core.Path.{◌≡◌, sym, ◌∙◌}
+use mathlib.Core.Path.{sym}
 use mathlib.Core.Logic.{inl, inr}
-use borrow.Author.Rules.{rules}
 use Rattle.decoder_rules.specs.declared.Edition.TheVariants.{Toml10, Toml11}
 use Rattle.built_values.specs.Answers.{Named, ValueAnswer}
 use Rattle.built_values.proofs.NumberLaws.{none_has, told}

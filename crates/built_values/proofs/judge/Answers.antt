@@ -1,10 +1,6 @@
 -- `judge` is right because a run is a value where the value at its front ends with it.
-use mathlib.Core.Path.{◌≡◌, sym, subst, ◌∙◌}
-use borrow.Author.Rules.{rules}
-use Rattle.built_values.specs.Values.{Val}
+use mathlib.Core.Path.{sym, ◌∙◌}
 use Rattle.built_values.specs.Answers.{kinds_of, Judged}
-use Rattle.built_values.specs.Checkers.{Finds, NoPart}
-use Rattle.built_values.specs.declared.check.Taken.{Taken}
 use Rattle.built_values.proofs.CountLaws.{inside_start}
 use Rattle.built_values.proofs.DepthLaws.{deep_is, not_deep}
 use Rattle.built_values.proofs.ValueLaws.{whole_value, part_value, no_value_found}

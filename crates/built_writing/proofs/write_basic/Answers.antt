@@ -10,10 +10,10 @@ put_body-end-requires c = simp length-set (omega arith)
 pub bounds-output-end : goal.bounds-output-end
 bounds-output-end c =
     let put = c.put_body-end in
-    omega (arith, put.ensures.place, simp length-set at put.auto.1.0)
+    omega (arith, put.ensures.place, simp length-set at put.auto.output)
 
 pub shape_of-output : goal.shape_of-output
-shape_of-output c = simp length-set (simp length-set at c.put_body-end.auto.1.0)
+shape_of-output c = simp length-set (simp length-set at c.put_body-end.auto.output)
 
 pub returns : goal.returns
 returns c =

@@ -17,7 +17,7 @@ pub loop-i-preserved : goal.loop-i-preserved
 loop-i-preserved c =
     let a = c.args in
     let put = c.put_byte-o in
-    putting_turn a.s.now a.n a.output.now a.o0 c.loop-i-test.true c.requires.0 c.loop-i.invariant put.auto.1.0 put.ensures
+    putting_turn a.s.now a.n a.output.now a.o0 c.loop-i-test.true c.requires.0 c.loop-i.invariant put.auto.output put.ensures
 
 pub shape_of-output : goal.shape_of-output
 shape_of-output c = c.loop-i.invariant.long

@@ -20,9 +20,8 @@ put_bytes-requires c =
 pub put_char-requires : goal.put_char-requires
 put_char-requires c =
     let a = c.args in
-    let g = c.g-1.given in
-    let all = ap (λ (x : List ℕ). length (respelt x)) (gives_char a.p a.s.now g.0.0 g.1) in
-    (rw g.1 at c.requires.0.char, omega (arith, all))
+    let all = ap (λ (x : List ℕ). length (respelt x)) (gives_char a.p a.s.now c.in-Char.c c.in-Char.is) in
+    (rw c.in-Char.is at c.requires.0.char, omega (arith, all))
 
 pub returns-in-Copy : goal.returns-in-Copy
 returns-in-Copy c = rw (gives_copy c.args.p c.args.s.now c.in-Copy.is) c.put_bytes.ensures

@@ -26,7 +26,7 @@ overflow_add-result c =
     let a = c.args in
     let o = c.open_text-opened in
     let same = ap (λ (x : List ℕ). length (respelt x)) (opened_bytes a.e a.text.now o.result o.ensures) in
-    omega (arith, c.count-c.ensures.0, same, text_most a.e a.text.now, c.requires)
+    omega (arith, c.count-c.ensures.bytes, same, text_most a.e a.text.now, c.requires)
 
 pub overflow_add-result-2 : goal.overflow_add-result-2
 overflow_add-result-2 c =
@@ -41,7 +41,7 @@ overflow_add-result-2 c =
       length-append (notes_of o.result.opening) (closing ++ left),
       length-append closing left,
       c.noted-2.ensures,
-      c.count-c.ensures.1,
+      c.count-c.ensures.records,
       errors_few a.e a.text.now,
       c.requires,
     )
@@ -60,7 +60,7 @@ overflow_add-result-3 c =
       length-append closing left,
       c.noted.ensures,
       c.noted-2.ensures,
-      c.count-c.ensures.1,
+      c.count-c.ensures.records,
       errors_few a.e a.text.now,
       c.requires,
     )
@@ -72,15 +72,17 @@ returns c =
     let closing = notes_of o.result.closing in
     let left = errors_left a.e a.text.now o.result.body in
     let same = ap (λ (x : List ℕ). length (respelt x)) (opened_bytes a.e a.text.now o.result o.ensures) in
-    let all = ap length (opened_errors a.e a.text.now o.result o.ensures) in (
-      omega (arith, c.count-c.ensures.0, same, replacement_long (bytes_of a.e a.text.now)),
-      omega (
-        arith,
-        all,
-        length-append (notes_of o.result.opening) (closing ++ left),
-        length-append closing left,
-        c.noted.ensures,
-        c.noted-2.ensures,
-        c.count-c.ensures.1,
-      ),
-    )
+    let all = ap length (opened_errors a.e a.text.now o.result o.ensures) in
+    record {
+      bytes = omega (arith, c.count-c.ensures.bytes, same, replacement_long (bytes_of a.e a.text.now));
+      records =
+          omega (
+            arith,
+            all,
+            length-append (notes_of o.result.opening) (closing ++ left),
+            length-append closing left,
+            c.noted.ensures,
+            c.noted-2.ensures,
+            c.count-c.ensures.records,
+          );
+    }

@@ -1,16 +1,14 @@
 -- `value`, `array`, `inline_table` and `keyval` are right together: each bracket leaves fewer tokens to what is called
 -- inside it.
-use Rattle.std.proofs.Common.{◌≡◌, true, false, ◌+◌, ◌<◌, eqb, eq-eqb, length, drop, refl, sym, ap, subst, ◌∙◌, arith}
+use Rattle.std.proofs.Common.{true, drop, refl, sym, ap, subst, ◌∙◌, arith}
 use Rattle.text_classes.specs.Runs.{stands}
 use Rattle.text_classes.proofs.Conds.{both_left, both_right}
-use Rattle.text_classes.proofs.FirstLaws.{first_there}
 use Rattle.built_values.specs.Answers.{kinds_of}
 use Rattle.built_values.specs.Checkers.{is_string, is_scalar_part, past, Follows, Marked}
 use Rattle.built_values.specs.declared.kinds.Run.{Run}
-use Rattle.built_values.specs.declared.check.After.{After}
 use Rattle.built_values.specs.declared.check.After.TheVariants.{Neither}
 use Rattle.built_values.proofs.CountLaws.{inside_after, even_key, even_spaced}
-use Rattle.built_values.proofs.LoopLaws.{Going, starts, exit_end, item_inside, exit_shut, exit_none, exit_closed, exit_neither, goes_on_lem}
+use Rattle.built_values.proofs.LoopLaws.{starts, exit_end, item_inside, exit_shut, exit_none, exit_closed, exit_neither, goes_on_lem}
 use Rattle.built_values.proofs.ArrayLaws.{arrays, tables, not_shut}
 use Rattle.built_values.proofs.PlaceLaws.{keyval_no_key, keyval_no_sep, keyval_found}
 use Rattle.built_values.proofs.ValueLaws.{value_end, value_string, value_scalar, value_array, value_table, value_none}

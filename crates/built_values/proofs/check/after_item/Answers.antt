@@ -1,7 +1,6 @@
 -- `after_item` is right because it looks at the first token after the run.
 use mathlib.Core.Path.{sym, ◌∙◌}
 use native.Mathlib.Omega.{arith}
-use borrow.Author.Rules.{rules}
 use Rattle.text_classes.proofs.FirstLaws.{stands_there}
 use Rattle.built_values.specs.Answers.{kinds_of}
 use Rattle.built_values.proofs.KindLaws.{length_kinds}

@@ -1,6 +1,5 @@
 -- `is_shut` is right because it asks for the bracket only where it may stand.
-use mathlib.Core.Path.{◌≡◌, refl, sym, ◌∙◌}
-use borrow.Author.Rules.{rules}
+use mathlib.Core.Path.{refl, ◌∙◌}
 use Rattle.built_values.proofs.check.is_shut.Goals as goal
 
 pub returns-then-shuts : goal.returns-then-shuts

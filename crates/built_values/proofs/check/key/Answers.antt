@@ -1,15 +1,9 @@
 -- `key` is right because each turn reads a simple key, and a dot after it is followed by another.
-use Prim.Native.Nat.{◌-◌, ◌+◌}
-use mathlib.Core.Path.{◌≡◌, refl, sym, ap, subst, ◌∙◌}
+use mathlib.Core.Path.{refl, sym, ap, ◌∙◌}
 use native.Mathlib.Omega.{arith}
-use borrow.Author.Rules.{rules}
-use lib.ListN.{length}
-use Rattle.built_values.specs.Values.{Spaced}
 use Rattle.built_values.specs.Answers.{kinds_of}
-use Rattle.built_values.specs.Checkers.{is_simple_key, Finds, NoBlank}
-use Rattle.built_values.specs.declared.check.Taken.{Taken}
-use Rattle.built_values.proofs.KindLaws.{length_kinds}
-use Rattle.built_values.proofs.PlaceLaws.{KeyGoing, key_starts, key_at_end, key_at_none, key_found, key_goes}
+use Rattle.built_values.specs.Checkers.{is_simple_key}
+use Rattle.built_values.proofs.PlaceLaws.{key_starts, key_at_end, key_at_none, key_found, key_goes}
 use Rattle.built_values.proofs.check.key.Goals as goal
 
 pub loop-p-init : goal.loop-p-init

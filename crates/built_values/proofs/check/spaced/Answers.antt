@@ -1,7 +1,6 @@
 -- `spaced` is right because the blanks on both sides of the mark are passed over whole.
 use mathlib.Core.Path.{sym, ◌∙◌}
 use native.Mathlib.Omega.{arith}
-use borrow.Author.Rules.{rules}
 use Rattle.text_classes.proofs.FirstLaws.{stands_there}
 use Rattle.built_values.specs.Answers.{kinds_of}
 use Rattle.built_values.proofs.KindLaws.{length_kinds}

@@ -1,13 +1,9 @@
 -- `is_deep` is right because each turn counts one kind more, and stops where the count passes the depth.
-use Prim.Native.Nat.{◌+◌, ◌-◌, ◌≤◌}
-use mathlib.Core.Path.{◌≡◌, refl, sym, ap, ◌∙◌}
+use mathlib.Core.Path.{refl, sym, ap, ◌∙◌}
 use mathlib.Core.Bool.{Bool, cond}
 use native.Mathlib.Omega.{arith}
-use borrow.Author.Rules.{rules}
-use lib.ListN.{length, drop}
 use Rattle.built_values.specs.Depth.{is_opening, is_closing}
 use Rattle.built_values.specs.Answers.{kinds_of}
-use Rattle.built_values.specs.Told.{passes, deep_from}
 use Rattle.built_values.proofs.KindLaws.{length_kinds}
 use Rattle.built_values.proofs.DepthLaws.{counted, deep_now, deep_later, deep_never}
 use Rattle.built_values.proofs.depth.is_deep.Goals as goal

@@ -2,7 +2,6 @@
 use mathlib.Core.Path.{sym}
 use native.Mathlib.Omega.{arith}
 use borrow.Author.Tests.{le-ltb}
-use borrow.Author.Rules.{rules}
 use Prim.Native.Nat.{◌+◌, ◌-◌}
 use Rattle.built_values.proofs.DepthLaws.{same_test}
 use Rattle.built_values.proofs.depth.passes.Goals as goal

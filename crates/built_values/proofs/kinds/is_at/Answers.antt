@@ -1,7 +1,6 @@
 -- `is_at` is right because a token stands at a place below their number, and nowhere else.
 use mathlib.Core.Path.{sym, ap, ◌∙◌}
 use native.Mathlib.Omega.{arith}
-use borrow.Author.Rules.{rules}
 use lib.Dec.{eqb}
 use Prim.Native.Nat.{ℕ}
 use Rattle.text_classes.proofs.FirstLaws.{first_there, first_beyond}

@@ -1,14 +1,8 @@
 -- `is_in` is right because each run has its test, and only a comment looks at the token after it.
-use Prim.Native.Nat.{ℕ, ◌+◌}
-use mathlib.Core.Path.{◌≡◌, sym, ap, ◌∙◌}
-use mathlib.Core.Bool.{Bool, ◌&&◌, ◌||◌}
-use mathlib.Core.List.{List}
+use Prim.Native.Nat.{ℕ}
+use mathlib.Core.Path.{ap, ◌∙◌}
 use native.Mathlib.Omega.{arith}
-use borrow.Author.Rules.{rules}
 use lib.Dec.{eqb}
-use lib.ListN.{drop}
-use Rattle.built_values.specs.Answers.{kinds_of}
-use Rattle.built_values.specs.Checkers.{is_scalar_part, in_run}
 use Rattle.built_values.proofs.KindLaws.{length_kinds}
 use Rattle.built_values.proofs.kinds.is_in.Goals as goal
 

@@ -1,7 +1,6 @@
 -- `kind_at` is right because the kind is a record's first number.
 use mathlib.Core.List.{[]}
 use native.Mathlib.Omega.{arith}
-use borrow.Author.Rules.{rules}
 use Rattle.built_values.proofs.KindLaws.{length_kinds, kind_is}
 use Rattle.built_values.proofs.kinds.kind_at.Goals as goal
 

@@ -1,11 +1,7 @@
 -- `skip` is right because each turn leaves what stands after the run as it was.
-use Prim.Native.Nat.{◌+◌, ◌-◌, ◌≤◌}
-use mathlib.Core.Path.{◌≡◌, refl, sym, ◌∙◌}
+use mathlib.Core.Path.{refl, sym, ◌∙◌}
 use native.Mathlib.Omega.{arith}
-use borrow.Author.Rules.{rules}
-use lib.ListN.{length, drop}
 use Rattle.built_values.specs.Answers.{kinds_of}
-use Rattle.built_values.specs.Checkers.{past}
 use Rattle.built_values.proofs.RunLaws.{past_go, past_stop, past_end}
 use Rattle.built_values.proofs.kinds.skip.Goals as goal
 

@@ -1,11 +1,8 @@
-use Prim.Native.Nat.{◌+◌, ◌-◌, ◌≤◌}
-use mathlib.Core.Path.{◌≡◌, refl, sym, ◌∙◌}
-use native.Mathlib.Omega.{arith}
-use borrow.Author.Rules.{rules}
+use Prim.Native.Nat.{◌-◌, ◌≤◌}
+use mathlib.Core.Path.{◌≡◌}
 use lib.ListN.{length, drop}
 use Rattle.built_values.specs.Answers.{kinds_of}
 use Rattle.built_values.specs.Checkers.{past}
-use Rattle.built_values.proofs.RunLaws.{past_go, past_stop, past_end}
 use Rattle.built_values.proofs.kinds.skip.Given as goal
 
 abbrev pub invariant-loop-i : goal.invariant-loop-i

@@ -1,5 +1,4 @@
 use Rattle.std.proofs.Common.{◌-◌, length, sym, ◌∙◌, arith, rules}
-use borrow.Author.Tests.{not-false, not-true}
 use Rattle.text_classes.specs.Classes.{literal_char}
 use Rattle.text_classes.proofs.RunLaws.{run_stop, run_end, same_end_byte}
 use Rattle.built_writing.specs.Measured.{Fronted}

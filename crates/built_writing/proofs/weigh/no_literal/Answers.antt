@@ -3,12 +3,6 @@ use Rattle.std.proofs.Common.{sym, ◌∙◌, arith, rules}
 use Rattle.built_writing.proofs.WeighLaws.{literal_else}
 use Rattle.built_writing.proofs.weigh.no_literal.Goals as goal
 
-pub returns-then-is_control : goal.returns-then-is_control
-returns-then-is_control c = λ h. absurd (omega arith)
-
-pub returns-in-127 : goal.returns-in-127
-returns-in-127 c = λ h. absurd (omega arith)
-
 pub returns-in_default : goal.returns-in_default
 returns-in_default c =
     let no = sym c.is_control.ensures ∙ c.if-is_control.false in
