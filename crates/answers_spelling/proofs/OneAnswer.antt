@@ -1,5 +1,4 @@
 -- The promise of this crate admits one answer only: its function returns nothing.
--- Assumes nothing.
 use mathlib.Core.Path.{sym, ◌∙◌}
 use Rattle.text_classes.proofs.OneAnswer.{OneAnswer}
 use Rattle.answers_spelling.proofs as promised

@@ -1,5 +1,4 @@
 -- The promise of this crate admits one answer only: its function returns nothing.
--- Assumes nothing.
 use Rattle.std.proofs.Common.{sym, ◌∙◌}
 use Rattle.text_classes.proofs.OneAnswer.{OneAnswer}
 use Rattle.figures_report.proofs as promised

@@ -1,5 +1,4 @@
 -- The promises of this crate admit one answer only: its functions return nothing.
--- Assumes nothing.
 use mathlib.Core.Path.{sym, ◌∙◌}
 use Rattle.text_classes.proofs.OneAnswer.{OneAnswer}
 use Rattle.lister_listing.proofs as promised
