@@ -1,4 +1,4 @@
-/* TOML tokens and strings: the functions of libgaloxumi.a (`rt staticlib galoxumi`).
+/* TOML tokens and strings: the functions of libgaloxumi.a (`make archive`).
  *
  * Every function returns, for all arguments, and reads and writes only what it is lent: that is proved.
  * The caller sees to the rest: a pointer points to as many elements as the length after it says, and may be NULL where

@@ -40,24 +40,25 @@ for_rust() {
         lacks "Rust has no library for $CARGO_BUILD_TARGET: run rustup target add $CARGO_BUILD_TARGET"
 }
 
-# Whether a file is missing, or older than something in the files and folders named after it.
+# Whether a file is missing, or older than something in the files and folders named after it, edits and what rt keeps set aside.
 is_old() {
     old=$1
     shift
-    [ ! -f "$old" ] || [ -n "$(find "$@" -newer "$old" -type f ! -path '*/must-fail/*' | head -n 1)" ]
+    [ ! -f "$old" ] || [ -n "$(find "$@" -newer "$old" -type f ! -path '*/must-fail/*' ! -path '*/out/*' | head -n 1)" ]
 }
 
-# The archive, where it is missing or old. Standard error tells each crate as it is proved.
+# The archive, where it is missing or old. Standard error tells each crate as it is proved. The crate galoxumi_c exports what the
+# crate galoxumi answers; the archive has the name of the library.
 build_archive() {
     is_old "$archive" crates.txt crates || return 0
     need rt "the archive is missing or old, and the Rattle kit builds it"
     echo 'proving and building the library: some twelve minutes where nothing is proved yet' >&2
     mkdir -p target/staticlib
-    { rt staticlib galoxumi 2>&1; echo "$?" >target/staticlib/status; } | tee target/staticlib/log |
-        sed -u -n 's/^rt: \([a-z_0-9]* proved\)/  \1/p' >&2
-    [ "$(cat target/staticlib/status)" = 0 ] && return
+    { (cd crates/galoxumi_c && rt lib) 2>&1; echo "$?" >target/staticlib/status; } | tee target/staticlib/log |
+        awk '/^crate [a-z_0-9]*:/ { crate = $2; sub(/:/, "", crate) } /^logic=proved/ { print "  " crate " proved"; fflush() }' >&2
+    [ "$(cat target/staticlib/status)" = 0 ] && cp crates/galoxumi_c/out/libgaloxumi_c.a "$archive" && return
     tail -n 40 target/staticlib/log >&2
-    fails 'rt staticlib galoxumi: the lines above say why the archive was not built'
+    fails 'rt lib, in crates/galoxumi_c: the lines above say why the archive was not built'
 }
 
 # The program, where it is missing or old.

@@ -1,4 +1,4 @@
-//! Links libgaloxumi.a, which `rt staticlib galoxumi` writes, from the folder that GALOXUMI_LIB names, or else from this
+//! Links libgaloxumi.a, which `make archive` writes, from the folder that GALOXUMI_LIB names, or else from this
 //! repository's target/staticlib. Where it is missing, says how to get it, and not only that the linker found none.
 
 use std::path::{Path, PathBuf};
@@ -14,7 +14,7 @@ fn main() {
     if std::env::var("CARGO_CFG_TARGET_ARCH").as_deref() != Ok("x86_64") {
         println!("cargo::error=the archive is x86-64 code: build with --target x86_64-unknown-linux-gnu");
     } else if !archive.is_file() {
-        println!("cargo::error=no {}: run rt staticlib galoxumi, or set GALOXUMI_LIB", archive.display());
+        println!("cargo::error=no {}: run make archive, or set GALOXUMI_LIB", archive.display());
     }
     println!("cargo::rustc-link-search=native={}", folder.display());
     println!("cargo::rustc-link-lib=static=galoxumi");

@@ -1,6 +1,6 @@
 -- What a byte, a block and a front come to in a basic string: what the loops that measure a value show.
 -- Assumes nothing.
-use Rattle.std.proofs.Common.{◌≡◌, ℕ, ◌+◌, ◌%◌, ◌<◌, ◌≤◌, Bool, true, false, not, ◌||◌, T, eqb, ltb, List, [], ◌∷◌, ◌++◌, length, get_or, drop, sym, refl, ap, ◌∙◌, ⊎_elim, add-one, arith, length-append, drop-cons, eqb-true}
+use Rattle.std.proofs.Common.{◌≡◌, ℕ, ◌+◌, ◌%◌, ◌<◌, ◌≤◌, true, false, not, ◌||◌, T, eqb, ltb, List, [], ◌∷◌, ◌++◌, length, get_or, drop, sym, ap, ⊎_elim, add-one, arith, length-append, drop-cons, eqb-true}
 use types.Run.{OneOf}
 use native.Mathlib.Decide.{dec_lt}
 use lib.Bits.{bit_xor}

@@ -1,6 +1,6 @@
-// What C and Rust link: every call as an exported function that answers in numbers. Each function
-// makes its call, and hands the answer to the function that puts it into a struct; it decides nothing
-// itself. include/galoxumi.h says in words what each answers. Definitions: specs/Numbers.antt of
+// What C and Rust call: every call as a function that answers in numbers; galoxumi_c exports each under
+// its name, with its clauses. Each function makes its call, and hands the answer to the function that puts
+// it into a struct; it decides nothing itself. include/galoxumi.h says in words what each answers. Definitions: specs/Numbers.antt of
 // library_numbers, of library_built and of library_parts.
 #![tactic(auto)]
 

@@ -17,6 +17,7 @@ pub enum Utf8Check {
 }
 
 // Is all of `s` UTF-8, and within the limit?
+#[tactic(auto, unfolding(crate::specs::CheckMeans::check_of))]
 pub fn check_utf8(s: &[u8]) -> Utf8Check
     ensures answer { result ≡ check_of s.now }
     ensures number { check_number result ≡ check_refusal s.now }

@@ -80,10 +80,6 @@ module _ (a : ℕ) (h : a < 256) where
 
 -- ---- the cases of the code
 
--- a is not one of the bytes that have an arm of their own in `lead_of`
-abbrev pub Other : ℕ → Type 0
-Other a = (((Unit × (a ≡ 0xE0 → ⊥)) × (a ≡ 0xED → ⊥)) × (a ≡ 0xF0 → ⊥)) × (a ≡ 0xF4 → ⊥)
-
 -- a is the byte k of an arm
 pub ones_key : (a k low high : ℕ) → row (ones_of k) low high ≡ lead_of k → a ≡ k → row (ones_of a) low high ≡ lead_of a
 ones_key a k low high f e = rw e f
@@ -108,14 +104,14 @@ module _ (a : ℕ) (h : a < 256) where
         simp (ne_eqb _ _ d, le-ltb _ _ least, le-ltb _ _ most) at (by_ones_lem a h)
 
     -- any other byte
-    pub ones_rest : Other a → (0xC0 ≤ a → a < 0xC2 → ⊥) → (0xF5 ≤ a → a < 0xF8 → ⊥)
-        → row (ones_of a) 0x80 0xBF ≡ lead_of a
-    ones_rest k overlong large =
+    pub ones_rest : (a ≡ 0xE0 → ⊥) → (a ≡ 0xED → ⊥) → (a ≡ 0xF0 → ⊥) → (a ≡ 0xF4 → ⊥)
+        → (0xC0 ≤ a → a < 0xC2 → ⊥) → (0xF5 ≤ a → a < 0xF8 → ⊥) → row (ones_of a) 0x80 0xBF ≡ lead_of a
+    ones_rest e0 ed f0 f4 overlong large =
         by_lt P a 0xC2 (λ l. by_lt P a 0xC0 (λ _. refl) (λ g. absurd (overlong g l)))
-        (λ _. by_eq P a 0xE0 (λ e. absurd (k.0.0.0.1 e))
-        (λ _. by_eq P a 0xED (λ e. absurd (k.0.0.1 e))
-        (λ _. by_eq P a 0xF0 (λ e. absurd (k.0.1 e))
-        (λ _. by_eq P a 0xF4 (λ e. absurd (k.1 e))
+        (λ _. by_eq P a 0xE0 (λ e. absurd (e0 e))
+        (λ _. by_eq P a 0xED (λ e. absurd (ed e))
+        (λ _. by_eq P a 0xF0 (λ e. absurd (f0 e))
+        (λ _. by_eq P a 0xF4 (λ e. absurd (f4 e))
         (λ _. by_lt P a 0xF5 (λ _. refl)
         (λ g. by_lt P a 0xF8 (λ l. absurd (large g l)) (λ _. refl)))))))
         ∙ within

@@ -228,6 +228,7 @@ pub struct Lead(pub usize, pub u8, pub u8);
 // Beyond ASCII the length is the count of leading ones: the leading zeros of the complement. 80 to BF
 // have one, and F8 to FF more than four: no character begins with these. What table 3-7 of the Unicode standard
 // leaves out is taken out then: overlong forms, surrogates and values over 10FFFF.
+#[tactic(auto, using(crate::proofs::OnesLaws::ones_none, crate::proofs::OnesLaws::ones_few, crate::proofs::OnesLaws::ones_many, crate::proofs::OnesLaws::ones_rest), unfolding(crate::specs::Lead::lead_of))]
 pub fn lead_of(a: u8) -> Lead
     ensures { result ≡ lead_of a }
 {

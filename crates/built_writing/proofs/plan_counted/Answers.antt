@@ -1,6 +1,6 @@
 -- `plan_counted` is right because the front and the rest together are the whole value, and the front is the whole value
 -- exactly where a literal string could hold it.
-use Rattle.std.proofs.Common.{◌≡◌, ℕ, ◌+◌, List, length, drop, sym, ap, ◌∙◌, arith}
+use Rattle.std.proofs.Common.{◌≡◌, ℕ, ◌+◌, List, length, sym, ap, ◌∙◌, arith}
 use Rattle.decoder_rules.proofs.Fine.{rest, rest_is}
 use Rattle.built_writing.specs.Writing.{spelt}
 use Rattle.built_writing.specs.Measured.{Fronted}

@@ -1,5 +1,5 @@
 -- `plan_of` is right because no text is longer than six bytes for each byte of the value, and two marks.
-use Rattle.std.proofs.Common.{◌∙◌, arith, rules}
+use Rattle.std.proofs.Common.{◌∙◌, arith}
 use Rattle.built_writing.proofs.SpellLaws.{spelt_six}
 use Rattle.built_writing.proofs.plan_of.Goals as goal
 

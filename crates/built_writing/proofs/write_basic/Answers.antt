@@ -1,5 +1,5 @@
 -- `write_basic` is right because a mark, the body and a mark are stored one after the other, where they fit.
-use Rattle.std.proofs.Common.{arith, length-set, rules}
+use Rattle.std.proofs.Common.{arith, length-set}
 use Rattle.built_writing.specs.Writing.{basic_text}
 use Rattle.built_writing.proofs.TextLaws.{around, wrote_text}
 use Rattle.built_writing.proofs.write_basic.Goals as goal

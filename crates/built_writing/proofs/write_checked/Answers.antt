@@ -1,5 +1,5 @@
 -- `write_checked` is right because the text that is planned is the one that is written, and fits.
-use Rattle.std.proofs.Common.{length, sym, arith, rules}
+use Rattle.std.proofs.Common.{arith}
 use Rattle.built_writing.specs.Writing.{written}
 use Rattle.built_writing.proofs.TextLaws.{by_plan, as_literal, as_basic, wrote_short}
 use Rattle.built_writing.proofs.write_checked.Goals as goal

@@ -3,9 +3,6 @@ use Rattle.std.proofs.Common.{◌<◌, arith}
 use Rattle.lexer_comments.proofs.FrontLaws.{front_start, own_on_to}
 use Rattle.lexer_comments.proofs.comment_front.Goals as goal
 
-pub loop-start-init : goal.loop-start-init
-loop-start-init c = λ h. front_start c.args.doc.now c.args.start h
-
 pub returns-then-is_comment_end : goal.returns-then-is_comment_end
 returns-then-is_comment_end c = λ h.
     let a = c.args in
@@ -24,13 +21,6 @@ returns-then-is_comment_end-2 c = λ h.
     let e = c.own_blocks-i.ensures in
     let blocks = own_on_to a.doc.now a.start c.loop-start.i c.own_blocks-i.result e.0 e.1 (c.loop-start.invariant h) in
     c.own_chars-next.ensures.2 a.start blocks
-
-pub loop-start-smaller : goal.loop-start-smaller
-loop-start-smaller c =
-    let block = c.own_blocks-i in
-    let char = c.own_chars-next in
-    let more : block.result < char.result = omega (arith, char.ensures.0) in
-    omega (arith, block.ensures.0, char.ensures.1 more)
 
 pub loop-start-preserved : goal.loop-start-preserved
 loop-start-preserved c = λ h.

@@ -13,6 +13,3 @@ pub returns-in-13 : goal.returns-in-13
 returns-in-13 c = λ _.
     let a = c.args in
     ⊎_elim (lf_ends a.doc.now a.i) (cr_ends a.doc.now a.i) c.in-13.is
-
-pub returns-in_default : goal.returns-in_default
-returns-in_default c = λ h. absurd (false≢true h)

@@ -4,8 +4,5 @@ use Rattle.std.proofs.Common.{rules}
 use Rattle.lexer_comments.proofs.FrontLaws.{two_there}
 use Rattle.lexer_comments.proofs.is_two.Goals as goal
 
-pub returns-then-not-is_among : goal.returns-then-not-is_among
-returns-then-not-is_among c = λ e. absurd (false≢true e)
-
 pub returns : goal.returns
 returns c = λ e. two_there _ _ (c.is_among.ensures.0 c.if-not-is_among.false) (c.is_among-2.ensures.0 e)

@@ -4,9 +4,6 @@ use Rattle.lexer_scans.proofs.BlockLaws.{BlockTo, block_to_start, block_to_step}
 use Rattle.lexer_comments.specs.Fronts.{own_byte}
 use Rattle.lexer_comments.proofs.own_bytes.Goals as goal
 
-pub loop-k-init : goal.loop-k-init
-loop-k-init c = (omega arith, omega arith, block_to_start own_byte c.args.doc.now c.args.i 64)
-
 pub loop-k-preserved : goal.loop-k-preserved
 loop-k-preserved c =
     let is = c.args in
@@ -18,8 +15,3 @@ loop-k-preserved c =
       block_to_step own_byte is.doc.now is.i at.k place.result at.first new.result (omega arith) place.ensures
           new.ensures.0 new.ensures.1 at.invariant.2,
     )
-
-pub returns : goal.returns
-returns c =
-    let at = c.loop-k in
-    (omega arith, at.invariant.2 at.first (omega arith) (omega arith))

@@ -5,18 +5,6 @@ use Rattle.lexer_comments.specs.Fronts.{Onward}
 use Rattle.lexer_comments.proofs.FrontLaws.{own_of, own_one, own_two, wide_over, twos_over}
 use Rattle.lexer_comments.proofs.own_chars.Goals as goal
 
-pub returns-then-doc-lt4 : goal.returns-then-doc-lt4
-returns-then-doc-lt4 c = (omega arith, λ l. absurd (omega arith), λ from to. to)
-
-pub loop-i-init : goal.loop-i-init
-loop-i-init c = (omega arith, λ l. absurd (omega arith), λ from to. to)
-
-pub returns-then-a-lt14 : goal.returns-then-a-lt14
-returns-then-a-lt14 c = c.loop-i.invariant
-
-pub returns-then-is_ascii_word : goal.returns-then-is_ascii_word
-returns-then-is_ascii_word c = c.loop-i.invariant
-
 pub loop-i-preserved-then-is_own : goal.loop-i-preserved-then-is_own
 loop-i-preserved-then-is_own c =
     let doc = c.args.doc.now in
@@ -31,9 +19,6 @@ loop-i-preserved-else-is_own c =
     let at = c.loop-i in
     let one = own_of (get_or doc at.i 0) c.if-a-lt14.false c.if-a-lt128.true in
     (omega (arith, at.invariant.0), λ l. omega arith, λ from to. own_one doc from at.i (omega arith) one (at.invariant.2 from to))
-
-pub returns-then-not-is_two : goal.returns-then-not-is_two
-returns-then-not-is_two c = c.loop-i.invariant
 
 pub loop-i-preserved-then-is_two : goal.loop-i-preserved-then-is_two
 loop-i-preserved-then-is_two c =
@@ -52,21 +37,9 @@ loop-i-preserved-else-is_two c =
     let wide : WideAt doc at.i 2 = λ _. (omega arith, one) in
     (omega (arith, at.invariant.0), λ l. omega arith, λ from to. wide_over doc from at.i 2 (omega arith) wide (at.invariant.2 from to))
 
-pub returns-then-n-eq0 : goal.returns-then-n-eq0
-returns-then-n-eq0 c = c.loop-i.invariant
-
-pub overflow_add-i-else-a-lt224 : goal.overflow_add-i-else-a-lt224
-overflow_add-i-else-a-lt224 c = omega (arith, (c.wide_at-n.ensures (omega arith)).0)
-
-pub loop-i-smaller : goal.loop-i-smaller
-loop-i-smaller c = omega (arith, (c.wide_at-n.ensures (omega arith)).0)
-
 pub loop-i-preserved : goal.loop-i-preserved
 loop-i-preserved c =
     let doc = c.args.doc.now in
     let at = c.loop-i in
     let wide = c.wide_at-n in
     (omega (arith, at.invariant.0), λ l. (wide.ensures (omega arith)).0, λ from to. wide_over doc from at.i wide.result (omega arith) wide.ensures (at.invariant.2 from to))
-
-pub returns : goal.returns
-returns c = c.loop-i.invariant

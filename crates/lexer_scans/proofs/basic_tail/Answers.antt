@@ -7,11 +7,6 @@ use Rattle.text_classes.proofs.FirstLaws.{stands_there}
 use Rattle.lexer_scans.proofs.TailLaws.{basic_found, basic_halts, line_closed, line_end}
 use Rattle.lexer_scans.proofs.basic_tail.Goals as goal
 
-pub overflow_add-result : goal.overflow_add-result
-overflow_add-result c =
-    let marked = sym c.is_at.ensures ∙ c.if-is_at.true in
-    omega (arith, stands_there 34 c.args.doc.now c.find_three-i.result marked)
-
 pub returns-then-is_at : goal.returns-then-is_at
 returns-then-is_at c =
     let doc = c.args.doc.now in
@@ -28,16 +23,6 @@ returns-then-not-is_at c =
     let unmarked = sym c.is_at.ensures ∙ c.if-is_at.false in
     let unescaped = sym c.is_at-in-loop-i.ensures ∙ c.if-not-is_at.true in
     omega (arith, found.same, basic_halts doc c.loop-i.i i found unmarked unescaped)
-
-pub over_escapes-i-requires : goal.over_escapes-i-requires
-over_escapes-i-requires c =
-    let escape = sym c.is_at-in-loop-i.ensures ∙ c.if-not-is_at.false in
-    stands_there 92 c.args.doc.now c.find_three-i.result escape
-
-pub loop-i-smaller : goal.loop-i-smaller
-loop-i-smaller c =
-    let found = basic_found c.args.doc.now c.loop-i.i c.find_three-i.result c.find_three-i.ensures in
-    omega (arith, c.over_escapes-i.ensures.0, found.forward)
 
 pub loop-i-preserved : goal.loop-i-preserved
 loop-i-preserved c =

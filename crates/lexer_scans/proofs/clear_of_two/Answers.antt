@@ -6,11 +6,6 @@ use Rattle.lexer_scans.specs.Scans.{but_two}
 use Rattle.lexer_scans.proofs.BlockLaws.{ClearTo, clear_start, clear_step, clear_all}
 use Rattle.lexer_scans.proofs.clear_of_two.Goals as goal
 
-pub loop-k-init : goal.loop-k-init
-loop-k-init c =
-    let is = c.args in
-    (omega arith, clear_start (but_two is.a is.b) is.doc.now is.i 48)
-
 pub loop-k-preserved : goal.loop-k-preserved
 loop-k-preserved c =
     let is = c.args in
@@ -21,9 +16,3 @@ loop-k-preserved c =
       clear_step (but_two is.a is.b) is.doc.now is.i 48 at.k place.result at.first new.result
           (omega arith) (omega arith) place.ensures new.ensures at.invariant.1,
     )
-
-pub returns : goal.returns
-returns c =
-    let is = c.args in
-    let at = c.loop-k in
-    clear_all (but_two is.a is.b) is.doc.now is.i 48 at.first at.k (omega arith) at.invariant.1

@@ -18,20 +18,6 @@ returns-then-n-lt64 c =
     let block = c.clear_of_one-n in
     clear_found (but_one is.a) is.doc.now is.start at.i 64 block.result (omega arith) block.ensures c.if-n-lt64.true at.invariant
 
-pub loop-i-preserved : goal.loop-i-preserved
-loop-i-preserved c =
-    let is = c.args in
-    let at = c.loop-i in
-    let block = c.clear_of_one-n in
-    clear_over (but_one is.a) is.doc.now is.start at.i 64 block.result block.ensures c.if-n-lt64.false at.invariant
-
-pub loop-i-2-init : goal.loop-i-2-init
-loop-i-2-init c =
-    let is = c.args in
-    elim c.if-doc-ge64.branch [
-      then-doc-ge64+else-loop-i-test w ↦ goes_on_as (but_one is.a) is.doc.now is.start w.i-is w.loop-i.invariant
-    | else-doc-ge64 w ↦ goes_on_as (but_one is.a) is.doc.now is.start w.i-is refl ]
-
 pub returns-then-doc-i : goal.returns-then-doc-i
 returns-then-doc-i c =
     let is = c.args in

@@ -18,20 +18,6 @@ returns-then-n-lt32 c =
     let block = c.clear_of_three-n in
     clear_found (but_three is.a is.b is.c) is.doc.now is.start at.i 32 block.result (omega arith) block.ensures c.if-n-lt32.true at.invariant
 
-pub loop-i-preserved : goal.loop-i-preserved
-loop-i-preserved c =
-    let is = c.args in
-    let at = c.loop-i in
-    let block = c.clear_of_three-n in
-    clear_over (but_three is.a is.b is.c) is.doc.now is.start at.i 32 block.result block.ensures c.if-n-lt32.false at.invariant
-
-pub loop-i-2-init : goal.loop-i-2-init
-loop-i-2-init c =
-    let is = c.args in
-    elim c.if-doc-ge32.branch [
-      then-doc-ge32+else-loop-i-test w ↦ goes_on_as (but_three is.a is.b is.c) is.doc.now is.start w.i-is w.loop-i.invariant
-    | else-doc-ge32 w ↦ goes_on_as (but_three is.a is.b is.c) is.doc.now is.start w.i-is refl ]
-
 pub returns-then-is_three : goal.returns-then-is_three
 returns-then-is_three c =
     let is = c.args in

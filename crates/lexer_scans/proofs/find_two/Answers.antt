@@ -18,20 +18,6 @@ returns-then-n-lt48 c =
     let block = c.clear_of_two-n in
     clear_found (but_two is.a is.b) is.doc.now is.start at.i 48 block.result (omega arith) block.ensures c.if-n-lt48.true at.invariant
 
-pub loop-i-preserved : goal.loop-i-preserved
-loop-i-preserved c =
-    let is = c.args in
-    let at = c.loop-i in
-    let block = c.clear_of_two-n in
-    clear_over (but_two is.a is.b) is.doc.now is.start at.i 48 block.result block.ensures c.if-n-lt48.false at.invariant
-
-pub loop-i-2-init : goal.loop-i-2-init
-loop-i-2-init c =
-    let is = c.args in
-    elim c.if-doc-ge48.branch [
-      then-doc-ge48+else-loop-i-test w ↦ goes_on_as (but_two is.a is.b) is.doc.now is.start w.i-is w.loop-i.invariant
-    | else-doc-ge48 w ↦ goes_on_as (but_two is.a is.b) is.doc.now is.start w.i-is refl ]
-
 pub returns-then-is_two : goal.returns-then-is_two
 returns-then-is_two c =
     let is = c.args in

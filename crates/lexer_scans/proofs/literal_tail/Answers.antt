@@ -6,11 +6,6 @@ use Rattle.text_classes.proofs.FirstLaws.{stands_there}
 use Rattle.lexer_scans.proofs.TailLaws.{literal_found, literal_halts, line_closed}
 use Rattle.lexer_scans.proofs.literal_tail.Goals as goal
 
-pub overflow_add-result : goal.overflow_add-result
-overflow_add-result c =
-    let marked = sym c.is_at.ensures ∙ c.if-is_at.true in
-    omega (arith, stands_there 39 c.args.doc.now c.find_two-i.result marked)
-
 pub returns-then-is_at : goal.returns-then-is_at
 returns-then-is_at c =
     let is = c.args in

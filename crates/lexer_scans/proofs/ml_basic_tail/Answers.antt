@@ -40,11 +40,6 @@ returns-then-doc-i-lt2 c =
     let fewer = sym c.is_triple.ensures ∙ c.if-is_triple.false in
     omega (arith, found.same, ml_last doc i 34 (found.within (omega arith)) (omega arith) fewer)
 
-pub loop-i-smaller-then-doc-i-eq-ESCAPE : goal.loop-i-smaller-then-doc-i-eq-ESCAPE
-loop-i-smaller-then-doc-i-eq-ESCAPE c =
-    let found = ml_basic_found c.args.doc.now c.loop-i.i c.find_two-i.result c.find_two-i.ensures in
-    omega (arith, found.forward)
-
 pub loop-i-preserved-then-doc-i-eq-ESCAPE : goal.loop-i-preserved-then-doc-i-eq-ESCAPE
 loop-i-preserved-then-doc-i-eq-ESCAPE c =
     let doc = c.args.doc.now in
@@ -52,11 +47,6 @@ loop-i-preserved-then-doc-i-eq-ESCAPE c =
     let found = ml_basic_found doc c.loop-i.i i c.find_two-i.ensures in
     let fewer = sym c.is_triple.ensures ∙ c.if-is_triple.false in
     omega (arith, found.same, ml_escaped doc i (omega arith) fewer c.if-doc-i-eq-ESCAPE.true)
-
-pub loop-i-smaller : goal.loop-i-smaller
-loop-i-smaller c =
-    let found = ml_basic_found c.args.doc.now c.loop-i.i c.find_two-i.result c.find_two-i.ensures in
-    omega (arith, found.forward)
 
 pub loop-i-preserved : goal.loop-i-preserved
 loop-i-preserved c =

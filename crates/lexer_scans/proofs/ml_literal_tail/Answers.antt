@@ -39,11 +39,6 @@ overflow_add-i-in-loop-i c =
     let found = ml_literal_found c.args.doc.now c.loop-i.i c.find_one-i.result c.find_one-i.ensures in
     omega (arith, found.within (omega arith))
 
-pub loop-i-smaller : goal.loop-i-smaller
-loop-i-smaller c =
-    let found = ml_literal_found c.args.doc.now c.loop-i.i c.find_one-i.result c.find_one-i.ensures in
-    omega (arith, found.forward)
-
 pub loop-i-preserved : goal.loop-i-preserved
 loop-i-preserved c =
     let doc = c.args.doc.now in

@@ -11,7 +11,7 @@ returns c =
     let a = c.args.a in
     λ t third fourth. record {
       some = omega arith;
-      asked = asked a 2 0x80 0xBF _ (two_ones a (omega arith) c.requires c.if-a-lt194.false) (c.is_among.ensures.0 t);
+      asked = asked a 2 0x80 0xBF _ (two_ones a (omega arith) c.requires (omega arith)) (c.is_among.ensures.0 t);
       third = λ k. absurd (omega arith);
       fourth = λ k. absurd (omega arith);
     }

@@ -1,6 +1,6 @@
 -- `copy_in` is right because what is still to be copied, stored from place o + j on, makes the whole copy.
-use Rattle.std.proofs.Common.{◌-◌, refl, arith}
-use Rattle.decoder_rules.proofs.StoreLaws.{Copying, copying_start, copying_turn, copying_end}
+use Rattle.std.proofs.Common.{refl, arith}
+use Rattle.decoder_rules.proofs.StoreLaws.{copying_start, copying_turn, copying_end}
 use Rattle.built_writing.proofs.spell.copy_in.Goals as goal
 
 pub loop-j-init : goal.loop-j-init

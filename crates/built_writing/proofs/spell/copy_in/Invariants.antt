@@ -1,5 +1,5 @@
-use Rattle.std.proofs.Common.{◌-◌, refl, arith}
-use Rattle.decoder_rules.proofs.StoreLaws.{Copying, copying_start, copying_turn, copying_end}
+use Rattle.std.proofs.Common.{◌-◌}
+use Rattle.decoder_rules.proofs.StoreLaws.{Copying}
 use Rattle.built_writing.proofs.spell.copy_in.Given as goal
 
 abbrev pub invariant-loop-j : goal.invariant-loop-j

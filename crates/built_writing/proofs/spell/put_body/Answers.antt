@@ -1,5 +1,5 @@
 -- `put_body` is right because what is left to be spelt, stored from place o on, makes the whole body.
-use Rattle.std.proofs.Common.{◌+◌, ◌≤◌, length, get_or, take, sym, refl, ◌∙◌, arith, length-take-le}
+use Rattle.std.proofs.Common.{sym, refl, ◌∙◌, arith, length-take-le}
 use Rattle.decoder_rules.proofs.Fine.{rest}
 use Rattle.built_writing.proofs.SpellLaws.{run_fits, run_turn, byte_turn, putting_room, putting_turn, putting_end}
 use Rattle.built_writing.proofs.spell.put_body.Goals as goal

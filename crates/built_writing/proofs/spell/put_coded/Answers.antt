@@ -1,5 +1,5 @@
 -- `put_coded` is right because it stores the six bytes one after the other.
-use Rattle.std.proofs.Common.{refl, add-one, arith, length-set, rules}
+use Rattle.std.proofs.Common.{refl, add-one, arith, length-set}
 use native.Mathlib.Numerals.{add-two, add-three, add-four, add_five}
 use Rattle.built_writing.proofs.spell.put_coded.Goals as goal
 

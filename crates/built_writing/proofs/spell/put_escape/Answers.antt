@@ -1,5 +1,5 @@
 -- `put_escape` is right because each spelling has its arm.
-use Rattle.std.proofs.Common.{length, ap, arith, rules}
+use Rattle.std.proofs.Common.{length, ap, arith}
 use Rattle.built_writing.proofs.SpellLaws.{escape_by}
 use Rattle.built_writing.proofs.spell.put_escape.Goals as goal
 

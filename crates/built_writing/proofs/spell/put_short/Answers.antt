@@ -1,5 +1,5 @@
 -- `put_short` is right because it stores a backslash, and the letter after it.
-use Rattle.std.proofs.Common.{refl, add-one, arith, length-set, rules}
+use Rattle.std.proofs.Common.{refl, add-one, arith, length-set}
 use Rattle.built_writing.proofs.spell.put_short.Goals as goal
 
 pub bounds-output-o-2 : goal.bounds-output-o-2

@@ -1,5 +1,5 @@
 -- `extra` is right because each length of an escape has its arms.
-use Rattle.std.proofs.Common.{[], ◌∷◌, sym, ◌∙◌, arith, rules}
+use Rattle.std.proofs.Common.{[], ◌∷◌, sym, ◌∙◌, arith}
 use Rattle.text_classes.specs.Classes.{basic_unescaped}
 use Rattle.built_writing.specs.Writing.{spelling_of, spell}
 use Rattle.built_writing.proofs.WeighLaws.{arm, coded, unchanged}

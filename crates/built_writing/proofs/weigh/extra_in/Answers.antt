@@ -1,6 +1,5 @@
 -- `extra_in` is right because each byte passed adds what it has more than itself.
-use Rattle.std.proofs.Common.{◌≡◌, ◌+◌, ◌-◌, ◌*◌, ◌≤◌, arith, rules}
-use Rattle.built_writing.specs.Measured.{Weighs}
+use Rattle.std.proofs.Common.{◌≡◌, arith}
 use Rattle.built_writing.proofs.WeighLaws.{weighs_none, weighs_more}
 use Rattle.built_writing.proofs.weigh.extra_in.Goals as goal
 

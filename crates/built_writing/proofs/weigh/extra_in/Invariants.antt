@@ -1,6 +1,5 @@
-use Rattle.std.proofs.Common.{◌≡◌, ◌+◌, ◌-◌, ◌*◌, ◌≤◌, arith, rules}
+use Rattle.std.proofs.Common.{◌+◌, ◌-◌, ◌*◌, ◌≤◌}
 use Rattle.built_writing.specs.Measured.{Weighs}
-use Rattle.built_writing.proofs.WeighLaws.{weighs_none, weighs_more}
 use Rattle.built_writing.proofs.weigh.extra_in.Given as goal
 
 abbrev pub invariant-loop-j : goal.invariant-loop-j

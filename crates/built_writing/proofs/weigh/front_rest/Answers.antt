@@ -1,9 +1,8 @@
 -- `front_rest` is right because each byte that may stand in a literal string leaves the end of the run where it was, and
 -- adds what it has in a basic string.
-use Rattle.std.proofs.Common.{◌-◌, length, sym, ◌∙◌, arith, rules}
+use Rattle.std.proofs.Common.{sym, ◌∙◌, arith}
 use Rattle.text_classes.specs.Classes.{literal_char}
 use Rattle.text_classes.proofs.RunLaws.{run_stop, run_end, same_end_byte}
-use Rattle.built_writing.specs.Measured.{Fronted}
 use Rattle.built_writing.proofs.SpellLaws.{spelt_six}
 use Rattle.built_writing.proofs.WeighLaws.{counting_byte}
 use Rattle.built_writing.proofs.weigh.front_rest.Goals as goal

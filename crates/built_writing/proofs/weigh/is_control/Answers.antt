@@ -1,5 +1,5 @@
 -- `is_control` is right because the tab alone is 0 once its bits are turned.
-use Rattle.std.proofs.Common.{arith, rules}
+use Rattle.std.proofs.Common.{arith}
 use Rattle.built_writing.proofs.WeighLaws.{control_is}
 use Rattle.built_writing.proofs.weigh.is_control.Goals as goal
 

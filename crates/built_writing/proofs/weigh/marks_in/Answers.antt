@@ -1,10 +1,9 @@
 -- `marks_in` is right because joined bits are no less than each of them: while they are below 80 each byte passed may stand
 -- in a literal string, and adds what it has more than itself.
-use Rattle.std.proofs.Common.{◌≡◌, ◌+◌, ◌-◌, ◌<◌, ◌≤◌, arith, rules}
+use Rattle.std.proofs.Common.{◌≡◌, arith}
 use Rattle.text_classes.specs.Classes.{literal_char}
-use Rattle.text_classes.proofs.RunLaws.{Block, block_start, block_step}
+use Rattle.text_classes.proofs.RunLaws.{block_start, block_step}
 use Rattle.text_scalars.proofs.FieldLaws.{bits_left, bits_right}
-use Rattle.built_writing.specs.Measured.{Weighs}
 use Rattle.built_writing.proofs.WeighLaws.{weighs_none, weighs_more}
 use Rattle.built_writing.proofs.weigh.marks_in.Goals as goal
 

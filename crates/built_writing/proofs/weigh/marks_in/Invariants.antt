@@ -1,9 +1,7 @@
-use Rattle.std.proofs.Common.{◌≡◌, ◌+◌, ◌-◌, ◌<◌, ◌≤◌, arith, rules}
+use Rattle.std.proofs.Common.{◌+◌, ◌-◌, ◌<◌, ◌≤◌}
 use Rattle.text_classes.specs.Classes.{literal_char}
-use Rattle.text_classes.proofs.RunLaws.{Block, block_start, block_step}
-use Rattle.text_scalars.proofs.FieldLaws.{bits_left, bits_right}
+use Rattle.text_classes.proofs.RunLaws.{Block}
 use Rattle.built_writing.specs.Measured.{Weighs}
-use Rattle.built_writing.proofs.WeighLaws.{weighs_none, weighs_more}
 use Rattle.built_writing.proofs.weigh.marks_in.Given as goal
 
 abbrev pub invariant-loop-j : goal.invariant-loop-j

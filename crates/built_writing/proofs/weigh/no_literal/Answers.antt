@@ -1,5 +1,5 @@
 -- `no_literal` is right because a byte that no test finds may stand in a literal string.
-use Rattle.std.proofs.Common.{sym, ◌∙◌, arith, rules}
+use Rattle.std.proofs.Common.{sym, ◌∙◌, arith}
 use Rattle.built_writing.proofs.WeighLaws.{literal_else}
 use Rattle.built_writing.proofs.weigh.no_literal.Goals as goal
 

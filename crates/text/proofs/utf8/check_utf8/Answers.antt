@@ -10,11 +10,6 @@ use Rattle.text_scalars.proofs.ReadLaws.{valid_end}
 use Rattle.text.proofs.AnswerLaws.{answer_long, answer_ascii, answer_valid, answer_broken, told}
 use Rattle.text.proofs.utf8.check_utf8.Goals as goal
 
-pub returns-then-s-gt-LIMIT : goal.returns-then-s-gt-LIMIT
-returns-then-s-gt-LIMIT c =
-    let s = c.args.s.now in
-    told s _ (answer_long s c.if-s-gt-LIMIT.true)
-
 pub returns-then-is_short_ascii : goal.returns-then-is_short_ascii
 returns-then-is_short_ascii c =
     let s = c.args.s.now in
