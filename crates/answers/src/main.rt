@@ -20,7 +20,12 @@ fn main(rt: HostRuntime) -> io::Result<()> {
     let mut errors = [[0usize; 3]; RECORDS];
     let mut tokens = [[0usize; 4]; RECORDS];
     answer_all(
-        &rt, &mut input, &mut line, &mut bytes, &mut errors, &mut tokens,
+        &rt,
+        &mut input,
+        &mut line,
+        &mut bytes,
+        &mut errors,
+        &mut tokens,
     )
 }
 

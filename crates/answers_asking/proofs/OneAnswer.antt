@@ -1,6 +1,5 @@
 -- The promise of `next_request` admits many answers, and this file proves that: what standard input holds decides which one is
 -- given, and no contract can speak of that. The promise says only that the document lies in the line's memory.
--- Assumes nothing.
 use Prim.Native.Nat.{ℕ, ◌≤◌}
 use mathlib.Core.Path.{◌≡◌}
 use native.Mathlib.Omega.{arith}

@@ -9,11 +9,11 @@ mod words;
 
 ghost use Rattle.std.specs.Prelude.{◌≤◌, IfErr, IfOk, length};
 
-use program_io::Console;
-use std::io;
 pub use asked::{LineFault, Question};
 pub use lines::Reading;
 pub use names::{BuiltCall, Call, PartsCall, RECORDS, ReaderCall, TableCall, WRITTEN};
+use program_io::Console;
+use std::io;
 
 // What a line asks for, and how far the input was read. The document is the first `len` bytes of the
 // line's memory.
@@ -27,7 +27,12 @@ pub struct Request {
 // The request of the next line. What is read decides it, and no contract can speak of that: so it
 // promises only that the document lies in the line's memory. It fails only where a read or a write did;
 // then there is no request, and the line's memory may hold a part of the line.
-pub fn next_request<C: Console>(console: &C, start: Reading, input: &mut [u8], line: &mut [u8]) -> io::Result<Request>
+pub fn next_request<C: Console>(
+    console: &C,
+    start: Reading,
+    input: &mut [u8],
+    line: &mut [u8],
+) -> io::Result<Request>
     ensures document { IfOk result (λ request. request.len ≤ length line.new) }
     ensures error { IfErr result C.fails }
 {

@@ -2,11 +2,11 @@
 // too is written whole before its answer.
 ghost use Rattle.std.specs.Prelude.{◌+◌, ◌≤◌, IfErr, length};
 
-use program_io::Console;
-use std::io;
 use crate::asked::LineFault;
 use crate::words;
 use crate::words::Word;
+use program_io::Console;
+use std::io;
 
 // How far the input was read: its memory holds bytes not yet taken from `at` up to `end`; `len` bytes
 // of the line are kept; `open` says whether the line goes on, `more` whether there may be more input.
@@ -24,7 +24,12 @@ const TOO_LONG: usize = usize::MAX;
 
 // Reads up to an LF or the input's end, and writes the line. A proved loop has to end, and nothing
 // says that the input does: so the loop counts down from a number that no run uses up.
-pub(crate) fn next_line<C: Console>(console: &C, start: Reading, input: &mut [u8], line: &mut [u8]) -> io::Result<Reading>
+pub(crate) fn next_line<C: Console>(
+    console: &C,
+    start: Reading,
+    input: &mut [u8],
+    line: &mut [u8],
+) -> io::Result<Reading>
     ensures error { IfErr result C.fails }
 {
     let mut reading = begin(start);
@@ -45,7 +50,12 @@ fn begin(reading: Reading) -> Reading {
     begun
 }
 
-fn read_on<C: Console>(console: &C, reading: Reading, input: &mut [u8], line: &mut [u8]) -> io::Result<Reading>
+fn read_on<C: Console>(
+    console: &C,
+    reading: Reading,
+    input: &mut [u8],
+    line: &mut [u8],
+) -> io::Result<Reading>
     ensures error { IfErr result C.fails }
 {
     if reading.at < reading.end {
@@ -67,13 +77,23 @@ fn refill<C: Console>(console: &C, reading: Reading, input: &mut [u8]) -> io::Re
 }
 
 // Takes what stands before the next LF, and the LF.
-fn take<C: Console>(console: &C, reading: Reading, input: &[u8], line: &mut [u8]) -> io::Result<Reading>
+fn take<C: Console>(
+    console: &C,
+    reading: Reading,
+    input: &[u8],
+    line: &mut [u8],
+) -> io::Result<Reading>
     ensures error { IfErr result C.fails }
 {
     let unread = words::front(input, reading.end);
     let start = reading.at;
     let end = words::until(unread, start, b'\n');
-    let mut taken = keep(console, reading, words::text_of(unread, Word { start, end }), line)?;
+    let mut taken = keep(
+        console,
+        reading,
+        words::text_of(unread, Word { start, end }),
+        line,
+    )?;
     taken.at = end;
     if end < unread.len() {
         taken.at = end + 1;
@@ -83,7 +103,12 @@ fn take<C: Console>(console: &C, reading: Reading, input: &[u8], line: &mut [u8]
 }
 
 // Keeps more of the line, where there is room for it.
-fn keep<C: Console>(console: &C, reading: Reading, part: &[u8], line: &mut [u8]) -> io::Result<Reading>
+fn keep<C: Console>(
+    console: &C,
+    reading: Reading,
+    part: &[u8],
+    line: &mut [u8],
+) -> io::Result<Reading>
     ensures error { IfErr result C.fails }
 {
     let len = reading.len;

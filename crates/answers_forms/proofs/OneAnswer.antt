@@ -1,6 +1,5 @@
 -- Each promise of this crate admits one answer only. A theorem bears its function's name, and is about the function's
 -- own contract: what a caller learns of its `ensures`.
--- Assumes nothing.
 use mathlib.Core.Path.{sym, ◌∙◌}
 use Rattle.text_classes.proofs.OneAnswer.{OneAnswer}
 use Rattle.answers_forms.proofs as promised

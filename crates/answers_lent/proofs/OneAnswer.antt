@@ -1,6 +1,5 @@
 -- Each promise of this crate admits one answer only, and one content of the lent memory. A theorem bears its function's
 -- name, and is about the function's own contract: what a caller learns of its `ensures`.
--- Assumes nothing.
 use mathlib.Core.Path.{sym, ◌∙◌}
 use Rattle.text_classes.proofs.OneAnswer.{OneAnswer, OneOutcome, ◌and◌, both}
 use Rattle.answers_lent.proofs as promised

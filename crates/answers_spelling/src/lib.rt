@@ -121,7 +121,13 @@ const NOTHING: Text = *b"________________________";
 
 // Writes a reply. It promises that it returns, and fails only where a write did, after which some of the
 // reply may be written; no contract can speak of what is.
-pub fn print_answer<C: Console>(console: &C, answer: Reply, bytes: &[u8], errors: &[[usize; 3]], tokens: &[[usize; 4]]) -> io::Result<()>
+pub fn print_answer<C: Console>(
+    console: &C,
+    answer: Reply,
+    bytes: &[u8],
+    errors: &[[usize; 3]],
+    tokens: &[[usize; 4]],
+) -> io::Result<()>
     ensures answer { IfOk result (λ nothing. nothing ≡ tt) }
     ensures error { IfErr result C.fails }
 {
@@ -186,7 +192,16 @@ fn put_text<C: Console>(
     let mut i = 0;
     while i < 24 {
         let b = text[i];
-        used = put_field(console, out, used, b, number_at(numbers, k), bytes, errors, tokens)?;
+        used = put_field(
+            console,
+            out,
+            used,
+            b,
+            number_at(numbers, k),
+            bytes,
+            errors,
+            tokens,
+        )?;
         k = next_number(k, b);
         i += 1;
     }
@@ -243,7 +258,13 @@ fn put_field<C: Console>(
 }
 
 // The first `count` bytes in lower-case hex, or `-` for none.
-fn put_hex<C: Console>(console: &C, out: &mut [u8], used: usize, bytes: &[u8], count: usize) -> io::Result<usize>
+fn put_hex<C: Console>(
+    console: &C,
+    out: &mut [u8],
+    used: usize,
+    bytes: &[u8],
+    count: usize,
+) -> io::Result<usize>
     ensures error { IfErr result C.fails }
 {
     if count == 0 {
@@ -267,7 +288,13 @@ fn put_hex_byte<C: Console>(console: &C, out: &mut [u8], used: usize, b: u8) -> 
 }
 
 // The first `count` records, joined by `; `, or `-` for none.
-fn put_records<C: Console>(console: &C, out: &mut [u8], used: usize, records: &[[usize; 3]], count: usize) -> io::Result<usize>
+fn put_records<C: Console>(
+    console: &C,
+    out: &mut [u8],
+    used: usize,
+    records: &[[usize; 3]],
+    count: usize,
+) -> io::Result<usize>
     ensures error { IfErr result C.fails }
 {
     if count == 0 {
@@ -308,7 +335,13 @@ fn put_listed<C: Console>(
 }
 
 // The start and the end of a token, and an error.
-fn put_broken<C: Console>(console: &C, out: &mut [u8], used: usize, token: [usize; 4], record: [usize; 3]) -> io::Result<usize>
+fn put_broken<C: Console>(
+    console: &C,
+    out: &mut [u8],
+    used: usize,
+    token: [usize; 4],
+    record: [usize; 3],
+) -> io::Result<usize>
     ensures error { IfErr result C.fails }
 {
     let n = put_number(console, out, used, token[1])?;
@@ -341,7 +374,13 @@ fn put_tokens<C: Console>(
     Ok(n)
 }
 
-fn put_token<C: Console>(console: &C, out: &mut [u8], used: usize, token: [usize; 4], lines: bool) -> io::Result<usize>
+fn put_token<C: Console>(
+    console: &C,
+    out: &mut [u8],
+    used: usize,
+    token: [usize; 4],
+    lines: bool,
+) -> io::Result<usize>
     ensures error { IfErr result C.fails }
 {
     let n = put_record(console, out, used, [token[0], token[1], token[2]])?;
@@ -352,7 +391,12 @@ fn put_token<C: Console>(console: &C, out: &mut [u8], used: usize, token: [usize
 }
 
 // The numbers of the first eleven records, three of each: 16, 15 and 2, with a bar between.
-fn put_totals<C: Console>(console: &C, out: &mut [u8], used: usize, records: &[[usize; 3]]) -> io::Result<usize>
+fn put_totals<C: Console>(
+    console: &C,
+    out: &mut [u8],
+    used: usize,
+    records: &[[usize; 3]],
+) -> io::Result<usize>
     ensures error { IfErr result C.fails }
 {
     let mut n = used;
@@ -368,7 +412,13 @@ fn put_totals<C: Console>(console: &C, out: &mut [u8], used: usize, records: &[[
 }
 
 // The total of index `place`, and what joins it to the one before it.
-fn put_total<C: Console>(console: &C, out: &mut [u8], used: usize, place: usize, number: usize) -> io::Result<usize>
+fn put_total<C: Console>(
+    console: &C,
+    out: &mut [u8],
+    used: usize,
+    place: usize,
+    number: usize,
+) -> io::Result<usize>
     ensures error { IfErr result C.fails }
 {
     match place {
@@ -383,7 +433,13 @@ fn put_total<C: Console>(console: &C, out: &mut [u8], used: usize, place: usize,
 
 // The answers of four calls: of each the errors hold the refusal's number, 0 where it answered, with the
 // count of its tokens, or else the refusal's value and length. The tokens of one follow those of another.
-fn put_calls<C: Console>(console: &C, out: &mut [u8], used: usize, calls: &[[usize; 3]], tokens: &[[usize; 4]]) -> io::Result<usize>
+fn put_calls<C: Console>(
+    console: &C,
+    out: &mut [u8],
+    used: usize,
+    calls: &[[usize; 3]],
+    tokens: &[[usize; 4]],
+) -> io::Result<usize>
     ensures error { IfErr result C.fails }
 {
     let mut n = used;
@@ -432,7 +488,14 @@ fn after_call(call: [usize; 3], tokens: &[[usize; 4]], from: usize) -> usize {
 }
 
 // With refusal 1 both of its numbers.
-fn put_refusal<C: Console>(console: &C, out: &mut [u8], used: usize, refusal: usize, value: usize, length: usize) -> io::Result<usize>
+fn put_refusal<C: Console>(
+    console: &C,
+    out: &mut [u8],
+    used: usize,
+    refusal: usize,
+    value: usize,
+    length: usize,
+) -> io::Result<usize>
     ensures error { IfErr result C.fails }
 {
     let n = put_all(console, out, used, b"refused")?;
@@ -467,7 +530,13 @@ fn put_given<C: Console>(
     Ok(n)
 }
 
-fn put_at<C: Console>(console: &C, out: &mut [u8], used: usize, time: [usize; 3], token: [usize; 4]) -> io::Result<usize>
+fn put_at<C: Console>(
+    console: &C,
+    out: &mut [u8],
+    used: usize,
+    time: [usize; 3],
+    token: [usize; 4],
+) -> io::Result<usize>
     ensures error { IfErr result C.fails }
 {
     if time[0] == 0 {
@@ -509,7 +578,12 @@ fn put_joint<C: Console>(console: &C, out: &mut [u8], used: usize, i: usize) -> 
     put_all(console, out, used, b"; ")
 }
 
-fn put_record<C: Console>(console: &C, out: &mut [u8], used: usize, record: [usize; 3]) -> io::Result<usize>
+fn put_record<C: Console>(
+    console: &C,
+    out: &mut [u8],
+    used: usize,
+    record: [usize; 3],
+) -> io::Result<usize>
     ensures error { IfErr result C.fails }
 {
     let n = put_number(console, out, used, record[0])?;
@@ -518,14 +592,24 @@ fn put_record<C: Console>(console: &C, out: &mut [u8], used: usize, record: [usi
 }
 
 // A space and a number.
-fn put_next<C: Console>(console: &C, out: &mut [u8], used: usize, number: usize) -> io::Result<usize>
+fn put_next<C: Console>(
+    console: &C,
+    out: &mut [u8],
+    used: usize,
+    number: usize,
+) -> io::Result<usize>
     ensures error { IfErr result C.fails }
 {
     let n = put_byte(console, out, used, b' ')?;
     put_number(console, out, n, number)
 }
 
-fn put_number<C: Console>(console: &C, out: &mut [u8], used: usize, number: usize) -> io::Result<usize>
+fn put_number<C: Console>(
+    console: &C,
+    out: &mut [u8],
+    used: usize,
+    number: usize,
+) -> io::Result<usize>
     ensures error { IfErr result C.fails }
 {
     let mut digits = [0u8; 20];

@@ -1,12 +1,12 @@
 // The report's lines: a number, to the right of a column, and what it counts.
 ghost use Rattle.std.specs.Prelude.{IfErr};
 
-use program_io::{Console, decimal, print_decimal};
-use std::io;
 use crate::files::front;
 use built_figures::{BEFORE_ERRORS, NOT_UTF8, TOO_LONG, Totals};
 use decoder_rules::Edition;
 use lexer_token::TokenKind;
+use program_io::{Console, decimal, print_decimal};
+use std::io;
 
 // The kinds in the order of the totals.
 const KINDS: [usize; 16] = [46, 61, 44, 91, 93, 123, 125, 32, 35, 10, 39, 34, 1, 2, 3, 4];
@@ -17,15 +17,25 @@ pub(crate) fn print_totals<C: Console>(console: &C, totals: Totals) -> io::Resul
     console.write_bytes(b"\nin all\n")?;
     let before = [0u64; 33];
     print_figures(console, &before, &totals, true)?;
-    print_line(console, totals[NOT_UTF8], b"files refused with 1, not UTF-8")?;
     print_line(
-        console, totals[TOO_LONG],
+        console,
+        totals[NOT_UTF8],
+        b"files refused with 1, not UTF-8",
+    )?;
+    print_line(
+        console,
+        totals[TOO_LONG],
         b"files refused with 2, more than 65,536 bytes",
     )
 }
 
 // By how many tokens of each kind and errors of each number the totals have grown; those that have not only where `all` says so.
-pub(crate) fn print_figures<C: Console>(console: &C, before: &[u64], after: &[u64], all: bool) -> io::Result<()>
+pub(crate) fn print_figures<C: Console>(
+    console: &C,
+    before: &[u64],
+    after: &[u64],
+    all: bool,
+) -> io::Result<()>
     ensures error { IfErr result C.fails }
 {
     let mut i = 0;
@@ -35,7 +45,12 @@ pub(crate) fn print_figures<C: Console>(console: &C, before: &[u64], after: &[u6
     }
     let mut number = 1;
     while number < 16 {
-        print_error(console, number, growth(before, after, BEFORE_ERRORS + number), all)?;
+        print_error(
+            console,
+            number,
+            growth(before, after, BEFORE_ERRORS + number),
+            all,
+        )?;
         number += 1;
     }
     Ok(())

@@ -9,13 +9,13 @@ mod files;
 mod layout;
 mod names;
 
+use built_figures::{Adding, Totals};
+use files::FileRead;
+use names::Reading;
 use program_io::Console;
 use std::io;
 use std::io::Read;
 use std::rt::Files;
-use built_figures::{Adding, Totals};
-use files::FileRead;
-use names::Reading;
 
 // Reports the files that standard input names. Its promise is that it returns, and fails only where a read of standard input or
 // a write did, with some of the report written: no contract can speak of what is read and written.
@@ -32,7 +32,12 @@ pub fn report_input<C: Console + Files>(console: &C) -> io::Result<()>
 }
 
 // A proved loop has to end, and nothing says that the input does: so the loop counts down from a number that no run uses up.
-fn report_all<C: Console + Files>(console: &C, input: &mut [u8], name: &mut [u8], doc: &mut [u8]) -> io::Result<()>
+fn report_all<C: Console + Files>(
+    console: &C,
+    input: &mut [u8],
+    name: &mut [u8],
+    doc: &mut [u8],
+) -> io::Result<()>
     ensures error { IfErr result C.fails }
 {
     let mut totals = [0u64; 33];
@@ -54,7 +59,13 @@ fn report_all<C: Console + Files>(console: &C, input: &mut [u8], name: &mut [u8]
 }
 
 // The totals after the file of one name. The input's end is no name.
-fn report_name<C: Console + Files>(console: &C, reading: Reading, name: &[u8], doc: &mut [u8], totals: Totals) -> io::Result<Totals>
+fn report_name<C: Console + Files>(
+    console: &C,
+    reading: Reading,
+    name: &[u8],
+    doc: &mut [u8],
+    totals: Totals,
+) -> io::Result<Totals>
     ensures error { IfErr result C.fails }
 {
     let len = reading.len;
@@ -72,7 +83,12 @@ fn report_name<C: Console + Files>(console: &C, reading: Reading, name: &[u8], d
     }
 }
 
-fn report_open<C: Console, R: Read>(console: &C, file: &mut R, doc: &mut [u8], totals: Totals) -> io::Result<Totals>
+fn report_open<C: Console, R: Read>(
+    console: &C,
+    file: &mut R,
+    doc: &mut [u8],
+    totals: Totals,
+) -> io::Result<Totals>
     ensures error { IfErr result C.fails }
 {
     match files::read_file(file, doc) {

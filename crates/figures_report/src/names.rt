@@ -16,7 +16,12 @@ pub(crate) struct Reading {
 }
 
 // Reads up to an LF or the input's end. Of a name that its memory does not hold, as much is kept as there is room for.
-pub(crate) fn next_name<C: Console>(console: &C, start: Reading, input: &mut [u8], name: &mut [u8]) -> io::Result<Reading>
+pub(crate) fn next_name<C: Console>(
+    console: &C,
+    start: Reading,
+    input: &mut [u8],
+    name: &mut [u8],
+) -> io::Result<Reading>
     ensures error { IfErr result C.fails }
 {
     let mut reading = start;
@@ -30,7 +35,12 @@ pub(crate) fn next_name<C: Console>(console: &C, start: Reading, input: &mut [u8
     Ok(reading)
 }
 
-fn read_on<C: Console>(console: &C, reading: Reading, input: &mut [u8], name: &mut [u8]) -> io::Result<Reading>
+fn read_on<C: Console>(
+    console: &C,
+    reading: Reading,
+    input: &mut [u8],
+    name: &mut [u8],
+) -> io::Result<Reading>
     ensures error { IfErr result C.fails }
 {
     let at = reading.at;

@@ -6,9 +6,9 @@
 
 ghost use Rattle.std.specs.Prelude.{◌≡◌, ◌+◌, ◌≤◌, IfErr, IfOk, length};
 
+use lexer::Lexed;
 use program_io::{Console, decimal, print_decimal, read_full};
 use std::io;
-use lexer::Lexed;
 
 // The most bytes that the lister takes.
 const MOST: usize = 65536;
@@ -44,7 +44,8 @@ pub fn list<C: Console>(console: &C, doc: &[u8]) -> io::Result<()>
     match lexer::lex(doc, &mut records) {
         Lexed::Tokens(count) => print_records(console, &records, count),
         Lexed::Refused(refusal) => print_refused(
-            console, refusal.number(),
+            console,
+            refusal.number(),
             refusal.value(),
             refusal.length(),
         ),
@@ -90,7 +91,12 @@ fn write_lines<C: Console>(console: &C, lines: &[u8], at: usize) -> io::Result<(
     console.write_bytes(&lines[..at])
 }
 
-fn print_refused<C: Console>(console: &C, number: usize, value: usize, length: usize) -> io::Result<()>
+fn print_refused<C: Console>(
+    console: &C,
+    number: usize,
+    value: usize,
+    length: usize,
+) -> io::Result<()>
     ensures error { IfErr result C.fails }
 {
     console.write_bytes(b"refused ")?;

@@ -11,33 +11,51 @@ const CLASSES: u8 = 31;
 
 fn main(rt: HostRuntime) -> io::Result<()> {
     print(
-        &rt, b"# Byte classes\n\nThe class of each byte, by its first hex digit (down) and its second (across), in hex.\n",
+        &rt,
+        b"# Byte classes\n\nThe class of each byte, by its first hex digit (down) and its second (across), in hex.\n",
     )?;
-    print(&rt, b"Bytes of one class are in the same sets, and no rule tells them apart.\n\n")?;
-    print(&rt, b"        0  1  2  3  4  5  6  7  8  9  a  b  c  d  e  f\n")?;
+    print(
+        &rt,
+        b"Bytes of one class are in the same sets, and no rule tells them apart.\n\n",
+    )?;
+    print(
+        &rt,
+        b"        0  1  2  3  4  5  6  7  8  9  a  b  c  d  e  f\n",
+    )?;
     table(&rt)?;
     print(&rt, b"\n| class | bytes | sets |\n|---|---|---|\n")?;
     classes(&rt)?;
     print(&rt, b"\n| other sets | classes |\n|---|---|\n")?;
     members(&rt, b"in an atom", Set::InAtom)?;
     members(&rt, b"in a comment", Set::InComment)?;
-    members(&rt, b"in a literal string, up to a mark or LF", Set::InLiteral)?;
     members(
-        &rt, b"in a basic string, up to a mark, backslash or LF",
+        &rt,
+        b"in a literal string, up to a mark or LF",
+        Set::InLiteral,
+    )?;
+    members(
+        &rt,
+        b"in a basic string, up to a mark, backslash or LF",
         Set::InBasic,
     )?;
     members(
-        &rt, b"in a multi-line literal string, up to a mark",
+        &rt,
+        b"in a multi-line literal string, up to a mark",
         Set::InMlLiteral,
     )?;
     members(
-        &rt, b"in a multi-line basic string, up to a mark or backslash",
+        &rt,
+        b"in a multi-line basic string, up to a mark or backslash",
         Set::InMlBasic,
     )?;
     members(&rt, b"plain in a multi-line literal body", Set::MllPlain)?;
     members(&rt, b"plain in a multi-line basic body", Set::MlbPlain)?;
     members(&rt, b"error 7, in a basic body", Set::BasicInvalid)?;
-    members(&rt, b"error 12, in a multi-line basic body", Set::MlbInvalid)?;
+    members(
+        &rt,
+        b"error 12, in a multi-line basic body",
+        Set::MlbInvalid,
+    )?;
     members(&rt, b"dropped by a line-ending escape", Set::Skipped)
 }
 

@@ -118,10 +118,22 @@ fn after_others(console: &impl Console) -> io::Result<()> {
     check(console, b"1234567\xFF")?;
     check(console, b"12345678\xFF")?;
     check(console, b"123456789\xFF")?;
-    check(console, b"123456789012345678901234567890123456789012345678901234567890123\xFF")?;
-    check(console, b"1234567890123456789012345678901234567890123456789012345678901234\xFF")?;
-    check(console, b"12345678901234567890123456789012345678901234567890123456789012345\xFF5678")?;
-    check(console, b"\xC3\xA9=\xE2\x82\xAC\xF0\x9F\x98\x80 \xED\xA0\x80")?;
+    check(
+        console,
+        b"123456789012345678901234567890123456789012345678901234567890123\xFF",
+    )?;
+    check(
+        console,
+        b"1234567890123456789012345678901234567890123456789012345678901234\xFF",
+    )?;
+    check(
+        console,
+        b"12345678901234567890123456789012345678901234567890123456789012345\xFF5678",
+    )?;
+    check(
+        console,
+        b"\xC3\xA9=\xE2\x82\xAC\xF0\x9F\x98\x80 \xED\xA0\x80",
+    )?;
     check(console, b"\xC3\xA912345678\xE2\x82\xAC123\xF0\x9F\x98")
 }
 

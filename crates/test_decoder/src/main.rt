@@ -6,9 +6,9 @@
 
 ghost use Rattle.std.specs.Prelude.{◌≤◌, ◌<◌};
 
+use decoder::Decoded;
 use program_io::{Console, print_decimal};
 use std::io;
-use decoder::Decoded;
 
 fn number(console: &impl Console, n: usize) -> io::Result<()> {
     console.write_bytes(b" ")?;
@@ -69,7 +69,13 @@ fn print_answer(console: &impl Console, answer: Decoded) -> io::Result<()> {
 }
 
 // One call, to which all of `output` and `errors` is lent.
-fn run(console: &impl Console, kind: usize, text: &[u8], output: &mut [u8], errors: &mut [[usize; 3]]) -> io::Result<()> {
+fn run(
+    console: &impl Console,
+    kind: usize,
+    text: &[u8],
+    output: &mut [u8],
+    errors: &mut [[usize; 3]],
+) -> io::Result<()> {
     print_decimal(console, kind as u64)?;
     number(console, output.len())?;
     number(console, errors.len())?;
@@ -81,12 +87,24 @@ fn run(console: &impl Console, kind: usize, text: &[u8], output: &mut [u8], erro
 }
 
 // One call, to which `room` bytes and `slots` records are lent.
-fn show(console: &impl Console, kind: usize, text: &[u8], room: usize, slots: usize) -> io::Result<()>
+fn show(
+    console: &impl Console,
+    kind: usize,
+    text: &[u8],
+    room: usize,
+    slots: usize,
+) -> io::Result<()>
     requires { (room ≤ 16) × (slots ≤ 4) }
 {
     let mut output = [0x2Au8; 16];
     let mut errors = [[0usize; 3]; 4];
-    run(console, kind, text, &mut output[..room], &mut errors[..slots])
+    run(
+        console,
+        kind,
+        text,
+        &mut output[..room],
+        &mut errors[..slots],
+    )
 }
 
 fn basic(console: &impl Console) -> io::Result<()> {

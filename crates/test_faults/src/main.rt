@@ -44,24 +44,33 @@ fn faults(console: &impl Console, a: u8) -> io::Result<()> {
     print(console, checked(&[a, b'x']))?;
     console.write_bytes(b"\n")?;
     let b = lowest(a);
-    varied(console, Opening {
-        n: 1,
-        a,
-        b,
-        c: 0x80,
-    })?;
-    varied(console, Opening {
-        n: 2,
-        a,
-        b,
-        c: 0x80,
-    })?;
-    varied(console, Opening {
-        n: 3,
-        a,
-        b,
-        c: 0x80,
-    })
+    varied(
+        console,
+        Opening {
+            n: 1,
+            a,
+            b,
+            c: 0x80,
+        },
+    )?;
+    varied(
+        console,
+        Opening {
+            n: 2,
+            a,
+            b,
+            c: 0x80,
+        },
+    )?;
+    varied(
+        console,
+        Opening {
+            n: 3,
+            a,
+            b,
+            c: 0x80,
+        },
+    )
 }
 
 // The lowest second byte that may follow the first byte `a`.

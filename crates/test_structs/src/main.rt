@@ -4,10 +4,10 @@
 
 ghost use Rattle.std.specs.Prelude.{◌≤◌};
 
-use program_io::{Console, print_decimal};
-use std::io;
 use lexer::Lexed;
 use lexer_token::Token;
+use program_io::{Console, print_decimal};
+use std::io;
 use text_refusals::Refusal;
 
 fn main(rt: HostRuntime) -> io::Result<()> {

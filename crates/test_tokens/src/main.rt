@@ -2,11 +2,11 @@
 // program's stack can hold), through the calls; the file `stdout` says what must come out.
 #![tactic(auto)]
 
-use program_io::{Console, print_decimal};
-use std::io;
 use lexer::{Cursor, Lexed, Start, Step};
 use lexer_place::{Position, SpanCheck};
 use lexer_token::{Answer, Span, Token, TokenKind};
+use program_io::{Console, print_decimal};
+use std::io;
 use text_refusals::Refusal;
 
 fn say(console: &impl Console, words: &[u8]) -> io::Result<()> {
@@ -78,7 +78,13 @@ fn token(console: &impl Console, t: Token, c: Cursor) -> io::Result<()> {
     number(console, c.line, b" next\n")
 }
 
-fn step(console: &impl Console, doc: &[u8], place: usize, line: usize, ended: bool) -> io::Result<()> {
+fn step(
+    console: &impl Console,
+    doc: &[u8],
+    place: usize,
+    line: usize,
+    ended: bool,
+) -> io::Result<()> {
     let c = Cursor { place, line, ended };
     match c.step(doc) {
         Step::Token(t, next) => token(console, t, next),

@@ -1,8 +1,10 @@
-use mathlib.Core.Path.{◌≡◌}
-use mathlib.Core.List.{List}
-use lib.ListN.{length}
-use borrow.Author.Rules.{rules}
+-- `answer_all` is safe, since its memory keeps its length, and ends, since its turns run out.
+use Rattle.std.proofs.Common.{◌≡◌, List, length}
 use Rattle.answers.proofs.answer_all.Given as goal
+
+-- lent memory keeps its length
+abbrev Same : {A : Type 0} → List A → List A → Type 0
+Same now old = length now ≡ length old
 
 abbrev pub invariant-loop-turns : goal.invariant-loop-turns
 invariant-loop-turns g l =

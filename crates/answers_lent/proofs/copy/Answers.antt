@@ -1,10 +1,7 @@
 -- `copy` is right because a turn copies a byte, and what is not copied yet is as it was.
-use Prim.Native.Nat.{◌-◌, ◌≤◌}
 use mathlib.Core.Path.{◌≡◌, refl}
-use mathlib.Core.List.{◌++◌}
 use native.Mathlib.Omega.{arith}
-use lib.ListN.{length, take, drop, length-set}
-use borrow.Author.Rules.{rules}
+use lib.ListN.{length-set}
 use Rattle.answers_lent.proofs.CopyLaws.{copied_one}
 use Rattle.answers_lent.proofs.copy.Goals as goal
 
@@ -21,4 +18,4 @@ loop-i-preserved c =
 pub returns : goal.returns
 returns c =
     let all : c.loop-i.i ≡ c.least-count.result = omega arith in
-    (c.least-count.ensures, rw all at c.loop-i.invariant.2)
+    record { answer = c.least-count.ensures; memory = rw all at c.loop-i.invariant.2 }

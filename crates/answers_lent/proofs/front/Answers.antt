@@ -1,7 +1,6 @@
 -- `front` is right because it takes no more records than there are.
 use native.Mathlib.Omega.{arith}
 use lib.ListN.{length-take}
-use borrow.Author.Rules.{rules}
 use Rattle.answers_lent.proofs.front.Goals as goal
 
 pub slice_bounds-result-end : goal.slice_bounds-result-end

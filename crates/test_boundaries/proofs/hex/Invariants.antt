@@ -1,5 +1,5 @@
 use borrow.Author.Rules.{rules}
-use Rattle.core.specs.Prelude.{◌-◌, ◌≤◌, length}
+use Rattle.std.proofs.Common.{◌-◌, ◌≤◌, length}
 use Rattle.test_boundaries.proofs.hex.Given as goal
 
 abbrev pub invariant-loop-i : goal.invariant-loop-i

@@ -1,5 +1,5 @@
 use borrow.Author.Rules.{rules}
-use Rattle.core.specs.Prelude.{◌-◌}
+use Rattle.std.proofs.Common.{◌-◌}
 use Rattle.test_boundaries.proofs.lone.Given as goal
 
 abbrev pub invariant-loop-b : goal.invariant-loop-b
