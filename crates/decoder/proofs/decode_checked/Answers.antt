@@ -26,9 +26,10 @@ returns-then-n-text c =
     let a = c.args in
     let told = c.copy_escaped-n.ensures in
     let kept : c.if-kind-eq-ATOM.output ≡ a.output.now =
-      elim c.if-kind-eq-ATOM.branch
-      [ then-kind-eq-ATOM+else-n-gt0 w ↦ w.output-is ∙ key_none w.copy_key-n.ensures w.if-n-gt0.false
-      | else-kind-eq-ATOM w ↦ w.output-is ] in
+    elim c.if-kind-eq-ATOM.branch [
+      | then-kind-eq-ATOM+else-n-gt0 w ↦ w.output-is ∙ key_none w.copy_key-n.ensures w.if-n-gt0.false
+      | else-kind-eq-ATOM w ↦ w.output-is
+    ] in
     let k = short_some told.1 c.if-n-text.true in
     let d = short_decodes a.text.now a.edition a.kind (told.0 c.if-n-text.true) c.if-kind-eq-BASIC_STRING.true k.0 in
     record {
@@ -47,12 +48,14 @@ pub returns-in-Valid-clause-answer : goal.returns-in-Valid-clause-answer
 returns-in-Valid-clause-answer c =
     let a = c.args in
     let kept : c.if-kind-eq-ATOM.output ≡ a.output.now =
-      elim c.if-kind-eq-ATOM.branch
-      [ then-kind-eq-ATOM+else-n-gt0 w ↦ w.output-is ∙ key_none w.copy_key-n.ensures w.if-n-gt0.false
-      | else-kind-eq-ATOM w ↦ w.output-is ] in
+    elim c.if-kind-eq-ATOM.branch [
+      | then-kind-eq-ATOM+else-n-gt0 w ↦ w.output-is ∙ key_none w.copy_key-n.ensures w.if-n-gt0.false
+      | else-kind-eq-ATOM w ↦ w.output-is
+    ] in
     let still : c.if-kind-eq-BASIC_STRING.output ≡ a.output.now =
-      elim c.if-kind-eq-BASIC_STRING.branch
-      [ then-kind-eq-BASIC_STRING+else-n-text w ↦ w.output-is ∙ short_none w.copy_escaped-n.ensures.1 w.if-n-text.false ∙ kept
-      | else-kind-eq-BASIC_STRING w ↦ w.output-is ∙ kept ] in
+    elim c.if-kind-eq-BASIC_STRING.branch [
+      | then-kind-eq-BASIC_STRING+else-n-text w ↦ w.output-is ∙ short_none w.copy_escaped-n.ensures.1 w.if-n-text.false ∙ kept
+      | else-kind-eq-BASIC_STRING w ↦ w.output-is ∙ kept
+    ] in
     let valid = decode_valid a.text.now a.edition a.kind (length a.output.now) (length a.errors.now) c.in-Valid.ensures.answer in
     rw (c.choice_by.ensures, still) at c.decode_by.ensures.answer ∙ valid

@@ -56,7 +56,7 @@ overflow_add-m c =
     let piece = fine a.e a.text.now c.loop-body.body c.in-Piece.p c.in-Piece.next c.in-Piece.ensures in
     let gave = c.width-n.ensures _ piece.fits in
     let so = again a.e a.text.now c.loop-body.body c.in-Piece.p c.in-Piece.next c.in-Piece.ensures a.start _ _ _ _
-      c.loop-body.invariant gave c.noted-m.ensures in
+    c.loop-body.invariant gave c.noted-m.ensures in
     omega (arith, so.few, within a.start a.text.now)
 
 pub loop-body-smaller : goal.loop-body-smaller

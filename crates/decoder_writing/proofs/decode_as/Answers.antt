@@ -39,10 +39,11 @@ pub fill-done-requires : goal.fill-done-requires
 fill-done-requires c =
     let a = c.args in
     let room : Room a.e a.text.now (length a.output.now) (length a.errors.now) =
-      elim c.if-not-is_roomy.branch
-      [ then-not-is_roomy+else-output-need+else-errors-need w ↦
-        (omega (arith, w.needed-need.ensures.bytes), omega (arith, w.needed-need.ensures.errors))
-      | else-not-is_roomy w ↦ roomy a.e a.text.now _ _ (c.is_roomy.ensures w.if-not-is_roomy.false) ] in
+    elim c.if-not-is_roomy.branch [
+      | then-not-is_roomy+else-output-need+else-errors-need w ↦
+          (omega (arith, w.needed-need.ensures.bytes), omega (arith, w.needed-need.ensures.errors))
+      | else-not-is_roomy w ↦ roomy a.e a.text.now _ _ (c.is_roomy.ensures w.if-not-is_roomy.false)
+    ] in
     (c.open_text-opened.ensures, room.0, room.1)
 
 pub returns : goal.returns
@@ -51,10 +52,11 @@ returns c =
     let output = c.fill-done.ensures.output in
     let records = c.fill-done.ensures.records in
     let room : Room a.e a.text.now (length a.output.now) (length a.errors.now) =
-      elim c.if-not-is_roomy.branch
-      [ then-not-is_roomy+else-output-need+else-errors-need w ↦
-        (omega (arith, w.needed-need.ensures.bytes), omega (arith, w.needed-need.ensures.errors))
-      | else-not-is_roomy w ↦ roomy a.e a.text.now _ _ (c.is_roomy.ensures w.if-not-is_roomy.false) ] in
+    elim c.if-not-is_roomy.branch [
+      | then-not-is_roomy+else-output-need+else-errors-need w ↦
+          (omega (arith, w.needed-need.ensures.bytes), omega (arith, w.needed-need.ensures.errors))
+      | else-not-is_roomy w ↦ roomy a.e a.text.now _ _ (c.is_roomy.ensures w.if-not-is_roomy.false)
+    ] in
     let answer = fitted_written (bytes_of a.e a.text.now) (errors_of a.e a.text.now) _ _ _ _ (front_long output) (front_long records) in
     record {
       answer = answer (omega (arith, room.0, output.place)) (omega (arith, room.1, records.place));

@@ -1,25 +1,15 @@
 -- `needed` is right because the errors of the two marks and those of the body are all there are.
 -- Assumes nothing.
 use Prim.Native.Nat.{◌+◌, ◌≤◌}
-
 use mathlib.Core.Path.{◌≡◌, sym, ap, ◌∙◌}
-
 use native.Mathlib.Omega.{arith}
-
 use borrow.Author.Rules.{rules}
-
 use lib.ListN.{length, length-append}
-
 use Rattle.decoder_rules.specs.Decoding.{errors_of}
-
 use Rattle.decoder_rules.proofs.Bounds.{errors_few}
-
 use Rattle.decoder_marks.proofs.OpenLaws.{opened_bytes, opened_errors}
-
 use Rattle.decoder_reading.specs.declared.Counts.{Counts}
-
 use Rattle.decoder_writing.proofs.needed.Statement.{statement}
-
 use Rattle.decoder_writing.proofs.needed.Tie as tie
 
 -- the errors of the marks and of the body, counted, are all that there are: so the sums stay small

@@ -1,25 +1,15 @@
 -- `hex_number` is right because the digits are there, and their number is at hand.
 -- Assumes nothing.
 use Prim.Native.Nat.{◌-◌, ◌<◌}
-
 use mathlib.Core.Path.{◌≡◌}
-
 use mathlib.Core.Bool.{true}
-
 use native.Mathlib.Omega.{arith}
-
 use borrow.Author.Rules.{rules}
-
 use lib.ListN.{get_or}
-
 use Rattle.text_classes.specs.Classes.{hexdig}
-
 use Rattle.decoder_pieces.proofs.HexLaws.{Digits, digits_start, digits_room, digits_turn, value_small}
-
 use Rattle.table_pieces.proofs.DigitLaws.{digit_within, digit_here, digits_read}
-
 use Rattle.table_pieces.proofs.string.hex_number.Statement.{statement}
-
 use Rattle.table_pieces.proofs.string.hex_number.Tie as tie
 
 abbrev invariant-loop : tie.invariant-loop-i

@@ -17,7 +17,7 @@ pub overflow_add-next : goal.overflow_add-next
 overflow_add-next c =
     let a = c.args in
     let turn : Turn (piece_of a.e) a.self.dropping a.self.at (body_bytes a.self a.text.now) c.piece_at-p.result =
-      record { more = omega (arith, ap length c.bytes-s.ensures); reads = rw c.bytes-s.ensures at c.piece_at-p.ensures } in
+    record { more = omega (arith, ap length c.bytes-s.ensures); reads = rw c.bytes-s.ensures at c.piece_at-p.ensures } in
     omega (arith, turn_fits a.e a.text.now a.self c.piece_at-p.result turn)
 
 pub returns : goal.returns
