@@ -1,10 +1,10 @@
 -- What going over a comment keeps, and that its text is UTF-8 where whole characters stand up to its end.
 -- Assumes nothing.
-use Rattle.std.proofs.Common.{◌≡◌, ℕ, zero, suc, ◌+◌, ◌-◌, ◌%◌, ◌^◌, ◌<◌, ◌≤◌, Bool, true, false, not, ◌&&◌, ◌||◌, eqb, ltb, leb, ◌⊎◌, List, [], ◌∷◌, ◌++◌, length, get_or, take, drop, sym, refl, ap, ◌∙◌, subst, inl, inr, add-zero, arith, length-drop, length-take-le, get_or-drop, get_or-take, take-take, drop-drop, ltb-true, lt-ltb, ne_eqb, eqb-true, le-leb, leb-true}
+use Rattle.std.proofs.Common.{◌≡◌, ℕ, zero, suc, ◌+◌, ◌-◌, ◌%◌, ◌^◌, ◌<◌, ◌≤◌, Bool, true, false, ltb, leb, List, [], ◌∷◌, length, get_or, take, drop, refl, ap, ◌∙◌, inl, inr, add-zero, arith, length-drop, length-take-le, get_or-drop, get_or-take, take-take, drop-drop, ltb-true, lt-ltb, ne_eqb, le-leb, leb-true}
 use native.Mathlib.Decide.{dec_lt}
 use lib.ListN.{get_or-eq_default}
 use Rattle.text_classes.specs.Runs.{run}
-use Rattle.text_classes.proofs.Conds.{both_left, both_right, or_inv, not_both}
+use Rattle.text_classes.proofs.Conds.{both_left, both_right, not_both}
 use Rattle.text_classes.proofs.RunLaws.{SameEnd, run_le, run_step, run_stop, run_halts, same_end_start, same_end_byte}
 use Rattle.text_scalars.specs.Utf8.{Utf8}
 use Rattle.text_scalars.specs.Utf8Read.{Along, valid_prefix}

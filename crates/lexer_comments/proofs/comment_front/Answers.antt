@@ -1,6 +1,5 @@
 -- `comment_front` is right because it goes over own bytes and whole characters beyond ASCII only, and a comment goes on with each.
-use Rattle.std.proofs.Common.{◌<◌, arith}
-use Rattle.lexer_comments.proofs.FrontLaws.{front_start, own_on_to}
+use Rattle.lexer_comments.proofs.FrontLaws.{own_on_to}
 use Rattle.lexer_comments.proofs.comment_front.Goals as goal
 
 pub returns-then-is_comment_end : goal.returns-then-is_comment_end

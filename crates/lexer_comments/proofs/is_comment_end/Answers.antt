@@ -1,6 +1,5 @@
 -- `is_comment_end` is right because a comment goes on with no CR and no LF, and there is nothing after the end.
-use mathlib.Core.Bool.{false≢true}
-use Rattle.std.proofs.Common.{⊎_elim, arith, rules}
+use Rattle.std.proofs.Common.{⊎_elim, arith}
 use Rattle.text_classes.proofs.RunLaws.{run_end}
 use Rattle.lexer_scans.specs.Extents.{in_comment}
 use Rattle.lexer_comments.proofs.FrontLaws.{cr_ends, lf_ends}

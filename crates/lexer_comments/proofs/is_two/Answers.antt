@@ -1,6 +1,4 @@
 -- `is_two` is right because the ranges are those of the table for such a first byte.
-use mathlib.Core.Bool.{false≢true}
-use Rattle.std.proofs.Common.{rules}
 use Rattle.lexer_comments.proofs.FrontLaws.{two_there}
 use Rattle.lexer_comments.proofs.is_two.Goals as goal
 

@@ -1,6 +1,6 @@
 -- `own_bytes` is right because each byte before the least place found was passed over.
-use Rattle.std.proofs.Common.{◌+◌, ◌-◌, ◌≤◌, arith, rules}
-use Rattle.lexer_scans.proofs.BlockLaws.{BlockTo, block_to_start, block_to_step}
+use Rattle.std.proofs.Common.{arith}
+use Rattle.lexer_scans.proofs.BlockLaws.{block_to_step}
 use Rattle.lexer_comments.specs.Fronts.{own_byte}
 use Rattle.lexer_comments.proofs.own_bytes.Goals as goal
 

@@ -1,5 +1,5 @@
-use Rattle.std.proofs.Common.{◌+◌, ◌-◌, ◌≤◌, arith, rules}
-use Rattle.lexer_scans.proofs.BlockLaws.{BlockTo, block_to_start, block_to_step}
+use Rattle.std.proofs.Common.{◌-◌, ◌≤◌}
+use Rattle.lexer_scans.proofs.BlockLaws.{BlockTo}
 use Rattle.lexer_comments.specs.Fronts.{own_byte}
 use Rattle.lexer_comments.proofs.own_bytes.Given as goal
 

@@ -1,7 +1,6 @@
 -- `own_chars` is right because each turn goes over whole characters, and a comment goes on with them.
-use Rattle.std.proofs.Common.{◌≡◌, ◌+◌, ◌-◌, length, get_or, arith, rules}
+use Rattle.std.proofs.Common.{◌≡◌, ◌+◌, get_or, arith}
 use Rattle.text_characters.specs.Lead.{CharacterAt, WideAt}
-use Rattle.lexer_comments.specs.Fronts.{Onward}
 use Rattle.lexer_comments.proofs.FrontLaws.{own_of, own_one, own_two, wide_over, twos_over}
 use Rattle.lexer_comments.proofs.own_chars.Goals as goal
 

@@ -2,7 +2,6 @@
 -- that is met is the end.
 use mathlib.Core.Path.{sym, ◌∙◌}
 use native.Mathlib.Omega.{arith}
-use Rattle.text_classes.proofs.FirstLaws.{stands_there}
 use Rattle.lexer_scans.proofs.TailLaws.{literal_found, literal_halts, line_closed}
 use Rattle.table_scans.proofs.literal_tail.Goals as goal
 

@@ -1,7 +1,6 @@
 -- `over_marks` is right because it asks of the two places in the definition's order.
 use mathlib.Core.Path.{sym, ◌∙◌}
 use Rattle.lexer_scans.proofs.MarkLaws.{up_to_two_at}
-use borrow.Author.Rules.{rules}
 use native.Mathlib.Omega.{arith}
 use Rattle.table_scans.proofs.over_marks.Goals as goal
 
