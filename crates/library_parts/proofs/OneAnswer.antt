@@ -10,5 +10,5 @@ started κs a x y s t p q = p ∙ sym q
 pub fed : OneAnswer promised.fed.Reads.Learnt
 fed κs a x y s t p q = p ∙ sym q
 
-pub parts_of_lem : OneAnswer promised.parts_of.Reads.Learnt
-parts_of_lem κs a x y s t p q = p ∙ sym q
+pub parts_of : OneAnswer promised.parts_of.Reads.Learnt
+parts_of κs a x y s t p q = p ∙ sym q
