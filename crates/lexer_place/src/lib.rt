@@ -91,6 +91,9 @@ pub fn position_of(doc: &[u8], offset: usize) -> Position
     Position::At { line, column }
 }
 
+// What ends a line.
+const LINE_END: u8 = b'\n';
+
 // The column of `offset`: 1 plus the characters that begin between the last LF before it and it,
 // counted from the offset back. A byte order mark is not counted, and has no LF in it.
 fn column_of(doc: &[u8], offset: usize) -> usize
@@ -102,7 +105,7 @@ fn column_of(doc: &[u8], offset: usize) -> usize
     let mut i = offset;
     while first < i {
         let b = doc[i - 1];
-        if b == b'\n' {
+        if b == LINE_END {
             return column;
         }
         if !text_classes::is_continuation(b) {

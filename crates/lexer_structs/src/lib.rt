@@ -30,8 +30,8 @@ pub struct LexedEight {
     pub tokens: [Token; 8],
 }
 
-// Whole lexing: every token into the lent records, from the front. A function that is lent structs is
-// proved by hand, so whatever is decided is decided in the functions below.
+// Whole lexing: every token into the lent records, from the front. Whatever is
+// decided is decided in the functions below.
 pub fn lex_tokens(doc: &[u8], records: &mut [Token]) -> Lexed
     ensures answer { result ≡ lex_answer doc.now (length records.old) }
     ensures memory { records.new ≡ token_memory doc.now records.old }
@@ -49,7 +49,7 @@ pub fn lex_tokens(doc: &[u8], records: &mut [Token]) -> Lexed
     a
 }
 
-// Whole lexing into eight records of its own, by value: a caller needs no proof by hand.
+// Whole lexing into eight records of its own, by value.
 pub fn lex_eight(doc: &[u8]) -> LexedEight
     ensures { result ≡ eight_of doc.now }
 {

@@ -9,8 +9,5 @@ use Rattle.answers_built_calls.proofs.put_kinds.Goals as goal
 pub loop-i-init : goal.loop-i-init
 loop-i-init c = (omega arith, refl)
 
-pub overflow_cast-tokens : goal.overflow_cast-tokens
-overflow_cast-tokens c = omega (arith, c.shared_slice_known-1.given c.loop-i.i)
-
 pub loop-i-preserved : goal.loop-i-preserved
 loop-i-preserved c = (omega arith, simp length-set c.loop-i.invariant.1)

@@ -3,7 +3,6 @@ use mathlib.Core.Path.{sym, ◌∙◌}
 use borrow.Author.Tests.{lt-ltb, le-ltb}
 use Rattle.lexer_place.specs.Spans.{span_answer}
 use Rattle.lexer_place.proofs.NumberLaws.{span_checked}
-use borrow.Author.Rules.{rules}
 use Rattle.lexer_place.proofs.check_span.Goals as goal
 
 pub returns-then-doc-gt-LIMIT : goal.returns-then-doc-gt-LIMIT

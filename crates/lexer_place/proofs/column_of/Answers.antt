@@ -55,12 +55,12 @@ loop-i-init c =
       grows = λ k. omega (arith, column_end (take offset doc) offset (omega (arith, length-take-le offset doc c.requires)) k);
     }
 
-pub returns-then-b-eq10 : goal.returns-then-b-eq10
-returns-then-b-eq10 c =
+pub returns-then-b-eq-LINE_END : goal.returns-then-b-eq-LINE_END
+returns-then-b-eq-LINE_END c =
     let is = c.args in
     let at = c.loop-i in
     let first = c.start_of-first.result in
-    let lf = get_or-take is.offset is.doc.now (at.i - 1) 0 (omega arith) ∙ c.if-b-eq10.true in
+    let lf = get_or-take is.offset is.doc.now (at.i - 1) 0 (omega arith) ∙ c.if-b-eq-LINE_END.true in
     let reset = column_after_lf (take is.offset is.doc.now) first at.i 1 (omega arith) lf in
     omega (arith, reset, from_mark is.doc.now is.offset first c.start_of-first.ensures, at.invariant.grows 1)
 
@@ -69,7 +69,7 @@ loop-i-preserved c =
     let is = c.args in
     let doc = is.doc.now in
     let at = c.loop-i in
-    let other = c.if-b-eq10.false in
+    let other = c.if-b-eq-LINE_END.false in
     let test = sym c.is_continuation.ensures in
     elim c.if-not-is_continuation.branch [
       | then-not-is_continuation w ↦

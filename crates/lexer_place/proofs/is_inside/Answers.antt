@@ -1,6 +1,5 @@
 -- `is_inside` is right because beyond the end stands no byte.
 use mathlib.Core.Path.{sym, ◌∙◌}
-use borrow.Author.Rules.{rules}
 use native.Mathlib.Omega.{arith}
 use Rattle.text_classes.specs.Classes.{continuation}
 use Rattle.text_classes.proofs.FirstLaws.{first_there, first_beyond}

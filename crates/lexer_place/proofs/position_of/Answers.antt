@@ -2,7 +2,6 @@
 use borrow.Author.Tests.{lt-ltb, le-ltb}
 use Rattle.lexer_place.specs.Positions.{position_answer}
 use Rattle.lexer_place.proofs.NumberLaws.{positioned}
-use borrow.Author.Rules.{rules}
 use Rattle.lexer_place.proofs.position_of.Goals as goal
 
 pub returns-then-doc-gt-LIMIT : goal.returns-then-doc-gt-LIMIT

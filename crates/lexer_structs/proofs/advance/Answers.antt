@@ -1,7 +1,6 @@
 -- `advance` is right because each answer of a step has its token and its cursor, or none and the same cursor.
 use mathlib.Core.Path.{sym, ◌∙◌}
 use Rattle.lexer_structs.proofs.TurnLaws.{next_given, next_end, next_refused}
-use borrow.Author.Rules.{rules}
 use Rattle.lexer_structs.proofs.advance.Goals as goal
 
 pub returns-in-Token : goal.returns-in-Token

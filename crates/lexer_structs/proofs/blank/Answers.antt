@@ -3,7 +3,6 @@ use mathlib.Core.Path.{ap, ◌∙◌}
 use Rattle.lexer_token.specs.declared.Span.{Span}
 use Rattle.lexer_token.specs.declared.TokenKind.TheVariants.{Eof}
 use Rattle.lexer_token.specs.Records.{token_of}
-use borrow.Author.Rules.{rules}
 use Rattle.lexer_structs.proofs.blank.Goals as goal
 
 pub returns : goal.returns

@@ -1,7 +1,6 @@
 -- `first` is right because each answer of a start has its cursor.
 use mathlib.Core.Path.{sym, ap, ◌∙◌}
 use Rattle.lexer.specs.Steps.{start_cursor}
-use borrow.Author.Rules.{rules}
 use Rattle.lexer_structs.proofs.first.Goals as goal
 
 pub returns-in-At : goal.returns-in-At

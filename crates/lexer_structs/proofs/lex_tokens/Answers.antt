@@ -1,11 +1,10 @@
 -- `lex_tokens` is right because each turn stores the next token, and as many turns are made as records are written.
-use Prim.Native.Nat.{ℕ, ◌+◌}
-use mathlib.Core.Path.{◌≡◌, refl, sym, ap, ◌∙◌}
+use Prim.Native.Nat.{ℕ}
+use mathlib.Core.Path.{◌≡◌, sym, ap, ◌∙◌}
 use mathlib.Core.List.{List}
 use native.Mathlib.Omega.{arith}
 use lib.ListN.{length, set}
 use Rattle.lexer_token.specs.declared.Token.{Token}
-use Rattle.lexer.specs.declared.Cursor.{Cursor}
 use Rattle.lexer.specs.declared.Lexed.{Lexed}
 use Rattle.lexer.specs.Whole.{lex_answer}
 use Rattle.lexer_structs.specs.Turns.{writes_of, next_of, cursor_after, stored}

@@ -3,7 +3,6 @@
 use mathlib.Core.Path.{sym, ap, ◌∙◌}
 use Rattle.lexer.specs.declared.Lexed.TheVariants.{Refused}
 use Rattle.lexer_structs.proofs.PlanLaws.{plan_tokens, plan_few, plan_other}
-use borrow.Author.Rules.{rules}
 use Rattle.lexer_structs.proofs.plan.Goals as goal
 
 pub returns-in-Tokens : goal.returns-in-Tokens

@@ -3,7 +3,7 @@ use Prim.Native.Nat.{◌-◌}
 use Rattle.test_faults.proofs.main.Given as goal
 
 abbrev pub invariant-loop-a : goal.invariant-loop-a
-invariant-loop-a g l = Unit
+invariant-loop-a l = Unit
 
 abbrev pub decreases-loop-a : goal.decreases-loop-a
-decreases-loop-a g l = 0x100 - l.a
+decreases-loop-a l = 0x100 - l.a

@@ -1,5 +1,5 @@
 -- `good_hex` is right because the digits that are read are those after the letter, and their number is at hand.
-use Rattle.std.proofs.Common.{drop, sym, ◌∙◌, rules}
+use Rattle.std.proofs.Common.{drop, sym, ◌∙◌, arith}
 use Rattle.decoder_rules.proofs.Fine.{rest_is}
 use Rattle.decoder_pieces.proofs.EscapeAtLaws.{good_few, good_char, good_no_char}
 use Rattle.decoder_pieces.proofs.string.good_hex.Goals as goal
@@ -15,14 +15,12 @@ pub returns-then-is_scalar : goal.returns-then-is_scalar
 returns-then-is_scalar c =
     let a = c.args in
     let read = rw rest_is at c.hex_digits-hex.ensures in
-    let all = c.if-hex-digits.false in
     let scalar = sym c.is_scalar.ensures ∙ c.if-is_scalar.true in
-    good_char a.digits (drop 2 a.s.now) _ (read.enough all) (read.number all) scalar
+    good_char a.digits (drop 2 a.s.now) _ (read.enough (omega arith)) (read.number (omega arith)) scalar
 
 pub returns : goal.returns
 returns c =
     let a = c.args in
     let read = rw rest_is at c.hex_digits-hex.ensures in
-    let all = c.if-hex-digits.false in
     let scalar = sym c.is_scalar.ensures ∙ c.if-is_scalar.false in
-    c.no_escape-2.ensures ∙ good_no_char a.digits (drop 2 a.s.now) _ (read.enough all) (read.number all) scalar
+    c.no_escape-2.ensures ∙ good_no_char a.digits (drop 2 a.s.now) _ (read.enough (omega arith)) (read.number (omega arith)) scalar
