@@ -74,7 +74,7 @@ module _ (doc totals : List ℕ) where
   valid = eqb (valid_prefix doc) (length doc)
 
   number_is : number_of doc totals ≡ by_tests fit over valid
-  number_is = (numbers doc totals (tallied doc totals) refl).1.0
+  number_is = (numbers doc totals (tallied doc totals) refl).number
 
   after_fit : fit ≡ true → totals_after doc totals ≡ sums doc totals
   after_fit e = sym (ap (λ (r : Tallied). r.totals) (answered doc totals (verdict_on doc) (figures_of doc) (refl, refl) e))
