@@ -77,10 +77,10 @@ module _ (doc totals : List ℕ) where
   number_is = (numbers doc totals (tallied doc totals) refl).number
 
   after_fit : fit ≡ true → totals_after doc totals ≡ sums doc totals
-  after_fit e = sym (ap (λ (r : Tallied). r.totals) (answered doc totals (verdict_on doc) (figures_of doc) (refl, refl) e))
+  after_fit e = sym (ap (λ (r : Tallied). r.totals) (answered doc totals (verdict_on doc) (figures_of doc) (record { verdict = refl; figures = refl }) e))
 
   after_full : fit ≡ false → totals_after doc totals ≡ totals
-  after_full e = sym (ap (λ (r : Tallied). r.totals) (refused doc totals (verdict_on doc) (figures_of doc) (refl, refl) e))
+  after_full e = sym (ap (λ (r : Tallied). r.totals) (refused doc totals (verdict_on doc) (figures_of doc) (record { verdict = refl; figures = refl }) e))
 
   -- refusal 13 is given exactly where a sum does not fit
   not_full : fit ≡ true → number_of doc totals ≡ 13 → ⊥
@@ -159,7 +159,7 @@ added_counts doc totals zero_is =
     let check = check_valid doc totals tests.1 tests.2 in
     let ks = kinds_among (tokens_of doc) in
     let es = errors_among doc (tokens_of doc) in
-    let is = after_fit doc totals tests.0 ∙ ap (λ (r : List ℕ). added totals r) (short doc small Valid check).1 in
+    let is = after_fit doc totals tests.0 ∙ ap (λ (r : List ℕ). added totals r) (short doc small Valid check).figures in
     record {
       short = small;
       utf8 = (checked doc check).1;
@@ -176,12 +176,12 @@ refused_counts doc totals size =
           let tests = 1_means (fit doc totals) (over doc totals) (valid doc totals) (sym (number_is doc totals) ∙ e) in
           let small = ltb-false most (length doc) tests.1 in
           after_fit doc totals tests.0
-          ∙ ap (λ (r : List ℕ). added totals r) (short doc small _ (check_broken doc totals tests.1 tests.2)).1
+          ∙ ap (λ (r : List ℕ). added totals r) (short doc small _ (check_broken doc totals tests.1 tests.2)).figures
           ∙ sym (rw size at (added_one totals 31 (omega (arith, size))));
       by_2 = λ e.
           let tests = 2_means (fit doc totals) (over doc totals) (valid doc totals) (sym (number_is doc totals) ∙ e) in
           after_fit doc totals tests.0
-          ∙ ap (λ (r : List ℕ). added totals r) (long doc (ltb-true most (length doc) tests.1)).1
+          ∙ ap (λ (r : List ℕ). added totals r) (long doc (ltb-true most (length doc) tests.1)).figures
           ∙ sym (rw size at (added_one totals 32 (omega (arith, size))));
       by_13 = λ e. after_full doc totals (13_means (fit doc totals) (over doc totals) (valid doc totals) (sym (number_is doc totals) ∙ e));
     }
