@@ -115,7 +115,7 @@ pub(crate) fn lent<'m>(
     let count = Refusal::read(decoded.answer)?;
     let written: &'m [u8] = &output[..count];
     debug_assert!(core::str::from_utf8(written).is_ok());
-    // SAFETY: what an answered decode writes is UTF-8: `decode-answered`, crates/decoder_rules/specs/Answered.antt.
+    // SAFETY: what an answered decode writes is UTF-8: `decode_answered`, crates/decoder_rules/specs/Answered.antt.
     let text = unsafe { core::str::from_utf8_unchecked(written) };
     Ok(Lent { text, records: &errors[..decoded.errors], context, edition })
 }
@@ -136,7 +136,7 @@ pub(crate) fn owned(text: &[u8], kind: usize, edition: Edition, context: Span) -
     output.truncate(Refusal::read(decoded.answer)?);
     records.truncate(decoded.errors);
     debug_assert!(core::str::from_utf8(&output).is_ok());
-    // SAFETY: what an answered decode writes is UTF-8: `decode-answered`, crates/decoder_rules/specs/Answered.antt.
+    // SAFETY: what an answered decode writes is UTF-8: `decode_answered`, crates/decoder_rules/specs/Answered.antt.
     let text = unsafe { String::from_utf8_unchecked(output) };
     let errors = records.iter().map(|record| ParseError::from_record(*record, context, edition)).collect();
     Ok(Decoded { text, errors })

@@ -78,6 +78,6 @@ pub const LIMIT: usize = 16_777_216;
 pub fn check_utf8(doc: &[u8]) -> Result<&str, Refusal> {
     Refusal::read(ffi::check_utf8(doc))?;
     debug_assert!(core::str::from_utf8(doc).is_ok());
-    // SAFETY: the check answers exactly where all of the bytes are UTF-8: `check-means`, crates/text/specs/CheckMeans.antt.
+    // SAFETY: the check answers exactly where all of the bytes are UTF-8: `check_means`, crates/text/specs/CheckMeans.antt.
     Ok(unsafe { core::str::from_utf8_unchecked(doc) })
 }

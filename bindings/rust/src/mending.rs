@@ -90,7 +90,7 @@ pub fn put_right_into<'m>(
     let count = Refusal::read(mended.answer)?;
     let written: &'m [u8] = &output[..count];
     debug_assert!(core::str::from_utf8(written).is_ok());
-    // SAFETY: what an answered call writes of a document in UTF-8 is UTF-8: `puts-right`, crates/theorems_mending/specs/Mended.antt.
+    // SAFETY: what an answered call writes of a document in UTF-8 is UTF-8: `puts_right`, crates/theorems_mending/specs/Mended.antt.
     let text = unsafe { core::str::from_utf8_unchecked(written) };
     Ok(LentMended { text, records: &records[..mended.records], edition })
 }

@@ -55,7 +55,7 @@ impl Parts {
                 Err(Refusal::FewTokens { needed }) => tokens.reserve(needed),
                 answer => {
                     let count = answer?;
-                    // SAFETY: so many records were written from the front, each with a kind's number: `feedMemory`,
+                    // SAFETY: so many records were written from the front, each with a kind's number: `feed_memory`,
                     // crates/built_parts/specs/Feeding.antt.
                     unsafe { tokens.set_len(count) };
                     return Ok(tokens);
@@ -70,7 +70,7 @@ impl Parts {
         let mut tokens = Vec::with_capacity(2);
         let fed = ffi::parts_close(&self.state, tokens.spare_capacity_mut());
         let count = self.after(fed)?;
-        // SAFETY: as in `feed`, by `closeMemory`.
+        // SAFETY: as in `feed`, by `close_memory`.
         unsafe { tokens.set_len(count) };
         Ok(tokens)
     }

@@ -39,7 +39,7 @@ pub fn write_value_into<'m>(value: &[u8], output: &'m mut [u8]) -> Result<&'m st
     let count = Refusal::read(ffi::write_value(value, output))?;
     let written: &'m [u8] = &output[..count];
     debug_assert!(core::str::from_utf8(written).is_ok());
-    // SAFETY: an answered call writes the encoding of scalar values that TOML's grammar derives: `writes-shortest`,
+    // SAFETY: an answered call writes the encoding of scalar values that TOML's grammar derives: `writes_shortest`,
     // crates/theorems_writing/specs/Shortest.antt.
     Ok(unsafe { core::str::from_utf8_unchecked(written) })
 }

@@ -3,11 +3,12 @@
 // `answers_calls`, `answers_built_calls`, `answers_parts_calls` and `answers_table_calls` make the call, and
 // `answers_spelling` writes the answer. The memory that is lent to them is made here, once, and a line uses no more of it than
 // its own length asks for.
+// The three parts of it go separately: a call is lent two at once, and so a struct of them would take a lifetime for each.
 #![tactic(auto)]
 
 ghost use Rattle.std.specs.Prelude.{◌≤◌, length};
 
-use answers_asking::{Call, LineFault, RECORDS, Reading, Request, WRITTEN};
+use answers_asking::{Call, Question, RECORDS, Reading, Request, WRITTEN};
 use answers_spelling::Reply;
 use program_io::Console;
 use std::io;
@@ -29,8 +30,8 @@ fn main(rt: HostRuntime) -> io::Result<()> {
     )
 }
 
-// A proved loop has to end, and nothing says that the input does: so the loop counts down from a number
-// that no run uses up.
+// A proved loop has to end, and nothing says that the input does: so the loop counts to a number that no
+// run reaches.
 fn answer_all(
     console: &impl Console,
     input: &mut [u8],
@@ -42,16 +43,17 @@ fn answer_all(
     let mut reading = Reading {
         at: 0,
         end: 0,
-        len: 0,
+        kept: Some(0),
         open: false,
         more: true,
     };
-    let mut turns = u64::MAX;
-    while turns > 0 && reading.more {
+    for _ in 0..u64::MAX {
+        if !reading.more {
+            break;
+        }
         let request = answers_asking::next_request(console, reading, input, line)?;
         reading = request.reading;
         answer(console, request, line, bytes, errors, tokens)?;
-        turns -= 1;
     }
     Ok(())
 }
@@ -80,25 +82,21 @@ fn answer_to(
     requires { request.len ≤ length line.now }
 {
     let len = request.len;
-    let asked = request.asked;
-    let fault = asked.fault;
-    let call = asked.call;
-    let numbers = asked.numbers;
-    if let LineFault::Nothing = fault {
-        return reply(call, numbers, &line[..len], bytes, errors, tokens);
+    match request.asked {
+        Ok(asked) => reply(asked, &line[..len], bytes, errors, tokens),
+        Err(fault) => answers_forms::fault(fault),
     }
-    answers_forms::fault(fault)
 }
 
 fn reply(
-    call: Call,
-    numbers: [usize; 3],
+    asked: Question,
     doc: &[u8],
     bytes: &mut [u8],
     errors: &mut [[usize; 3]],
     tokens: &mut [[usize; 4]],
 ) -> Reply {
-    match call {
+    let numbers = asked.numbers;
+    match asked.call {
         Call::Reader(made) => answers_calls::reader_reply(
             made, numbers, doc, bytes, errors, tokens,
         ),
@@ -109,6 +107,5 @@ fn reply(
         Call::Table(made) => answers_table_calls::table_reply(
             made, numbers, doc, bytes, errors, tokens,
         ),
-        Call::Unknown => answers_forms::fault(LineFault::UnknownCall),
     }
 }

@@ -15,12 +15,12 @@ pub use names::{BuiltCall, Call, PartsCall, RECORDS, ReaderCall, TableCall, WRIT
 use program_io::Console;
 use std::io;
 
-// What a line asks for, and how far the input was read. The document is the first `len` bytes of the
-// line's memory.
+// What a line asks for, or why it is no call, and how far the input was read. The document is the first
+// `len` bytes of the line's memory.
 #[derive(Clone, Copy)]
 pub struct Request {
     pub reading: Reading,
-    pub asked: Question,
+    pub asked: Result<Question, LineFault>,
     pub len: usize,
 }
 
@@ -43,9 +43,11 @@ pub fn next_request<C: Console>(
 fn request_of(reading: Reading, line: &mut [u8]) -> Request
     ensures { result.len ≤ length line.new }
 {
-    let asked = asked::read(reading, line);
-    let document = asked.document;
-    let len = words::read_bytes(line, document);
+    let asked = lines::kept(reading).and_then(|len| asked::read(words::front(line, len)));
+    let len = match (reading.kept, asked) {
+        (Some(len), Ok(question)) => words::read_bytes(line, len, question.digits),
+        _ => 0,
+    };
     Request {
         reading,
         asked,

@@ -1,8 +1,5 @@
 // The lines that there are: for the name of each call, how the words after it are read. A line form is
-// a variant of its family below, and a line of `reader_line`, `built_line`, `parts_line` or
-// `table_line`.
-ghost use Rattle.std.specs.Prelude.{◌≤◌};
-
+// a variant of its family below, and a row of `LINES`.
 // One more than the longest document that is taken, of 65,536 bytes, can need: decoded it has at most
 // one and a half times its bytes, and at most two errors more than bytes. Lexed it has at most one
 // token more than bytes.
@@ -82,163 +79,130 @@ pub enum Call {
     Built(BuiltCall),
     Parts(PartsCall),
     Table(TableCall),
-    Unknown,
 }
 
-// How a line of a call is read: `count` numbers follow the name, three at the most, each within its
+// How a line of a call is read: a number for each of the limits follows the name, three at the most, each within its
 // limit; and then a document, where `document` says so.
 #[derive(Clone, Copy)]
-pub struct Line {
+pub(crate) struct Line {
     pub call: Call,
-    pub count: usize,
-    pub limits: [usize; 3],
+    pub limits: &'static [usize],
     pub document: bool,
 }
 
-// The line whose name has this key: the bytes of the name, as `words::name_key` joins them.
-pub(crate) fn line_of(key: usize) -> Line {
-    let line = reader_line(key);
-    let call = line.call;
-    if let Call::Unknown = call {
-        return added_line(key);
-    }
-    line
-}
+// The name of each line, its call, the limits of its numbers, and whether a document follows them.
+static LINES: [(&[u8], Call, &[usize], bool); 38] = [
+    (b"lex", Call::Reader(ReaderCall::Lex), &[], true),
+    (b"lexline", Call::Reader(ReaderCall::LexLine), &[], true),
+    (
+        b"lexcap",
+        Call::Reader(ReaderCall::LexCap),
+        &[RECORDS],
+        true,
+    ),
+    (b"dec", Call::Reader(ReaderCall::Dec), &[ANY], true),
+    (
+        b"deccap",
+        Call::Reader(ReaderCall::DecCap),
+        &[ANY, OUTPUT, RECORDS],
+        true,
+    ),
+    (b"decin", Call::Reader(ReaderCall::DecIn), &[ANY, ANY], true),
+    (b"utf8", Call::Reader(ReaderCall::Utf8), &[], true),
+    (b"fault", Call::Reader(ReaderCall::Fault), &[], true),
+    (b"start", Call::Reader(ReaderCall::Start), &[], true),
+    (b"step", Call::Reader(ReaderCall::Step), &[ANY, FLAG], true),
+    (
+        b"stepline",
+        Call::Reader(ReaderCall::StepLine),
+        &[ANY, FLAG, ANY],
+        true,
+    ),
+    (b"span", Call::Reader(ReaderCall::Span), &[ANY, ANY], true),
+    (b"text", Call::Reader(ReaderCall::Text), &[ANY, ANY], true),
+    (b"pos", Call::Reader(ReaderCall::Pos), &[ANY], true),
+    (b"desc", Call::Reader(ReaderCall::Desc), &[ANY], false),
+    (b"write", Call::Built(BuiltCall::Write), &[], true),
+    (
+        b"writecap",
+        Call::Built(BuiltCall::WriteCap),
+        &[WRITTEN],
+        true,
+    ),
+    (b"mend", Call::Built(BuiltCall::Mend), &[], true),
+    (b"mendin", Call::Built(BuiltCall::MendIn), &[ANY], true),
+    (
+        b"mendcap",
+        Call::Built(BuiltCall::MendCap),
+        &[WRITTEN, RECORDS],
+        true,
+    ),
+    (
+        b"tick",
+        Call::Built(BuiltCall::Tick),
+        &[ANY, ANY, RECORDS],
+        true,
+    ),
+    (
+        b"untick",
+        Call::Built(BuiltCall::Untick),
+        &[ANY, ANY, RECORDS],
+        true,
+    ),
+    (
+        b"ticked",
+        Call::Built(BuiltCall::Ticked),
+        &[ANY, ANY, RECORDS],
+        true,
+    ),
+    (
+        b"ticks",
+        Call::Built(BuiltCall::Ticks),
+        &[ANY, RECORDS],
+        true,
+    ),
+    (b"value", Call::Built(BuiltCall::Value), &[ANY, ANY], true),
+    (
+        b"valuein",
+        Call::Built(BuiltCall::ValueIn),
+        &[ANY, ANY, ANY],
+        true,
+    ),
+    (b"broken", Call::Built(BuiltCall::Broken), &[], true),
+    (b"brokenin", Call::Built(BuiltCall::BrokenIn), &[ANY], true),
+    (b"tally", Call::Built(BuiltCall::Tally), &[], true),
+    (b"tallyon", Call::Built(BuiltCall::TallyOn), &[ANY], true),
+    (b"parts", Call::Parts(PartsCall::Parts), &[ANY, ANY], true),
+    (
+        b"partscap",
+        Call::Parts(PartsCall::PartsCap),
+        &[RECORDS, ANY, ANY],
+        true,
+    ),
+    (b"bytes", Call::Parts(PartsCall::Bytes), &[], true),
+    (b"tlex", Call::Table(TableCall::Lex), &[], true),
+    (b"tlexline", Call::Table(TableCall::LexLine), &[], true),
+    (b"tdec", Call::Table(TableCall::Dec), &[ANY], true),
+    (b"tdecin", Call::Table(TableCall::DecIn), &[ANY, ANY], true),
+    (
+        b"tstep",
+        Call::Table(TableCall::Step),
+        &[ANY, FLAG, ANY],
+        true,
+    ),
+];
 
-// A line of a call that a request added.
-fn added_line(key: usize) -> Line {
-    let line = built_line(key);
-    let call = line.call;
-    if let Call::Unknown = call {
-        return later_line(key);
-    }
-    line
-}
-
-fn later_line(key: usize) -> Line {
-    let line = parts_line(key);
-    let call = line.call;
-    if let Call::Unknown = call {
-        return table_line(key);
-    }
-    line
-}
-
-fn reader_line(key: usize) -> Line {
-    match key {
-        0x6C_65_78 => reader(ReaderCall::Lex, 0),
-        0x6C_65_78_6C_69_6E_65 => reader(ReaderCall::LexLine, 0),
-        0x6C_65_78_63_61_70 => limited(reader(ReaderCall::LexCap, 1), [RECORDS, ANY, ANY]),
-        0x64_65_63 => reader(ReaderCall::Dec, 1),
-        0x64_65_63_63_61_70 => limited(reader(ReaderCall::DecCap, 3), [ANY, OUTPUT, RECORDS]),
-        0x64_65_63_69_6E => reader(ReaderCall::DecIn, 2),
-        0x75_74_66_38 => reader(ReaderCall::Utf8, 0),
-        0x66_61_75_6C_74 => reader(ReaderCall::Fault, 0),
-        0x73_74_61_72_74 => reader(ReaderCall::Start, 0),
-        0x73_74_65_70 => limited(reader(ReaderCall::Step, 2), [ANY, FLAG, ANY]),
-        0x73_74_65_70_6C_69_6E_65 => limited(reader(ReaderCall::StepLine, 3), [ANY, FLAG, ANY]),
-        0x73_70_61_6E => reader(ReaderCall::Span, 2),
-        0x74_65_78_74 => reader(ReaderCall::Text, 2),
-        0x70_6F_73 => reader(ReaderCall::Pos, 1),
-        0x64_65_73_63 => without_document(reader(ReaderCall::Desc, 1)),
-        _ => plain(Call::Unknown, 0),
-    }
-}
-
-fn built_line(key: usize) -> Line {
-    match key {
-        0x77_72_69_74_65 => built(BuiltCall::Write, 0),
-        0x77_72_69_74_65_63_61_70 => limited(built(BuiltCall::WriteCap, 1), [WRITTEN, ANY, ANY]),
-        0x6D_65_6E_64 => built(BuiltCall::Mend, 0),
-        0x6D_65_6E_64_69_6E => built(BuiltCall::MendIn, 1),
-        0x6D_65_6E_64_63_61_70 => limited(built(BuiltCall::MendCap, 2), [WRITTEN, RECORDS, ANY]),
-        0x74_69_63_6B => limited(built(BuiltCall::Tick, 3), [ANY, ANY, RECORDS]),
-        0x75_6E_74_69_63_6B => limited(built(BuiltCall::Untick, 3), [ANY, ANY, RECORDS]),
-        0x74_69_63_6B_65_64 => limited(built(BuiltCall::Ticked, 3), [ANY, ANY, RECORDS]),
-        0x74_69_63_6B_73 => limited(built(BuiltCall::Ticks, 2), [ANY, RECORDS, ANY]),
-        0x76_61_6C_75_65 => built(BuiltCall::Value, 2),
-        0x76_61_6C_75_65_69_6E => built(BuiltCall::ValueIn, 3),
-        0x62_72_6F_6B_65_6E => built(BuiltCall::Broken, 0),
-        0x62_72_6F_6B_65_6E_69_6E => built(BuiltCall::BrokenIn, 1),
-        0x74_61_6C_6C_79 => built(BuiltCall::Tally, 0),
-        0x74_61_6C_6C_79_6F_6E => built(BuiltCall::TallyOn, 1),
-        _ => plain(Call::Unknown, 0),
-    }
-}
-
-fn parts_line(key: usize) -> Line {
-    match key {
-        0x70_61_72_74_73 => parts(PartsCall::Parts, 2),
-        0x70_61_72_74_73_63_61_70 => limited(parts(PartsCall::PartsCap, 3), [RECORDS, ANY, ANY]),
-        0x62_79_74_65_73 => parts(PartsCall::Bytes, 0),
-        _ => plain(Call::Unknown, 0),
-    }
-}
-
-fn table_line(key: usize) -> Line {
-    match key {
-        0x74_6C_65_78 => table(TableCall::Lex, 0),
-        0x74_6C_65_78_6C_69_6E_65 => table(TableCall::LexLine, 0),
-        0x74_64_65_63 => table(TableCall::Dec, 1),
-        0x74_64_65_63_69_6E => table(TableCall::DecIn, 2),
-        0x74_73_74_65_70 => limited(table(TableCall::Step, 3), [ANY, FLAG, ANY]),
-        _ => plain(Call::Unknown, 0),
-    }
-}
-
-fn reader(call: ReaderCall, count: usize) -> Line {
-    plain(Call::Reader(call), count)
-}
-
-fn built(call: BuiltCall, count: usize) -> Line {
-    plain(Call::Built(call), count)
-}
-
-fn parts(call: PartsCall, count: usize) -> Line {
-    plain(Call::Parts(call), count)
-}
-
-fn table(call: TableCall, count: usize) -> Line {
-    plain(Call::Table(call), count)
-}
-
-// A line of so many numbers, which may be any, and a document.
-fn plain(call: Call, count: usize) -> Line {
-    Line {
+// The line of a name.
+pub(crate) fn line_of(name: &[u8]) -> Option<Line> {
+    let (_, call, limits, document) = *LINES.iter().find(|line| line.0 == name)?;
+    Some(Line {
         call,
-        count,
-        limits: [ANY, ANY, ANY],
-        document: true,
-    }
-}
-
-fn limited(line: Line, limits: [usize; 3]) -> Line {
-    let mut within = line;
-    within.limits = limits;
-    within
-}
-
-// A line that ends with its numbers.
-fn without_document(line: Line) -> Line {
-    let mut bare = line;
-    bare.document = false;
-    bare
-}
-
-// How many numbers such a line has.
-pub(crate) fn numbers_of(line: Line) -> usize
-    ensures { result ≤ 3 }
-{
-    if line.count < 3 {
-        return line.count;
-    }
-    3
+        limits,
+        document,
+    })
 }
 
 // How many words such a line has, with its name.
 pub(crate) fn words_of(line: Line) -> usize {
-    if line.document {
-        return numbers_of(line) + 2;
-    }
-    numbers_of(line) + 1
+    line.limits.len() + if line.document { 2 } else { 1 }
 }

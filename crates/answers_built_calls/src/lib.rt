@@ -1,15 +1,13 @@
-// The calls that requests added, as lines can ask for them, a function each: answers_calls has those of
-// the reader.
+// The calls that requests added, as lines can ask for them: answers_calls has those of the reader.
 #![tactic(auto)]
 
 use answers_asking::{BuiltCall, RECORDS};
-use answers_lent::{copy, front, least};
+use answers_lent::{copy, front};
 use answers_spelling::Reply;
-use built_mending::Mended;
 use decoder_rules::Edition;
+use std::cmp::min;
 
-// The reply to a call, for which `bytes`, `errors` and `tokens` are there to be lent: an arm for each
-// request, whose function is given the memory that its calls need.
+// The reply to a call, for which `bytes`, `errors` and `tokens` are there to be lent.
 pub fn built_reply(
     call: BuiltCall,
     numbers: [usize; 3],
@@ -18,26 +16,45 @@ pub fn built_reply(
     errors: &mut [[usize; 3]],
     tokens: &mut [[usize; 4]],
 ) -> Reply {
+    let [a, b, c] = numbers;
     match call {
-        BuiltCall::Write | BuiltCall::WriteCap => writing(call, numbers, doc, bytes),
-        BuiltCall::Broken | BuiltCall::BrokenIn => breaking(call, numbers, doc),
-        BuiltCall::Value | BuiltCall::ValueIn => values(call, numbers, doc, tokens),
+        BuiltCall::Write => answers_built_forms::wrote(built_writing::write_value(doc, bytes)),
+        // the number is how many bytes of output are lent
+        BuiltCall::WriteCap => {
+            let lent = min(a, bytes.len());
+            answers_forms::counted(built_writing::write_value(doc, &mut bytes[..lent]))
+        }
+        BuiltCall::Mend | BuiltCall::MendIn | BuiltCall::MendCap => {
+            mending(call, numbers, doc, bytes, errors, tokens)
+        }
+        // the reviewer, the token, and how many token records are lent
+        BuiltCall::Tick => mark(true, a, b, front(tokens, c), doc, bytes),
+        BuiltCall::Untick => mark(false, a, b, front(tokens, c), doc, bytes),
+        BuiltCall::Ticked => answers_built_forms::flag(built_review::is_ticked(
+            front(tokens, c),
+            doc,
+            a,
+            b,
+        )),
+        // the reviewer, and how many token records are lent
+        BuiltCall::Ticks => {
+            answers_built_forms::tick_count(built_review::ticks(front(tokens, b), doc, a))
+        }
+        // the start and the end of the run; before them the edition
+        BuiltCall::Value => {
+            answers_built_forms::flag(built_values::is_value(of_kinds(doc, tokens), a, b))
+        }
+        BuiltCall::ValueIn => {
+            answers_built_forms::flag(built_values::is_value_in(of_kinds(doc, tokens), a, b, c))
+        }
+        BuiltCall::Broken => answers_built_forms::broken(built_broken::first_broken(doc)),
+        BuiltCall::BrokenIn => answers_built_forms::broken(built_broken::first_broken_in(doc, a)),
         BuiltCall::Tally => tally(0, doc, errors),
-        BuiltCall::TallyOn => tally(numbers[0], doc, errors),
-        BuiltCall::Mend | BuiltCall::MendIn | BuiltCall::MendCap => mending(
-            call, numbers, doc, bytes, errors, tokens,
-        ),
-        _ => review(call, numbers, doc, bytes, tokens),
+        BuiltCall::TallyOn => tally(a, doc, errors),
     }
 }
 
-fn writing(call: BuiltCall, numbers: [usize; 3], doc: &[u8], bytes: &mut [u8]) -> Reply {
-    match call {
-        BuiltCall::WriteCap => writecap(numbers, doc, bytes),
-        _ => write(doc, bytes),
-    }
-}
-
+// These calls alone are lent memory that is made for them.
 fn mending(
     call: BuiltCall,
     numbers: [usize; 3],
@@ -47,45 +64,12 @@ fn mending(
     tokens: &mut [[usize; 4]],
 ) -> Reply {
     let mut records = [[0usize; 5]; RECORDS];
+    let [a, b, _] = numbers;
     match call {
-        BuiltCall::MendCap => mendcap(numbers, doc, bytes, &mut records),
-        BuiltCall::MendIn => mend(numbers[0], doc, bytes, &mut records, errors, tokens),
+        BuiltCall::MendCap => mendcap(a, b, doc, bytes, &mut records),
+        BuiltCall::MendIn => mend(a, doc, bytes, &mut records, errors, tokens),
         _ => mend(Edition::TOML_10, doc, bytes, &mut records, errors, tokens),
     }
-}
-
-fn review(
-    call: BuiltCall,
-    numbers: [usize; 3],
-    doc: &[u8],
-    bytes: &mut [u8],
-    tokens: &[[usize; 4]],
-) -> Reply {
-    match call {
-        BuiltCall::Tick => tick(numbers, doc, bytes, tokens),
-        BuiltCall::Untick => untick(numbers, doc, bytes, tokens),
-        BuiltCall::Ticked => ticked(numbers, doc, tokens),
-        _ => ticks(numbers, doc, tokens),
-    }
-}
-
-fn values(call: BuiltCall, numbers: [usize; 3], doc: &[u8], tokens: &mut [[usize; 4]]) -> Reply {
-    let count = put_kinds(doc, tokens);
-    let records = front(tokens, count);
-    match call {
-        BuiltCall::ValueIn => valuein(numbers, records),
-        _ => value(numbers, records),
-    }
-}
-
-fn write(doc: &[u8], bytes: &mut [u8]) -> Reply {
-    answers_built_forms::wrote(built_writing::write_value(doc, bytes))
-}
-
-// The number is how many bytes of output are lent.
-fn writecap(numbers: [usize; 3], doc: &[u8], bytes: &mut [u8]) -> Reply {
-    let lent = least(numbers[0], bytes.len());
-    answers_built_forms::wrote_count(built_writing::write_value(doc, &mut bytes[..lent]))
 }
 
 // What was listed is spread for the printing: a token's span into a token, its error into an error.
@@ -98,60 +82,30 @@ fn mend(
     tokens: &mut [[usize; 4]],
 ) -> Reply {
     let result = built_mending::put_right_in(doc, edition, bytes, records);
-    let count = listed(result);
-    put_spans(tokens, records, count);
-    put_errors(errors, records, count);
+    let count = result.map_or(0, |mended| mended.records);
+    spread(front(records, count), errors, tokens);
     answers_built_forms::mended(result)
 }
 
-// How many records were written.
-fn listed(res: Mended) -> usize {
-    match res {
-        Mended::Written { bytes: _, records } => records,
-        Mended::Refused(_) => 0,
+fn spread(records: &[[usize; 5]], errors: &mut [[usize; 3]], tokens: &mut [[usize; 4]]) {
+    for (error, record) in errors.iter_mut().zip(records) {
+        *error = [record[2], record[3], record[4]];
+    }
+    for (token, record) in tokens.iter_mut().zip(records) {
+        *token = [0, record[0], record[1], 0];
     }
 }
 
-fn put_errors(errors: &mut [[usize; 3]], records: &[[usize; 5]], count: usize) -> usize {
-    let mut n = 0;
-    let mut i = 0;
-    while i < records.len() && i < count {
-        n = put_error(errors, n, records[i]);
-        i += 1;
-    }
-    n
-}
-
-fn put_error(errors: &mut [[usize; 3]], at: usize, record: [usize; 5]) -> usize {
-    if at < errors.len() {
-        errors[at] = [record[2], record[3], record[4]];
-        return at + 1;
-    }
-    at
-}
-
-fn put_spans(tokens: &mut [[usize; 4]], records: &[[usize; 5]], count: usize) -> usize {
-    let mut n = 0;
-    let mut i = 0;
-    while i < records.len() && i < count {
-        n = put_span(tokens, n, records[i]);
-        i += 1;
-    }
-    n
-}
-
-fn put_span(tokens: &mut [[usize; 4]], at: usize, record: [usize; 5]) -> usize {
-    if at < tokens.len() {
-        tokens[at] = [0, record[0], record[1], 0];
-        return at + 1;
-    }
-    at
-}
-
-// The numbers are how many bytes of output and how many records are lent.
-fn mendcap(numbers: [usize; 3], doc: &[u8], bytes: &mut [u8], records: &mut [[usize; 5]]) -> Reply {
-    let lent = least(numbers[0], bytes.len());
-    let few = least(numbers[1], records.len());
+// With so many bytes of output and so many records lent.
+fn mendcap(
+    output: usize,
+    listed: usize,
+    doc: &[u8],
+    bytes: &mut [u8],
+    records: &mut [[usize; 5]],
+) -> Reply {
+    let lent = min(output, bytes.len());
+    let few = min(listed, records.len());
     answers_built_forms::mended_count(built_mending::put_right(
         doc,
         &mut bytes[..lent],
@@ -159,105 +113,40 @@ fn mendcap(numbers: [usize; 3], doc: &[u8], bytes: &mut [u8], records: &mut [[us
     ))
 }
 
-// The numbers are the reviewer, the token, and how many token records are lent. The document is the table of marks; it is
-// copied, so that the call has a table to write to.
-fn tick(numbers: [usize; 3], doc: &[u8], bytes: &mut [u8], tokens: &[[usize; 4]]) -> Reply {
-    let records = front(tokens, numbers[2]);
+// Sets or clears a tick. The document is the table of marks; it is copied, so that the call has a table to write to.
+fn mark(
+    set: bool,
+    reviewer: usize,
+    token: usize,
+    records: &[[usize; 4]],
+    doc: &[u8],
+    bytes: &mut [u8],
+) -> Reply {
     let entries = copy(doc, bytes);
-    let marking = built_review::tick(records, &mut bytes[..entries], numbers[0], numbers[1]);
+    let marks = &mut bytes[..entries];
+    let marking = if set {
+        built_review::tick(records, marks, reviewer, token)
+    } else {
+        built_review::untick(records, marks, reviewer, token)
+    };
     answers_built_forms::marked(marking, entries)
 }
 
-fn untick(numbers: [usize; 3], doc: &[u8], bytes: &mut [u8], tokens: &[[usize; 4]]) -> Reply {
-    let records = front(tokens, numbers[2]);
-    let entries = copy(doc, bytes);
-    let marking = built_review::untick(records, &mut bytes[..entries], numbers[0], numbers[1]);
-    answers_built_forms::marked(marking, entries)
-}
-
-fn ticked(numbers: [usize; 3], marks: &[u8], tokens: &[[usize; 4]]) -> Reply {
-    let records = front(tokens, numbers[2]);
-    let read = built_review::is_ticked(records, marks, numbers[0], numbers[1]);
-    answers_built_forms::tick_read(read)
-}
-
-// The numbers are the reviewer, and how many token records are lent.
-fn ticks(numbers: [usize; 3], marks: &[u8], tokens: &[[usize; 4]]) -> Reply {
-    let records = front(tokens, numbers[1]);
-    answers_built_forms::tick_count(built_review::ticks(records, marks, numbers[0]))
-}
-
-// Token records whose kinds are the bytes of the document; answers how many they are. Nothing else of a record matters to
-// the calls on values.
-fn put_kinds(kinds: &[u8], tokens: &mut [[usize; 4]]) -> usize {
-    let count = least(kinds.len(), tokens.len());
-    let mut i = 0;
-    while i < count {
-        tokens[i] = [kinds[i] as usize, 0, 0, 0];
-        i += 1;
+// Token records whose kinds are the bytes of the document. Nothing else of a record matters to the calls on values.
+fn of_kinds<'a>(kinds: &[u8], tokens: &'a mut [[usize; 4]]) -> &'a [[usize; 4]] {
+    for (token, kind) in tokens.iter_mut().zip(kinds) {
+        *token = [*kind as usize, 0, 0, 0];
     }
-    count
+    front(tokens, kinds.len())
 }
 
-// The numbers are the start and the end of the run.
-fn value(numbers: [usize; 3], records: &[[usize; 4]]) -> Reply {
-    answers_built_forms::value_checked(built_values::is_value(records, numbers[0], numbers[1]))
-}
-
-// The numbers are the edition, and the start and the end of the run.
-fn valuein(numbers: [usize; 3], records: &[[usize; 4]]) -> Reply {
-    let check = built_values::is_value_in(records, numbers[0], numbers[1], numbers[2]);
-    answers_built_forms::value_checked(check)
-}
-
-fn breaking(call: BuiltCall, numbers: [usize; 3], doc: &[u8]) -> Reply {
-    match call {
-        BuiltCall::BrokenIn => broken_in(numbers, doc),
-        _ => broken(doc),
-    }
-}
-
-fn broken(doc: &[u8]) -> Reply {
-    answers_built_forms::broken(built_broken::first_broken(doc))
-}
-
-// The number is that of an edition.
-fn broken_in(numbers: [usize; 3], doc: &[u8]) -> Reply {
-    answers_built_forms::broken(built_broken::first_broken_in(doc, numbers[0]))
-}
-
-// Every total is `each` at first.
+// Every total is `each` at first. The totals afterwards are laid out over the errors, for the printing.
 fn tally(each: usize, doc: &[u8], errors: &mut [[usize; 3]]) -> Reply {
     let done = built_figures::tally(doc, [each as u64; 33]);
     let answer = done.answer;
     let totals = done.totals;
-    lay_out(&totals, errors);
+    for (place, total) in errors.as_flattened_mut().iter_mut().zip(totals) {
+        *place = total as usize;
+    }
     answers_built_forms::tallied(answer)
-}
-
-// The totals into the first eleven records, three in each.
-fn lay_out(totals: &[u64], records: &mut [[usize; 3]]) {
-    let mut i = 0;
-    while i < 11 {
-        lay_three(totals, records, i);
-        i += 1;
-    }
-}
-
-fn lay_three(totals: &[u64], records: &mut [[usize; 3]], i: usize) {
-    if 11 <= i {
-        return;
-    }
-    if records.len() <= i {
-        return;
-    }
-    let k = 3 * i;
-    if totals.len() <= k + 2 {
-        return;
-    }
-    records[i] = [whole(totals[k]), whole(totals[k + 1]), whole(totals[k + 2])];
-}
-
-fn whole(number: u64) -> usize {
-    number as usize
 }

@@ -7,9 +7,6 @@ use Rattle.answers_built_forms.proofs as promised
 pub wrote : OneAnswer promised.wrote.Reads.Learnt
 wrote κs a x y s t p q = p ∙ sym q
 
-pub wrote_count : OneAnswer promised.wrote_count.Reads.Learnt
-wrote_count κs a x y s t p q = p ∙ sym q
-
 pub mended : OneAnswer promised.mended.Reads.Learnt
 mended κs a x y s t p q = p ∙ sym q
 
@@ -19,14 +16,11 @@ mended_count κs a x y s t p q = p ∙ sym q
 pub marked : OneAnswer promised.marked.Reads.Learnt
 marked κs a x y s t p q = p ∙ sym q
 
-pub tick_read : OneAnswer promised.tick_read.Reads.Learnt
-tick_read κs a x y s t p q = p ∙ sym q
+pub flag : OneAnswer promised.flag.Reads.Learnt
+flag κs a x y s t p q = p ∙ sym q
 
 pub tick_count : OneAnswer promised.tick_count.Reads.Learnt
 tick_count κs a x y s t p q = p ∙ sym q
-
-pub value_checked : OneAnswer promised.value_checked.Reads.Learnt
-value_checked κs a x y s t p q = p ∙ sym q
 
 pub broken : OneAnswer promised.broken.Reads.Learnt
 broken κs a x y s t p q = p ∙ sym q

@@ -1,17 +1,16 @@
-// The calls of the reader that a line can ask for, a function each: it makes the call, and hands its
-// answer to answers_forms. The call's own promise says what the answer is, and answers_forms promises
-// what is written of it.
+// The calls of the reader that a line can ask for: each is made, and its answer handed to answers_forms.
+// The call's own promise says what the answer is, and answers_forms promises what is written of it.
 #![tactic(auto)]
 
 use answers_asking::ReaderCall;
-use answers_lent::{copy, least};
+use answers_lent::copy;
 use answers_spelling::Reply;
 use lexer::Cursor;
-use lexer_place::Position;
 use lexer_token::{Span, TokenKind};
+use std::cmp::min;
+use text_refusals::Refusal;
 
-// The reply to a call, for which `bytes`, `errors` and `tokens` are there to be lent. Calls are told apart
-// by what they are lent first, so that no function has more memory at hand than its calls need.
+// The reply to a call, for which `bytes`, `errors` and `tokens` are there to be lent.
 pub fn reader_reply(
     call: ReaderCall,
     numbers: [usize; 3],
@@ -20,105 +19,42 @@ pub fn reader_reply(
     errors: &mut [[usize; 3]],
     tokens: &mut [[usize; 4]],
 ) -> Reply {
+    let [a, b, c] = numbers;
     match call {
-        ReaderCall::Lex | ReaderCall::LexLine | ReaderCall::LexCap => {
-            lexing(call, numbers, doc, tokens)
+        ReaderCall::Lex => answers_forms::tokens(lexer::lex(doc, tokens)),
+        ReaderCall::LexLine => answers_forms::token_lines(lexer::lex(doc, tokens)),
+        // the number is how many records are lent
+        ReaderCall::LexCap => {
+            let lent = min(a, tokens.len());
+            answers_forms::counted(lexer::lex(doc, &mut tokens[..lent]))
         }
-        ReaderCall::Dec | ReaderCall::DecCap | ReaderCall::DecIn => {
-            decoding(call, numbers, doc, bytes, errors)
+        ReaderCall::Dec => answers_forms::decoded(decoder::decode(doc, a, bytes, errors)),
+        // the edition and the kind
+        ReaderCall::DecIn => answers_forms::decoded(decoder::decode_in(doc, a, b, bytes, errors)),
+        // the kind, and how many bytes of output and how many records are lent
+        ReaderCall::DecCap => {
+            let output = min(b, bytes.len());
+            let lent = min(c, errors.len());
+            answers_forms::decoded_count(decoder::decode(
+                doc,
+                a,
+                &mut bytes[..output],
+                &mut errors[..lent],
+            ))
         }
-        ReaderCall::Text => text_of_span(numbers, doc, bytes),
-        ReaderCall::Desc => desc(numbers, bytes),
-        _ => lent_nothing(call, numbers, doc),
+        ReaderCall::Utf8 => answers_forms::checked(text::check_utf8(doc)),
+        ReaderCall::Fault => answers_forms::faulted(text::check_utf8(doc)),
+        ReaderCall::Start => answers_forms::started(Cursor::start(doc)),
+        ReaderCall::Step => answers_forms::stepped(cursor_of(a, b, line_at(doc, a)).step(doc)),
+        ReaderCall::StepLine => answers_forms::stepped_line(cursor_of(a, b, c).step(doc)),
+        ReaderCall::Span => answers_forms::checked(lexer_place::check_span(doc, Span::new(a, b))),
+        ReaderCall::Text => {
+            let part = lexer_place::text_of(doc, Span::new(a, b));
+            answers_forms::hex(copy(part, bytes))
+        }
+        ReaderCall::Pos => answers_forms::positioned(lexer_place::position_of(doc, a)),
+        ReaderCall::Desc => desc(a, bytes),
     }
-}
-
-fn lexing(call: ReaderCall, numbers: [usize; 3], doc: &[u8], tokens: &mut [[usize; 4]]) -> Reply {
-    match call {
-        ReaderCall::LexLine => lexline(doc, tokens),
-        ReaderCall::LexCap => lexcap(numbers, doc, tokens),
-        _ => lex(doc, tokens),
-    }
-}
-
-fn decoding(
-    call: ReaderCall,
-    numbers: [usize; 3],
-    doc: &[u8],
-    bytes: &mut [u8],
-    errors: &mut [[usize; 3]],
-) -> Reply {
-    match call {
-        ReaderCall::DecCap => deccap(numbers, doc, bytes, errors),
-        ReaderCall::DecIn => decin(numbers, doc, bytes, errors),
-        _ => dec(numbers, doc, bytes, errors),
-    }
-}
-
-fn lent_nothing(call: ReaderCall, numbers: [usize; 3], doc: &[u8]) -> Reply {
-    match call {
-        ReaderCall::Utf8 => utf8(doc),
-        ReaderCall::Fault => fault(doc),
-        ReaderCall::Start => start(doc),
-        ReaderCall::Step => step(numbers, doc),
-        ReaderCall::StepLine => stepline(numbers, doc),
-        ReaderCall::Span => span(numbers, doc),
-        _ => pos(numbers, doc),
-    }
-}
-
-fn lex(doc: &[u8], tokens: &mut [[usize; 4]]) -> Reply {
-    answers_forms::tokens(lexer::lex(doc, tokens))
-}
-
-fn lexline(doc: &[u8], tokens: &mut [[usize; 4]]) -> Reply {
-    answers_forms::token_lines(lexer::lex(doc, tokens))
-}
-
-fn lexcap(numbers: [usize; 3], doc: &[u8], tokens: &mut [[usize; 4]]) -> Reply {
-    let lent = least(numbers[0], tokens.len());
-    answers_forms::token_count(lexer::lex(doc, &mut tokens[..lent]))
-}
-
-fn dec(numbers: [usize; 3], doc: &[u8], bytes: &mut [u8], errors: &mut [[usize; 3]]) -> Reply {
-    answers_forms::decoded(decoder::decode(doc, numbers[0], bytes, errors))
-}
-
-// The numbers are the edition and the kind.
-fn decin(numbers: [usize; 3], doc: &[u8], bytes: &mut [u8], errors: &mut [[usize; 3]]) -> Reply {
-    let decoded = decoder::decode_in(doc, numbers[0], numbers[1], bytes, errors);
-    answers_forms::decoded(decoded)
-}
-
-// The numbers are the kind, and how many bytes of output and how many records are lent.
-fn deccap(numbers: [usize; 3], doc: &[u8], bytes: &mut [u8], errors: &mut [[usize; 3]]) -> Reply {
-    let output = least(numbers[1], bytes.len());
-    let lent = least(numbers[2], errors.len());
-    let decoded = decoder::decode(doc, numbers[0], &mut bytes[..output], &mut errors[..lent]);
-    answers_forms::decoded_count(decoded)
-}
-
-fn utf8(doc: &[u8]) -> Reply {
-    answers_forms::checked(text::check_utf8(doc))
-}
-
-fn fault(doc: &[u8]) -> Reply {
-    answers_forms::faulted(text::check_utf8(doc))
-}
-
-fn start(doc: &[u8]) -> Reply {
-    answers_forms::started(Cursor::start(doc))
-}
-
-fn step(numbers: [usize; 3], doc: &[u8]) -> Reply {
-    let place = numbers[0];
-    let cursor = cursor_of(place, numbers[1], line_at(doc, place));
-    answers_forms::stepped(cursor.step(doc))
-}
-
-fn stepline(numbers: [usize; 3], doc: &[u8]) -> Reply {
-    let cursor = cursor_of(numbers[0], numbers[1], numbers[2]);
-    answers_forms::stepped_line(cursor.step(doc))
 }
 
 fn cursor_of(place: usize, ended: usize, line: usize) -> Cursor {
@@ -131,40 +67,19 @@ fn cursor_of(place: usize, ended: usize, line: usize) -> Cursor {
 
 // The line of `place`; 1 where the place is refused.
 fn line_at(doc: &[u8], place: usize) -> usize {
-    match lexer_place::position_of(doc, place) {
-        Position::At { line, column: _ } => line,
-        Position::Refused(_) => 1,
-    }
+    lexer_place::position_of(doc, place).map_or(1, |position| position.line)
 }
 
-fn span(numbers: [usize; 3], doc: &[u8]) -> Reply {
-    answers_forms::span_checked(lexer_place::check_span(doc, span_of(numbers)))
+// The description, in 25 bytes with zeros behind it, and the encoding.
+fn desc(kind: usize, bytes: &mut [u8]) -> Reply {
+    let mut padded = [0u8; 25];
+    let described = lengths(kind, &mut padded);
+    answers_forms::described(described, copy(&padded, bytes))
 }
 
-fn span_of(numbers: [usize; 3]) -> Span {
-    Span::new(numbers[0], numbers[1])
-}
-
-fn text_of_span(numbers: [usize; 3], doc: &[u8], bytes: &mut [u8]) -> Reply {
-    let part = lexer_place::text_of(doc, span_of(numbers));
-    answers_forms::hex(copy(part, bytes))
-}
-
-fn pos(numbers: [usize; 3], doc: &[u8]) -> Reply {
-    answers_forms::positioned(lexer_place::position_of(doc, numbers[0]))
-}
-
-// The description, all 25 bytes of it, and the encoding.
-fn desc(numbers: [usize; 3], bytes: &mut [u8]) -> Reply {
-    let kind = numbers[0];
-    let description = TokenKind::description(kind);
-    let text = description.bytes;
-    let count = copy(&text, bytes);
-    let answer = description.answer;
-    answers_forms::described(
-        answer,
-        description.len,
-        count,
-        TokenKind::encoding(kind).number,
-    )
+// The length of the description, which is written over the front of `padded`, and the encoding.
+fn lengths(kind: usize, padded: &mut [u8]) -> Result<(usize, usize), Refusal> {
+    let text = TokenKind::description(kind)?;
+    copy(text, padded);
+    Ok((text.len(), TokenKind::encoding(kind)?))
 }

@@ -7,12 +7,6 @@ use Rattle.answers_forms.proofs as promised
 pub filled : OneAnswer promised.filled.Reads.Learnt
 filled κs a x y s t p q = p ∙ sym q
 
-pub answered : OneAnswer promised.answered.Reads.Learnt
-answered κs a x y s t p q = p ∙ sym q
-
-pub three : OneAnswer promised.three.Reads.Learnt
-three κs a x y s t p q = p ∙ sym q
-
 pub refused : OneAnswer promised.refused.Reads.Learnt
 refused κs a x y s t p q = p ∙ sym q
 
@@ -25,8 +19,8 @@ tokens κs a x y s t p q = p ∙ sym q
 pub token_lines : OneAnswer promised.token_lines.Reads.Learnt
 token_lines κs a x y s t p q = p ∙ sym q
 
-pub token_count : OneAnswer promised.token_count.Reads.Learnt
-token_count κs a x y s t p q = p ∙ sym q
+pub counted : OneAnswer promised.counted.Reads.Learnt
+counted κs a x y s t p q = p ∙ sym q
 
 pub decoded : OneAnswer promised.decoded.Reads.Learnt
 decoded κs a x y s t p q = p ∙ sym q
@@ -39,9 +33,6 @@ checked κs a x y s t p q = p ∙ sym q
 
 pub faulted : OneAnswer promised.faulted.Reads.Learnt
 faulted κs a x y s t p q = p ∙ sym q
-
-pub span_checked : OneAnswer promised.span_checked.Reads.Learnt
-span_checked κs a x y s t p q = p ∙ sym q
 
 pub started : OneAnswer promised.started.Reads.Learnt
 started κs a x y s t p q = p ∙ sym q

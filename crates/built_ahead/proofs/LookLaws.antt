@@ -1,14 +1,16 @@
 -- What the looks ahead find of the token in progress: where the scans of whole lexing end it, or the mode to which the bytes lead.
 -- Assumes nothing.
-use Prim.Native.Nat.{ℕ, zero, suc, ◌+◌, ◌-◌, ◌≤◌, ◌<◌}
+use Prim.Native.Nat.{ℕ, zero, suc, ◌+◌, ◌-◌, ◌%◌, ◌≤◌, ◌<◌}
 use mathlib.Core.Path.{◌≡◌, refl, sym, ap, ◌∙◌, subst}
 use mathlib.Core.Bool.{Bool, true, false, not, cond, ◌&&◌}
-use mathlib.Core.List.{List, [], ◌∷◌, ◌++◌}
+use mathlib.Core.List.{List, [], ◌∷◌, ◌++◌, reverse, reverse_aux-eq}
 use native.Mathlib.Omega.{arith}
 use lib.ListN.{length, get_or, take, drop, length-drop}
 use lib.Seq.{take_all, take-suc, split_at, get_or-drop, drop-drop, drop-cons, length-take-le}
-use lib.Dec.{ltb, eqb}
-use borrow.Author.Tests.{eq-eqb, ne_eqb, eqb-true, eqb-false}
+use lib.Dec.{eqb}
+use Rattle.std.specs.List.{prefix_len, suffix_len}
+use Rattle.std.proofs.lemmas.List.{reverse-reverse}
+use borrow.Author.Tests.{eq-eqb, eqb-true, eqb-false}
 use Rattle.text_classes.specs.Classes.{wschar, token_start}
 use Rattle.text_classes.specs.Runs.{run, stands}
 use Rattle.text_classes.proofs.Conds.{by_lt, not_both, both_right}
@@ -27,7 +29,7 @@ use Rattle.built_bytes.specs.Turns.{mark_of, line_kind, ml_kind, turn_of}
 use Rattle.built_bytes.specs.Rests.{Busy, twice, rest_len, rest_kind, Runs, stay, on}
 use Rattle.built_ahead.specs.declared.Ahead.{Ahead}
 use Rattle.built_ahead.specs.declared.Ahead.TheVariants.{Whole, Open}
-use Rattle.built_ahead.specs.Ahead.{feeds_to, EndsAt, LeadsTo, Looked, run_to, hidden_by, hidden_to, MarksEnd, Moves, LineLooked}
+use Rattle.built_ahead.specs.Ahead.{feeds_to, LeadsTo, Looked, run_to, hidden_by, hidden_to, MarksEnd, LineLooked}
 use Rattle.built_ahead.proofs.RunsLaws.{blanks_run, remark_runs, word_runs, hidden_none, hidden_more, hidden_never, line_runs, ml_runs}
 
 -- ---- what holds no LF
@@ -73,64 +75,39 @@ taken_front s i e h l =
     ap (λ (k : ℕ). take k (drop i s)) n ∙ ap (take (suc (e - (i + 1)))) (drop-cons s i 0 h)
     ∙ ap (λ (k : ℕ). get_or s i 0 ∷ take (e - (i + 1)) (drop k s)) next
 
--- the last of them
-taken_last : (s : List ℕ) (i r : ℕ) → i < r → r ≤ length s
-    → take (r - i) (drop i s) ≡ take (r - 1 - i) (drop i s) ++ (get_or s (r - 1) 0 ∷ [])
-taken_last s i r h l =
-    let n = r - 1 - i in
-    let size : r - i ≡ suc n = omega arith in
-    let at : i + n ≡ r - 1 = omega arith in
-    ap (λ (k : ℕ). take k (drop i s)) size ∙ take-suc (drop i s) n 0 (omega (arith, length-drop i s))
-    ∙ ap (λ (b : ℕ). take n (drop i s) ++ (b ∷ [])) (get_or-drop i s n 0 ∙ ap (λ (k : ℕ). get_or s k 0) at)
-
--- whether they hide the next one
-pub hidden_last : (q : ℕ) (s : List ℕ) (i r : ℕ) → i < r → r ≤ length s
-    → hidden_to q s i r ≡ hides q (hidden_to q s i (r - 1)) (get_or s (r - 1) 0)
-hidden_last q s i r h l =
-    ap (hidden_by q false) (taken_last s i r h l) ∙ hidden_more q false (take (r - 1 - i) (drop i s)) (get_or s (r - 1) 0)
-
-pub hidden_first : (q : ℕ) (s : List ℕ) (i r : ℕ) → r ≤ i → hidden_to q s i r ≡ false
-hidden_first q s i r h =
-    let z : r - i ≡ 0 = omega arith in
-    ap (λ (k : ℕ). hidden_by q false (take k (drop i s))) z ∙ hidden_none q false
-
 -- no byte hides the next one in a literal string
-pub hidden_literal : (s : List ℕ) (i e : ℕ) → hidden_to 39 s i e ≡ false
-hidden_literal s i e = hidden_never (take (e - i) (drop i s)) false refl
+pub hidden_literal : (s : List ℕ) → false ≡ hidden_by 39 false s
+hidden_literal s = sym (hidden_never s false refl)
 
 -- ---- backslashes at the end of the bytes of a basic string
 
--- from the place k up to the place e only backslashes stand, an odd number of them or not
-abbrev pub OddFrom : List ℕ → ℕ → ℕ → ℕ → Bool → Type 0
-OddFrom s i e k odd = hidden_to 34 s i e ≡ cond odd (not (hidden_to 34 s i k)) (hidden_to 34 s i k)
-
-pub odd_all : (s : List ℕ) (i e k : ℕ) (odd : Bool) → OddFrom s i e k odd → hidden_to 34 s i k ≡ false → odd ≡ hidden_to 34 s i e
-odd_all s i e k odd h z = sym (h ∙ ap (λ (x : Bool). cond odd (not x) x) z ∙ go odd)
+-- another backslash makes an odd number of them even, or an even one odd
+odd_more : (n : ℕ) → eqb (suc n % 2) 1 ≡ (not (eqb (n % 2) 1) && true)
+odd_more n = go (n % 2) (suc n % 2) (omega arith) (omega arith)
   where
-    go : (x : Bool) → cond x true false ≡ x
-    go true = refl
-    go false = refl
+    go : (a b : ℕ) → a < 2 → b ≡ 1 - a → eqb b 1 ≡ (not (eqb a 1) && true)
+    go zero b h e = rw e
+    go (suc zero) b h e = rw e
+    go (suc (suc a)) b h e = absurd (omega arith)
 
--- another byte hides nothing
-pub odd_other : (s : List ℕ) (i k : ℕ) → i < k → k ≤ length s → (get_or s (k - 1) 0 ≡ 92 → ⊥) → hidden_to 34 s i k ≡ false
-odd_other s i k h l n = hidden_last 34 s i k h l ∙ rw (ne_eqb (get_or s (k - 1) 0) 92 n) (go (hidden_to 34 s i (k - 1)))
+odd_by : (b : ℕ) (h : Bool) (n : ℕ) (x : Bool) → eqb b 92 ≡ x → h ≡ eqb (n % 2) 1 → hides 34 h b ≡ eqb (cond x (1 + n) 0 % 2) 1
+odd_by b h n true e w =
+    let one : 1 + n ≡ suc n = omega arith in
+    rw (e, w) (sym (odd_more n) ∙ ap (λ (k : ℕ). eqb (k % 2) 1) (sym one))
+odd_by b h n false e w = rw e (go h)
   where
     go : (x : Bool) → (not x && false) ≡ false
     go true = refl
     go false = refl
 
--- one backslash more
-pub odd_more : (s : List ℕ) (i e k : ℕ) (odd : Bool) → i < k → k ≤ length s → get_or s (k - 1) 0 ≡ 92 → OddFrom s i e k odd
-    → OddFrom s i e (k - 1) (not odd)
-odd_more s i e k odd h l b w =
-    let z : hidden_to 34 s i k ≡ (not (hidden_to 34 s i (k - 1)) && true) = hidden_last 34 s i k h l ∙ rw (eq-eqb (get_or s (k - 1) 0) 92 b) in
-    w ∙ ap (λ (x : Bool). cond odd (not x) x) z ∙ go odd (hidden_to 34 s i (k - 1))
-  where
-    go : (x y : Bool) → cond x (not (not y && true)) (not y && true) ≡ cond (not x) (not y) y
-    go true true = refl
-    go true false = refl
-    go false true = refl
-    go false false = refl
+hidden_back : (s : List ℕ) → hidden_by 34 false (reverse s) ≡ eqb (prefix_len (λ b. eqb b 92) s % 2) 1
+hidden_back [] = hidden_none 34 false
+hidden_back (b ∷ s) =
+    ap (hidden_by 34 false) (reverse_aux-eq s (b ∷ [])) ∙ hidden_more 34 false (reverse s) b
+    ∙ odd_by b (hidden_by 34 false (reverse s)) (prefix_len (λ c. eqb c 92) s) (eqb b 92) refl (hidden_back s)
+
+pub hidden_basic : (n : ℕ) (s : List ℕ) → n ≡ suffix_len (λ b. eqb b 92) s → eqb (n % 2) 1 ≡ hidden_by 34 false s
+hidden_basic n s e = rw e (sym (hidden_back (reverse s)) ∙ ap (hidden_by 34 false) (reverse-reverse s))
 
 -- ---- what is found from a place on
 
@@ -211,10 +188,11 @@ module _ (s : List ℕ) (i : ℕ) (inside : i ≤ length s) where
           subst (λ (x : List ℕ). Runs (back false) x (back (hidden_by q false x))) (sym (take-suc rest n 0 h))
           (law (take n rest) (get_or rest n 0) (drop (suc n) rest) other reach)
 
-  pub line_leads : (q : Quote) (e r : ℕ) (h : Bool) → e ≡ i + line_tail (mark_of q) false (drop i s) → length s ≤ e → MarksEnd (mark_of q) s i r
-      → h ≡ hidden_to (mark_of q) s i r → LineLooked q s i (Open (Line q h) r 0)
-  line_leads q e r h is over w x =
+  pub line_leads : (q : Quote) (e m r : ℕ) (h : Bool) → e ≡ i + line_tail (mark_of q) false (drop i s) → length s ≤ e → m ≡ mark_of q
+      → MarksEnd m s i r → h ≡ hidden_to (mark_of q) s i r → LineLooked q s i (Open (Line q h) r 0)
+  line_leads q e m r h is over mark v x =
       let size = length-drop i s in
+      let w : MarksEnd (mark_of q) s i r = subst (λ (k : ℕ). MarksEnd k s i r) mark v in
       let runs = tail_runs (mark_of q) (Line q) (line_runs q) r (omega arith) w in (
         record {
           forward = w.forward;
@@ -225,10 +203,11 @@ module _ (s : List ℕ) (i : ℕ) (inside : i ≤ length s) where
         w.some,
       )
 
-  pub ml_leads : (q : Quote) (e r n : ℕ) (h : Bool) → e ≡ i + ml_tail (mark_of q) false (drop i s) → length s ≤ e → MarksEnd (mark_of q) s i r
-      → h ≡ hidden_to (mark_of q) s i r → n ≡ feeds_to s i r → Looked (Ml q false) s i (Open (Ml q h) r n)
-  ml_leads q e r n h is over w x f =
+  pub ml_leads : (q : Quote) (e m r n : ℕ) (h : Bool) → e ≡ i + ml_tail (mark_of q) false (drop i s) → length s ≤ e → m ≡ mark_of q
+      → MarksEnd m s i r → h ≡ hidden_to (mark_of q) s i r → n ≡ feeds_to s i r → Looked (Ml q false) s i (Open (Ml q h) r n)
+  ml_leads q e m r n h is over mark v x f =
       let size = length-drop i s in
+      let w : MarksEnd (mark_of q) s i r = subst (λ (k : ℕ). MarksEnd k s i r) mark v in
       let runs = tail_runs (mark_of q) (Ml q) (ml_runs q) r (omega arith) w in
       record { forward = w.forward; within = λ _. w.within; runs = rw x runs; lines = f }
 

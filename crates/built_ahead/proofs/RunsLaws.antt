@@ -1,9 +1,9 @@
 -- Bytes that belong to the token in progress: those of a run leave its mode as it is, and those of a string lead to one that is known by
 -- whether they hide the next byte.
 -- Assumes nothing.
-use Prim.Native.Nat.{ℕ, zero, suc, ◌+◌, ◌≤◌}
+use Prim.Native.Nat.{ℕ, suc, ◌≤◌}
 use mathlib.Core.Path.{◌≡◌, refl, sym, ap, ◌∙◌, subst}
-use mathlib.Core.Bool.{Bool, true, false, not, cond, ◌&&◌}
+use mathlib.Core.Bool.{Bool, true, false, not, cond}
 use mathlib.Core.List.{List, [], ◌∷◌, ◌++◌}
 use native.Mathlib.Omega.{arith}
 use lib.ListN.{length}
@@ -12,7 +12,7 @@ use Rattle.text_classes.specs.Classes.{wschar}
 use Rattle.text_classes.specs.Runs.{run}
 use borrow.Author.Tests.{eqb-true}
 use Rattle.text_classes.proofs.Conds.{cond_case, both_right}
-use Rattle.lexer_scans.specs.Extents.{in_comment, in_atom, hides, closes, up_to_two}
+use Rattle.lexer_scans.specs.Extents.{in_comment, in_atom, hides, closes}
 use Rattle.lexer_token.specs.declared.TokenKind.{TokenKind}
 use Rattle.built_bytes.specs.declared.Quote.{Quote}
 use Rattle.built_bytes.specs.declared.Quote.TheVariants.{Apostrophe, Quotation}
@@ -20,7 +20,7 @@ use Rattle.built_bytes.specs.declared.Mode.{Mode}
 use Rattle.built_bytes.specs.declared.Mode.TheVariants.{Blanks, Remark, Word, Line, Ml, MlOne, MlTwo, Shut, ShutOne}
 use Rattle.built_bytes.specs.declared.Turn.{Turn}
 use Rattle.built_bytes.specs.declared.Turn.TheVariants.{More, Ends, Apart}
-use Rattle.built_bytes.specs.Turns.{mark_of, line_kind, ml_kind, turn_of}
+use Rattle.built_bytes.specs.Turns.{mark_of, line_kind, turn_of}
 use Rattle.built_bytes.specs.Rests.{Busy, rest_len, Runs, stay, on}
 use Rattle.built_bytes.proofs.RestLaws.{line_over, shut_over, Goes, more, ends, apart, goes}
 use Rattle.built_ahead.specs.Ahead.{hidden_by}

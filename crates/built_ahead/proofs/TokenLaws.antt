@@ -1,6 +1,6 @@
 -- The token that begins at a place, by the byte there.
 -- Assumes nothing.
-use Prim.Native.Nat.{ℕ, ◌+◌, ◌<◌}
+use Prim.Native.Nat.{ℕ, ◌+◌, ◌≤◌, ◌<◌}
 use mathlib.Core.Path.{◌≡◌, ap, ◌∙◌}
 use mathlib.Core.Bool.{false}
 use mathlib.Core.List.{List, [], ◌∷◌}
@@ -14,12 +14,15 @@ use Rattle.lexer_token.specs.declared.TokenKind.TheVariants.{Newline}
 use Rattle.lexer.specs.Table.{kind_by}
 use Rattle.lexer.proofs.KindLaws.{NoneOf, atom_by}
 use Rattle.built_bytes.specs.declared.Mode.{Mode}
-use Rattle.built_bytes.specs.declared.Mode.TheVariants.{Word}
+use Rattle.built_bytes.specs.declared.Mode.TheVariants.{Idle, Word}
 use Rattle.built_bytes.specs.declared.Turn.TheVariants.{Opens, Single}
 use Rattle.built_bytes.specs.Turns.{opening}
 use Rattle.built_ahead.specs.declared.Ahead.{Ahead}
-use Rattle.built_ahead.specs.declared.Ahead.TheVariants.{Whole}
-use Rattle.built_ahead.specs.Ahead.{Looked, TokenAt, alone, longer}
+use Rattle.built_ahead.specs.declared.Ahead.TheVariants.{Whole, Open}
+use Rattle.built_ahead.specs.Ahead.{Looked, TokenAt, past, alone, longer}
+
+pub at_the_end : (s : List ℕ) (i : ℕ) → length s ≤ i → TokenAt s i (Open Idle i 0)
+at_the_end s i h = past h
 
 module _ (s : List ℕ) (i : ℕ) (inside : i < length s) where
   pub single_byte : (k : TokenKind) (b : ℕ) → get_or s i 0 ≡ b → opening b ≡ Single k → eqb b 10 ≡ false → TokenAt s i (Whole k (i + 1) 0)

@@ -1,7 +1,7 @@
 -- What the looks ahead promise: of the token in progress at a place of a part, and of the one that begins there. None of it is a
 -- rule: the promises of the calls do not cite it.
 -- Assumes nothing.
-use Rattle.std.specs.Prelude.{ℕ, ◌+◌, ◌-◌, ◌≤◌, ◌<◌, ◌≡◌, Bool, true, false, cond, List, [], ◌∷◌, length, get_or, take, drop, eqb, ltb}
+use Rattle.std.specs.Prelude.{ℕ, ◌+◌, ◌-◌, ◌≤◌, ◌<◌, ◌≡◌, Bool, false, cond, List, [], ◌∷◌, length, get_or, take, drop, eqb, ltb}
 use Rattle.lexer_scans.specs.Extents.{hides}
 use Rattle.lexer_token.specs.declared.TokenKind.{TokenKind}
 use Rattle.lexer.specs.Lines.{line_feeds, line_behind}

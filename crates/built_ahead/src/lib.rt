@@ -3,13 +3,14 @@
 // lines of the document: crate `built_lexing` does. What this promises: specs/Ahead.antt.
 #![tactic(auto)]
 
-ghost use Rattle.std.specs.Prelude.{◌≡◌, false, ◌+◌, ◌-◌, ◌≤◌, ◌<◌, length, drop};
+ghost use Rattle.std.specs.Prelude.{◌≡◌, ◌==◌, false, ◌+◌, ◌-◌, ◌≤◌, ◌<◌, length, drop};
+ghost use Rattle.std.specs.List.{suffix_len};
 ghost use Rattle.lexer_scans.specs.Extents.{line_tail, ml_tail};
 ghost use Rattle.lexer_token.specs.declared.TokenKind.TheVariants.{Newline};
 ghost use Rattle.built_bytes.specs.Turns.{mark_of};
-ghost use Rattle.built_bytes.specs.declared.Mode.TheVariants.{Return, One, Ml};
+ghost use Rattle.built_bytes.specs.declared.Mode.TheVariants.{Blanks, Remark, Word, Return, One, Ml};
 ghost use Rattle.built_ahead.specs.declared.Ahead.TheVariants.{Whole, Open};
-ghost use Rattle.built_ahead.specs.Ahead.{feeds_to, hidden_to, run_to, Looked, LineLooked, TokenAt, MarksEnd};
+ghost use Rattle.built_ahead.specs.Ahead.{feeds_to, hidden_by, run_to, Looked, LineLooked, TokenAt, MarksEnd};
 
 use built_bytes::{Mode, Quote};
 use lexer_token::TokenKind;
@@ -17,7 +18,8 @@ use text_classes::{APOSTROPHE, COMMENT_START_SYMBOL, ESCAPE, QUOTATION_MARK, is_
 
 // What stands ahead: the token ends at the place `end`, and no further part could change it; or it goes on, or may go on, and is in
 // the mode `mode` at the place `end`. With the LFs on the way.
-#[derive(Clone, Copy)]
+// No Result: neither is a failure of the other, and each has its three fields.
+#[derive(Clone, Copy, Debug, PartialEq, Eq)]
 pub enum Ahead {
     Whole {
         kind: TokenKind,
@@ -31,143 +33,131 @@ pub enum Ahead {
     },
 }
 
+impl Ahead {
+    // A token that ends, without an LF on the way.
+    fn whole(kind: TokenKind, end: usize) -> Ahead
+        ensures { result ≡ Whole kind end 0 }
+    {
+        Ahead::Whole {
+            kind,
+            end,
+            feeds: 0,
+        }
+    }
+
+    // A newline that ends with its LF.
+    fn newline(end: usize) -> Ahead
+        ensures { result ≡ Whole Newline end 1 }
+    {
+        Ahead::Whole {
+            kind: TokenKind::Newline,
+            end,
+            feeds: 1,
+        }
+    }
+
+    // A token that goes on, without an LF on the way; where `end` is the place of the look ahead itself, the next byte has to tell.
+    fn open(mode: Mode, end: usize) -> Ahead
+        ensures { result ≡ Open mode end 0 }
+    {
+        Ahead::Open {
+            mode,
+            end,
+            feeds: 0,
+        }
+    }
+
+    // A run that ends at a place, or goes on to the end of the part.
+    fn run(kind: TokenKind, mode: Mode, end: usize, len: usize) -> Ahead
+        ensures { result ≡ run_to kind mode end len }
+    {
+        if end < len {
+            return Ahead::whole(kind, end);
+        }
+        Ahead::open(mode, len)
+    }
+}
+
 // What stands ahead of place i of what is in progress there.
+// Part and place stay parameters here, as document and place do in crate `lexer`, which says why.
+#[tactic(auto, using(crate::proofs::LookLaws::stays_put))]
 pub fn look(mode: Mode, part: &[u8], i: usize) -> Ahead
     ensures { Looked mode part.now i result }
 {
     if part.len() < i {
-        return open_at(mode, i);
+        return Ahead::open(mode, i);
     }
     match mode {
-        Mode::Blanks => run_to(
-            TokenKind::Whitespace,
-            Mode::Blanks,
-            lexer_scans::wschar_run(part, i),
-            part.len(),
-        ),
-        Mode::Remark => run_to(
-            TokenKind::Comment,
-            Mode::Remark,
-            lexer_scans::comment_run(part, i),
-            part.len(),
-        ),
-        Mode::Word => run_to(
-            TokenKind::Atom,
-            Mode::Word,
-            lexer_scans::atom_run(part, i),
-            part.len(),
-        ),
+        Mode::Blanks => blanks_to(part, i),
+        Mode::Remark => remark_to(part, i),
+        Mode::Word => word_to(part, i),
         Mode::Return => return_to(part, i),
         Mode::One(q) => opened_to(part, i, q),
-        Mode::Line(q, hidden) => {
-            if hidden {
-                open_at(mode, i)
-            } else {
-                line_to(part, i, q)
-            }
-        }
-        Mode::Ml(q, hidden) => {
-            if hidden {
-                open_at(mode, i)
-            } else {
-                ml_to(part, i, q)
-            }
-        }
-        _ => open_at(mode, i),
+        Mode::Line(q, false) => line_to(part, i, q),
+        Mode::Ml(q, false) => ml_to(part, i, q),
+        _ => Ahead::open(mode, i),
     }
 }
 
 // The token that begins at place i, between two tokens, by the byte there. At the end of the part none begins.
+#[tactic(auto, using(crate::proofs::TokenLaws::at_the_end, crate::proofs::TokenLaws::single_byte, crate::proofs::TokenLaws::lf_byte, crate::proofs::TokenLaws::opens_byte, crate::proofs::TokenLaws::word_byte), unfolding(built_bytes::specs::Turns::opening, lexer::specs::Table::kind_by, text_classes::specs::Classes::wschar))]
 pub fn token_at(part: &[u8], i: usize) -> Ahead
     ensures { TokenAt part.now i result }
 {
     if part.len() <= i {
-        return open_at(Mode::Idle, i);
+        return Ahead::open(Mode::Idle, i);
     }
     let next = i + 1;
     match part[i] {
-        b'.' => whole_at(TokenKind::Dot, next),
-        b'=' => whole_at(TokenKind::Equals, next),
-        b',' => whole_at(TokenKind::Comma, next),
-        b'[' => whole_at(TokenKind::LeftSquareBracket, next),
-        b']' => whole_at(TokenKind::RightSquareBracket, next),
-        b'{' => whole_at(TokenKind::LeftCurlyBracket, next),
-        b'}' => whole_at(TokenKind::RightCurlyBracket, next),
-        b' ' => run_to(
-            TokenKind::Whitespace,
-            Mode::Blanks,
-            lexer_scans::wschar_run(part, next),
-            part.len(),
-        ),
-        b'\t' => run_to(
-            TokenKind::Whitespace,
-            Mode::Blanks,
-            lexer_scans::wschar_run(part, next),
-            part.len(),
-        ),
-        COMMENT_START_SYMBOL => run_to(
-            TokenKind::Comment,
-            Mode::Remark,
-            lexer_scans::comment_run(part, next),
-            part.len(),
-        ),
+        b'.' => Ahead::whole(TokenKind::Dot, next),
+        b'=' => Ahead::whole(TokenKind::Equals, next),
+        b',' => Ahead::whole(TokenKind::Comma, next),
+        b'[' => Ahead::whole(TokenKind::LeftSquareBracket, next),
+        b']' => Ahead::whole(TokenKind::RightSquareBracket, next),
+        b'{' => Ahead::whole(TokenKind::LeftCurlyBracket, next),
+        b'}' => Ahead::whole(TokenKind::RightCurlyBracket, next),
+        b' ' | b'\t' => blanks_to(part, next),
+        COMMENT_START_SYMBOL => remark_to(part, next),
         b'\r' => return_to(part, next),
-        b'\n' => newline(next),
+        b'\n' => Ahead::newline(next),
         APOSTROPHE => opened_to(part, next, Quote::Apostrophe),
         QUOTATION_MARK => opened_to(part, next, Quote::Quotation),
-        _ => run_to(
-            TokenKind::Atom,
-            Mode::Word,
-            lexer_scans::atom_run(part, next),
-            part.len(),
-        ),
+        _ => word_to(part, next),
     }
 }
 
-// A token that goes on, without an LF on the way; where `end` is the place of the look ahead itself, the next byte has to tell.
-fn open_at(mode: Mode, end: usize) -> Ahead
-    ensures { result ≡ Open mode end 0 }
+// Within whitespace.
+#[tactic(auto, using(crate::proofs::LookLaws::blanks_looked))]
+fn blanks_to(part: &[u8], i: usize) -> Ahead
+    requires { i ≤ length part.now }
+    ensures { Looked Blanks part.now i result }
 {
-    Ahead::Open {
-        mode,
-        end,
-        feeds: 0,
-    }
+    let end = lexer_scans::wschar_run(part, i);
+    Ahead::run(TokenKind::Whitespace, Mode::Blanks, end, part.len())
 }
 
-// A token that ends, without an LF on the way.
-fn whole_at(kind: TokenKind, end: usize) -> Ahead
-    ensures { result ≡ Whole kind end 0 }
+// Within a comment.
+#[tactic(auto, using(crate::proofs::LookLaws::remark_looked))]
+fn remark_to(part: &[u8], i: usize) -> Ahead
+    requires { i ≤ length part.now }
+    ensures { Looked Remark part.now i result }
 {
-    Ahead::Whole {
-        kind,
-        end,
-        feeds: 0,
-    }
+    let end = lexer_scans::comment_run(part, i);
+    Ahead::run(TokenKind::Comment, Mode::Remark, end, part.len())
 }
 
-// A newline that ends with its LF.
-fn newline(end: usize) -> Ahead
-    ensures { result ≡ Whole Newline end 1 }
+// Within an Atom.
+#[tactic(auto, using(crate::proofs::LookLaws::word_looked))]
+fn word_to(part: &[u8], i: usize) -> Ahead
+    requires { i ≤ length part.now }
+    ensures { Looked Word part.now i result }
 {
-    Ahead::Whole {
-        kind: TokenKind::Newline,
-        end,
-        feeds: 1,
-    }
-}
-
-// A run that ends at a place, or goes on to the end of the part.
-fn run_to(kind: TokenKind, mode: Mode, end: usize, len: usize) -> Ahead
-    ensures { result ≡ run_to kind mode end len }
-{
-    if end < len {
-        return whole_at(kind, end);
-    }
-    open_at(mode, len)
+    let end = lexer_scans::atom_run(part, i);
+    Ahead::run(TokenKind::Atom, Mode::Word, end, part.len())
 }
 
 // After a CR, which an LF may follow.
+#[tactic(auto, using(crate::proofs::LookLaws::stays_put, crate::proofs::LookLaws::return_lf, crate::proofs::LookLaws::return_alone))]
 fn return_to(part: &[u8], i: usize) -> Ahead
     requires { i ≤ length part.now }
     ensures { Looked Return part.now i result }
@@ -175,17 +165,18 @@ fn return_to(part: &[u8], i: usize) -> Ahead
     if is_at(part, i, b'\n') {
         let end = i + 1;
         if end < part.len() {
-            return newline(end);
+            return Ahead::newline(end);
         }
-        return open_at(Mode::Return, i);
+        return Ahead::open(Mode::Return, i);
     }
     if i < part.len() {
-        return whole_at(TokenKind::Newline, i);
+        return Ahead::whole(TokenKind::Newline, i);
     }
-    open_at(Mode::Return, i)
+    Ahead::open(Mode::Return, i)
 }
 
 // After the opening mark of a string: the next two bytes tell whether it is empty, on one line or on several.
+#[tactic(auto, using(crate::proofs::LookLaws::stays_put, crate::proofs::LookLaws::opened_empty, crate::proofs::LookLaws::opened_line, crate::proofs::LookLaws::opened_ml))]
 fn opened_to(part: &[u8], i: usize, q: Quote) -> Ahead
     requires { i ≤ length part.now }
     ensures { Looked (One q) part.now i result }
@@ -197,31 +188,33 @@ fn opened_to(part: &[u8], i: usize, q: Quote) -> Ahead
             return ml_to(part, i + 2, q);
         }
         if end < part.len() {
-            return whole_at(q.line_kind(), end);
+            return Ahead::whole(q.line_kind(), end);
         }
-        return open_at(Mode::One(q), i);
+        return Ahead::open(Mode::One(q), i);
     }
     if i < part.len() {
         return line_to(part, i, q);
     }
-    open_at(Mode::One(q), i)
+    Ahead::open(Mode::One(q), i)
 }
 
 // Within a string on one line.
+#[tactic(auto, using(crate::proofs::LookLaws::line_ends))]
 fn line_to(part: &[u8], i: usize, q: Quote) -> Ahead
     requires { i ≤ length part.now }
     ensures { LineLooked q part.now i result }
 {
     let tail = line_tail(part, i, q);
     if tail < part.len() {
-        return whole_at(q.line_kind(), tail);
+        return Ahead::whole(q.line_kind(), tail);
     }
     let end = marks_end(part, i, q.mark());
-    let hidden = is_hidden(part, i, end, q);
-    open_at(Mode::Line(q, hidden), end)
+    let hidden = is_hidden(&part[i..end], q);
+    Ahead::open(Mode::Line(q, hidden), end)
 }
 
 // Within a string on several lines.
+#[tactic(auto, using(crate::proofs::LookLaws::ml_ends))]
 fn ml_to(part: &[u8], i: usize, q: Quote) -> Ahead
     requires { i ≤ length part.now }
     ensures { Looked (Ml q false) part.now i result }
@@ -235,7 +228,7 @@ fn ml_to(part: &[u8], i: usize, q: Quote) -> Ahead
         };
     }
     let end = marks_end(part, i, q.mark());
-    let hidden = is_hidden(part, i, end, q);
+    let hidden = is_hidden(&part[i..end], q);
     Ahead::Open {
         mode: Mode::Ml(q, hidden),
         end,
@@ -277,41 +270,26 @@ fn marks_end(part: &[u8], i: usize, mark: u8) -> usize
     requires { i ≤ length part.now }
     ensures { MarksEnd mark part.now i result }
 {
-    let mut e = part.len();
-    while i < e {
-        if part[e - 1] != mark {
-            return e;
-        }
-        e -= 1;
+    match part[i..].iter().rposition(|b| *b != mark) {
+        Some(k) => i + k + 1,
+        None => i,
     }
-    i
 }
 
-// Whether the bytes of a string from i up to e hide the next one: in the basic kinds, whether they end in an odd number of
-// backslashes.
-fn is_hidden(part: &[u8], i: usize, e: usize, q: Quote) -> bool
-    requires { (i ≤ e) × (e ≤ length part.now) }
-    ensures { result ≡ hidden_to (mark_of q) part.now i e }
+// Whether the bytes of a string hide the next one: in the basic kinds, whether they end in an odd number of backslashes.
+#[tactic(auto, using(crate::proofs::LookLaws::hidden_literal, crate::proofs::LookLaws::hidden_basic))]
+fn is_hidden(s: &[u8], q: Quote) -> bool
+    ensures { result ≡ hidden_by (mark_of q) false s.now }
 {
     match q {
         Quote::Apostrophe => false,
-        Quote::Quotation => is_odd(part, i, e),
+        Quote::Quotation => backslashes(s) % 2 == 1,
     }
 }
 
-// Whether the bytes from i up to e end in an odd number of backslashes.
-fn is_odd(part: &[u8], i: usize, e: usize) -> bool
-    requires { (i ≤ e) × (e ≤ length part.now) }
-    ensures { result ≡ hidden_to 34 part.now i e }
+// How many backslashes s ends in.
+fn backslashes(s: &[u8]) -> usize
+    ensures { result ≡ suffix_len (λ b. b == 92) s.now }
 {
-    let mut k = e;
-    let mut odd = false;
-    while i < k {
-        if part[k - 1] != ESCAPE {
-            return odd;
-        }
-        odd = !odd;
-        k -= 1;
-    }
-    odd
+    s.iter().rev().take_while(|b| **b == ESCAPE).count()
 }

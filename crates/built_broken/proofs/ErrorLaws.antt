@@ -5,13 +5,14 @@ use mathlib.Core.Path.{◌≡◌, refl, sym, ap, ◌∙◌}
 use mathlib.Core.Bool.{false}
 use mathlib.Core.List.{List, [], ◌∷◌, ◌++◌}
 use native.Mathlib.Omega.{arith}
+use Rattle.std.specs.Prelude.{Option, Some, None}
+use Rattle.std.specs.Option.{option_or}
 use lib.ListN.{length, take, length-take}
 use Rattle.text_classes.specs.Runs.{run}
 use Rattle.text_classes.proofs.RunLaws.{run_le}
 use Rattle.decoder_rules.specs.declared.Encoding.{Encoding}
 use Rattle.decoder_rules.specs.declared.Piece.{Piece}
-use Rattle.decoder_rules.specs.declared.Verdict.{Verdict}
-use Rattle.decoder_rules.specs.declared.Verdict.TheVariants.{Clean, Wrong}
+use Rattle.decoder_rules.specs.declared.Wrong.{Wrong}
 use Rattle.decoder_rules.specs.Pieces.{notes_of, notes_at, copy_piece, char_piece}
 use Rattle.decoder_rules.specs.Encodings.{plain}
 use Rattle.decoder_rules.specs.Bodies.{piece_of}
@@ -36,20 +37,25 @@ pub first_some : {A : Type 0} (l : List A) (x : A) → take 1 l ≡ x ∷ [] →
 first_some [] x e = absurd (omega (arith, ap length e))
 first_some (y ∷ l) x e = let same : y ≡ x = cc in (l, ap (λ (z : _). z ∷ l) same)
 
--- a verdict that is wrong is the first error of it and what follows
-pub wrong_first : (w : Verdict) (more : List (List ℕ)) → length (notes_of w) ≡ 1 → notes_of w ≡ take 1 (notes_of w ++ more)
-wrong_first Clean more e = absurd (omega arith)
-wrong_first (Wrong error start end) more e = refl
+-- an error that is there is the first of it and what follows
+pub wrong_first : (w : Wrong) (v : Option Wrong) (more : List (List ℕ)) → v ≡ Some w → notes_of (Some w) ≡ take 1 (notes_of v ++ more)
+wrong_first w v more e = rw e
 
--- one that is clean adds nothing
-pub clean_first : (w : Verdict) (more : List (List ℕ)) → w ≡ Clean → notes_of w ++ more ≡ more
-clean_first w more e = rw e
+-- of two verdicts, the first that is an error is the first error; where neither is one they add nothing
+pub either_first : (w : Wrong) (a b : Option Wrong) (more : List (List ℕ)) → option_or a b ≡ Some w
+    → notes_of (Some w) ≡ take 1 (notes_of a ++ (notes_of b ++ more))
+either_first w None b more e = wrong_first w b more e
+either_first w (Some x) b more e = wrong_first w (Some x) (notes_of b ++ more) e
+
+pub either_clean : (a b : Option Wrong) (more : List (List ℕ)) → option_or a b ≡ None → notes_of a ++ (notes_of b ++ more) ≡ more
+either_clean None b more e = rw e
+either_clean (Some x) b more e = cc
 
 -- ---- a body
 
 module _ (e : Encoding) (t : List ℕ) (b : Body) where
   -- a piece without an error leaves all errors
-  pub passed_over : (p : Piece) → Turn (piece_of e) b.dropping b.at (body_bytes b t) p → p.verdict ≡ Clean
+  pub passed_over : (p : Piece) → Turn (piece_of e) b.dropping b.at (body_bytes b t) p → p.verdict ≡ None
       → errors_left e t (body_after b p) ≡ errors_left e t b
   passed_over p turn clean =
       sym (turn_said (piece_fine e) turn notes_at ∙ rw (notes_none p clean, ← left_is e t b p turn))
@@ -82,11 +88,11 @@ few_front e b s n off is some short =
     }
 
 -- an escape that is read off
-pub escape_front : (e : Encoding) (b : Body) (s : List ℕ) (x : Escape) → x ≡ escape_at e s → 0 < x.take → CleanFront e b s x.take
-escape_front e b s x is some =
+pub escape_front : (e : Encoding) (b : Body) (s : List ℕ) (x : Escape) → Some x ≡ escape_at e s → CleanFront e b s x.take
+escape_front e b s x is =
     record {
       piece = char_piece x.take x.char;
-      reads = rw is (sym (good_escape_piece e b.dropping b.at s (rw is at some)));
+      reads = sym (good_escape_piece e b.dropping b.at s x is);
       takes = refl;
       clean = refl;
       outside = refl;

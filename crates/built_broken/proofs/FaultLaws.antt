@@ -19,7 +19,7 @@ use Rattle.text_characters.specs.Lead.{lead_of, Begun, begun_by, fault_len}
 use Rattle.text.specs.CheckMeans.{check_of}
 use Rattle.text_refusals.specs.declared.Refusal.{Refusal}
 use Rattle.text_refusals.specs.declared.Refusal.TheVariants.{NotUtf8}
-use Rattle.text.specs.declared.utf8.Utf8Check.TheVariants.{Valid, Refused as NotValid}
+use Rattle.std.specs.Prelude.{Ok, Err}
 use Rattle.text_scalars.proofs.ReadLaws.{valid_le, valid_is, valid_longest, valid_append}
 use Rattle.text_characters.proofs.LeadLaws.{lead_high}
 use Rattle.text_characters.proofs.BegunLaws.{begun_by_lem, begun_only}
@@ -28,7 +28,6 @@ use Rattle.decoder_rules.proofs.AsciiLaws.{front_one, front_add}
 use Rattle.theorems_tokens.specs.Cuts.{Clean, at_end, before, after, further}
 use Rattle.theorems_tokens.proofs.Lexing.{clean_cut}
 use Rattle.built_broken.specs.Broken.{not_utf8}
-use Rattle.built_broken.specs.declared.FirstBroken.TheVariants.{Refused}
 use Rattle.built_broken.proofs.ReadableLaws.{check_refused}
 
 -- ---- a place at which no character is cut
@@ -221,19 +220,19 @@ module _ (doc : List ℕ) (at n : ℕ) (within : at ≤ length doc) (front : Utf
       ∙ ap fault_len (sym (drop-drop (valid_prefix s) at doc))
       ∙ sym (part_fault s n clean fits broken)
 
-  pub token_invalid : Valid ≡ check_of token → ⊥
+  pub token_invalid : Ok (tt {0}) ≡ check_of token → ⊥
   token_invalid e = part_broken (drop at doc) n clean fits broken (checked token (sym e)).1
 
   -- as the check of the token and the byte after it tells them
-  module _ (small : length doc ≤ limit) (r : Refusal) (e : NotValid r ≡ check_of token) where
+  module _ (small : length doc ≤ limit) (r : Refusal) (e : Err r ≡ check_of token) where
     size : length token ≤ limit
     size = omega (arith, length-take (suc n) (drop at doc), length-drop at doc)
 
     pub value_told : refusal_value r ≡ valid_prefix token
-    value_told = simp (le-ltb limit (length token) size, check_refused token r size e) at (told token (NotValid r) e).value
+    value_told = simp (le-ltb limit (length token) size, check_refused token r size e) at (told token (Err r) e).value
 
     fault : refusal_length r ≡ fault_len (drop (valid_prefix token) token)
-    fault = simp (le-ltb limit (length token) size, check_refused token r size e) at (told token (NotValid r) e).length
+    fault = simp (le-ltb limit (length token) size, check_refused token r size e) at (told token (Err r) e).length
 
-    pub fault_told : Refused (NotUtf8 (at + refusal_value r) (refusal_length r)) ≡ not_utf8 doc
+    pub fault_told : Err (NotUtf8 (at + refusal_value r) (refusal_length r)) ≡ not_utf8 doc
     fault_told = rw (value_told, fault, ← whole_fault, ← whole_valid)

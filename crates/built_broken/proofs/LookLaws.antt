@@ -25,7 +25,7 @@ use Rattle.decoder_rules.specs.Encodings.{choice_in}
 use Rattle.decoder_rules.specs.Decoding.{errors_by}
 use Rattle.decoder_rules.specs.declared.Edition.{Edition}
 use Rattle.decoder_rules.specs.declared.Encoding.{Encoding}
-use Rattle.decoder_rules.specs.declared.Choice.TheVariants.{Known}
+use Rattle.std.specs.Prelude.{Ok}
 use Rattle.decoder_rules.proofs.AsciiLaws.{front_one, front_add, front_low, wschar_low}
 use Rattle.lexer_comments.specs.Fronts.{Fronted}
 use Rattle.built_fronts.specs.Fronts.{ascii_atom, encoding_in, mark_of, Sound}
@@ -243,7 +243,7 @@ module _ (doc : List ℕ) (at : ℕ) (h : at < length doc) where
     pub characters : (n : ℕ) → Other n → l.asks ≡ Characters → l.end ≡ at + n → Looked v at (drop at doc) l
     characters n o a e = record { asks = rw a o.none; end = e ∙ ap (λ (k : ℕ). at + k) (sym o.size) }
 
-    pub decoding : (e : Encoding) → KindThere doc at (kind_behind e) → choice_in v (kind_encoding (kind_behind e)) ≡ Known e
+    pub decoding : (e : Encoding) → KindThere doc at (kind_behind e) → choice_in v (kind_encoding (kind_behind e)) ≡ Ok e
         → l.asks ≡ Decoding e → l.end ≡ at + extent (kind_behind e) (drop at doc) → Looked v at (drop at doc) l
     decoding e there known a f =
         let kind = kind_at doc at h ∙ there in
@@ -254,7 +254,7 @@ module _ (doc : List ℕ) (at : ℕ) (h : at < length doc) where
 
     -- a string on one line, up to its closing mark at r
     pub sound : (line : Line) (r : ℕ) → KindThere doc at (kind_behind (encoding_in v line))
-        → choice_in v (kind_encoding (kind_behind (encoding_in v line))) ≡ Known (encoding_in v line)
+        → choice_in v (kind_encoding (kind_behind (encoding_in v line))) ≡ Ok (encoding_in v line)
         → extent (kind_behind (encoding_in v line)) (drop at doc) ≡ suc (line_tail (mark_of line) false (drop 1 (drop at doc)))
         → Byte (mark_of line) → Sound line doc (at + 1) r → stands (mark_of line) (drop r doc) ≡ true
         → l.asks ≡ Nothing → l.end ≡ r + 1 → Looked v at (drop at doc) l
@@ -264,7 +264,7 @@ module _ (doc : List ℕ) (at : ℕ) (h : at < length doc) where
         let long = line_long line doc at r to closed in
         let size : token_len (drop at doc) ≡ r - at + 1 = sized (kind_behind e) there ∙ reach ∙ rw (drop-drop 1 at doc) (omega (arith, long, to.along)) in
         let text : front_text (drop at doc) ≡ take (r - at + 1) (drop at doc) = ap (λ (k : ℕ). take k (drop at doc)) size in
-        let chosen : choice_in v (kind_encoding (kind_of (drop at doc))) ≡ Known e = ap (λ (k : TokenKind). choice_in v (kind_encoding k)) kind ∙ known in
+        let chosen : choice_in v (kind_encoding (kind_of (drop at doc))) ≡ Ok e = ap (λ (k : TokenKind). choice_in v (kind_encoding k)) kind ∙ known in
         record {
           asks = rw a (readable _ (rw text (line_utf8 line doc at r h opens to closed)), rw (chosen, text) (line_errors line doc at r h opens to closed v));
           end = f ∙ omega (arith, size, to.along);

@@ -1,13 +1,15 @@
 -- When a text is UTF-8: by the check, and by its bytes where all are ASCII.
 -- Assumes nothing.
-use Prim.Native.Nat.{ℕ, suc, ◌+◌, ◌-◌, ◌/◌, ◌≤◌, ◌<◌}
-use mathlib.Core.Path.{◌≡◌, refl, sym, ap}
+use Prim.Native.Nat.{zero, ℕ, suc, ◌+◌, ◌-◌, ◌/◌, ◌≤◌, ◌<◌}
+use mathlib.Core.Path.{◌≡◌, refl, sym, ap, ◌∙◌}
 use mathlib.Core.Bool.{Bool, true, false}
 use mathlib.Core.List.{List, [], ◌∷◌}
 use native.Mathlib.Omega.{arith}
 use native.Mathlib.Decide.{dec_lt}
-use borrow.Author.Tests.{eq-eqb, eqb-true, lt-ltb}
-use lib.ListN.{length, get_or}
+use borrow.Author.Tests.{eq-eqb, eqb-true, lt-ltb, ltb-true}
+use lib.Dec.{ltb, eqb}
+use lib.ListN.{length, get_or, take, drop, length-drop}
+use lib.Seq.{get_or-take, get_or-drop, length-take-le}
 use Rattle.text_classes.specs.Runs.{run}
 use Rattle.text_classes.proofs.Conds.{not_both}
 use Rattle.text_refusals.specs.Refusals.{limit}
@@ -15,7 +17,7 @@ use Rattle.text_scalars.specs.Utf8.{Utf8}
 use Rattle.text_scalars.specs.Utf8Read.{ascii}
 use Rattle.text.specs.CheckMeans.{check_of}
 use Rattle.text_refusals.specs.declared.Refusal.{Refusal}
-use Rattle.text.specs.declared.utf8.Utf8Check.TheVariants.{Valid, Refused}
+use Rattle.std.specs.Prelude.{Ok, Err}
 use Rattle.text_scalars.proofs.ReadLaws.{utf8_iff}
 use Rattle.text.proofs.AnswerLaws.{answer_valid, answer_ascii, checked}
 use Rattle.built_broken.specs.Broken.{is_utf8}
@@ -32,15 +34,15 @@ module _ (s : List ℕ) where
   unread e u = not_both (readable u) e
 
   -- by the check's answer
-  pub check_valid : Valid ≡ check_of s → is_utf8 s ≡ true
+  pub check_valid : Ok (tt {0}) ≡ check_of s → is_utf8 s ≡ true
   check_valid e = readable (checked s (sym e)).1
 
-  pub check_refused : (r : Refusal) → length s ≤ limit → Refused r ≡ check_of s → is_utf8 s ≡ false
+  pub check_refused : (r : Refusal) → length s ≤ limit → Err r ≡ check_of s → is_utf8 s ≡ false
   check_refused r l e = go (is_utf8 s) refl
     where
       go : (x : Bool) → is_utf8 s ≡ x → is_utf8 s ≡ false
       go true f =
-          let valid : Valid ≡ check_of s = answer_valid s l (eqb-true _ _ f) in
+          let valid : Ok (tt {0}) ≡ check_of s = answer_valid s l (eqb-true _ _ f) in
           let z : ◌≡◌ {A = ℕ} 0 1 = cc in
           absurd (omega arith)
       go false f = f
@@ -56,13 +58,27 @@ ascii_run (b ∷ s) h =
 pub ascii_readable : (s : List ℕ) → length s ≤ limit → AsciiIn s 0 (length s) → is_utf8 s ≡ true
 ascii_readable s l h = check_valid s (answer_ascii s l (ascii_run s h))
 
--- j bytes from i on, and the one after them
-pub ascii_more : (s : List ℕ) (i j : ℕ) → get_or s (i + j) 0 < 0x80 → AsciiIn s i (i + j) → AsciiIn s i (i + (j + 1))
-ascii_more s i j low before k l m =
-    elim (dec_lt k (i + j)) [
-      | yes h ↦ before k l h
-      | no h ↦ let same : k ≡ i + j = omega arith in omega (arith, ap (λ (x : ℕ). get_or s x 0) same)
-    ]
+ascii_there : (u : List ℕ) → run ascii u ≡ length u → (k : ℕ) → k < length u → get_or u k 0 < 0x80
+unfolding run
+ascii_there [] e k h = absurd (omega arith)
+ascii_there (b ∷ u) e k h = go (ltb b 0x80) refl (ascii_there u) k h
+  where
+    go : (x : Bool) → ltb b 0x80 ≡ x → (run ascii u ≡ length u → (j : ℕ) → j < length u → get_or u j 0 < 0x80) → (k : ℕ)
+        → k < suc (length u) → get_or (b ∷ u) k 0 < 0x80
+    go true f more zero h = ltb-true b 0x80 f
+    go true f more (suc k) h = more (omega (arith, rw f at e)) k (omega arith)
+    go false f more k h = absurd (omega (arith, rw f at e))
+
+-- the bytes from i up to j, asked for by themselves
+pub ascii_part : (s : List ℕ) (i j : ℕ) → i ≤ j → j ≤ length s
+    → eqb (run ascii (take (j - i) (drop i s))) (length (take (j - i) (drop i s))) ≡ true → AsciiIn s i j
+ascii_part s i j h l e k from to =
+    let u = take (j - i) (drop i s) in
+    let size = length-take-le (j - i) (drop i s) (omega (arith, length-drop i s)) in
+    let at : i + (k - i) ≡ k = omega arith in
+    let there = ascii_there u (eqb-true _ _ e) (k - i) (omega arith) in
+    let byte = get_or-take (j - i) (drop i s) (k - i) 0 (omega arith) ∙ get_or-drop i s (k - i) 0 ∙ ap (λ (x : ℕ). get_or s x 0) at in
+    omega (arith, there, byte)
 
 -- two parts that meet or overlap
 pub ascii_joined : (s : List ℕ) (a b z : ℕ) → a ≤ b → AsciiIn s 0 b → AsciiIn s a z → AsciiIn s 0 z

@@ -6,6 +6,7 @@ use mathlib.Core.Bool.{Bool, true, false, cond}
 use mathlib.Core.Logic.{inr}
 use mathlib.Core.List.{List, [], ◌∷◌}
 use native.Mathlib.Omega.{arith}
+use Rattle.std.specs.Prelude.{Option, Some, None, Result, Ok}
 use lib.Dec.{eqb}
 use lib.ListN.{length, get_or, take, drop}
 use lib.Seq.{drop-drop}
@@ -23,19 +24,14 @@ use Rattle.lexer.proofs.TokenLaws.{tokens_step, tokens_end, token_fits_at, start
 use Rattle.decoder_rules.specs.Encodings.{choice_in, choice_by, edition_number}
 use Rattle.decoder_rules.specs.Decoding.{errors_of, errors_by}
 use Rattle.decoder_rules.specs.Pieces.{error_number, notes_of}
-use Rattle.decoder_rules.specs.declared.DecodeError.{DecodeError}
-use Rattle.decoder_rules.specs.declared.Verdict.{Verdict}
-use Rattle.decoder_rules.specs.declared.Verdict.TheVariants.{Clean, Wrong}
+use Rattle.decoder_rules.specs.declared.Wrong.{Wrong}
 use Rattle.decoder_rules.specs.declared.Edition.{Edition}
 use Rattle.decoder_rules.specs.declared.Edition.TheVariants.{Toml10, Toml11}
 use Rattle.decoder_rules.specs.declared.Encoding.{Encoding}
-use Rattle.decoder_rules.specs.declared.Choice.{Choice}
-use Rattle.decoder_rules.specs.declared.Choice.TheVariants.{Known}
+use Rattle.text_refusals.specs.declared.Refusal.{Refusal}
 use Rattle.decoder_rules.proofs.AsciiLaws.{nil_utf8, front_add}
-use Rattle.built_broken.specs.Broken.{is_utf8, recorded_error, broken_by, not_utf8, first_among}
+use Rattle.built_broken.specs.Broken.{BrokenFound, is_utf8, recorded_error, broken_by, not_utf8, first_among}
 use Rattle.built_broken.specs.Walk.{first_from, front_text, kind_behind, AskedOf}
-use Rattle.built_broken.specs.declared.FirstBroken.{FirstBroken}
-use Rattle.built_broken.specs.declared.FirstBroken.TheVariants.{Broken, Sound}
 use Rattle.built_broken.specs.declared.FirstError.{FirstError}
 use Rattle.built_broken.specs.declared.look.Asks.{Asks}
 use Rattle.built_broken.specs.declared.look.Asks.TheVariants.{Nothing, Characters, Decoding}
@@ -48,7 +44,7 @@ use Rattle.built_broken.proofs.ErrorLaws.{first_none, first_some}
 pub no_errors : (edition : ℕ) (t : List ℕ) → errors_by (choice_by edition 0) t ≡ []
 unfolding choice_by choice_in
 no_errors edition t =
-    let P : Choice → Type 0 = λ c. errors_by c t ≡ [] in
+    let P : Result Encoding Refusal → Type 0 = λ c. errors_by c t ≡ [] in
     cond_case P (eqb edition 10) (λ _. refl) (λ _. cond_case P (eqb edition 11) (λ _. refl) (λ _. refl))
 
 pub other_errors : (edition kind : ℕ) (t : List ℕ) → kind ≡ 0 → errors_by (choice_by edition kind) t ≡ []
@@ -59,7 +55,7 @@ unfolding choice_by
 named Toml10 kind = refl
 named Toml11 kind = refl
 
-pub string_errors : (v : Edition) (kind : ℕ) (e : Encoding) (t : List ℕ) → choice_in v kind ≡ Known e
+pub string_errors : (v : Edition) (kind : ℕ) (e : Encoding) (t : List ℕ) → choice_in v kind ≡ Ok e
     → errors_by (choice_by (edition_number v) kind) t ≡ errors_of e t
 string_errors v kind e t known = rw (named v kind, known)
 
@@ -99,7 +95,7 @@ module _ (doc : List ℕ) (edition at : ℕ) (h : at < length doc) where
   turn_sound u e = turn ∙ rw (u, e)
 
   pub turn_broken : is_utf8 (front_text (drop at doc)) ≡ true → (e : List ℕ) (es : List (List ℕ)) → errors_at ≡ e ∷ es
-      → first_from doc edition at ≡ Broken token_there (recorded_error e)
+      → first_from doc edition at ≡ Ok (Some (token_there, recorded_error e))
   turn_broken u e es f = turn ∙ rw (u, f)
 
   pub turn_refused : is_utf8 (front_text (drop at doc)) ≡ false → first_from doc edition at ≡ not_utf8 doc
@@ -118,12 +114,12 @@ read_as v s Characters r asked sure told = sym (told (λ e. absurd (let z : ◌�
 read_as v s (Decoding e) r asked sure told = sym (told (λ e. absurd (let z : ◌≡◌ {A = ℕ} 0 1 = cc in omega arith)))
 
 -- what holds at a place of the walk, where the answer is r
-pub record Walking (doc : List ℕ) (edition : ℕ) (r : FirstBroken) (at : ℕ) : Type 0 where
+pub record Walking (doc : List ℕ) (edition : ℕ) (r : BrokenFound) (at : ℕ) : Type 0 where
   pub within : at ≤ length doc
   pub front : Utf8 (take at doc)
   pub same : first_from doc edition at ≡ r
 
-module _ (v : Edition) (doc : List ℕ) (at : ℕ) (h : at < length doc) (r : FirstBroken) (w : Walking doc (edition_number v) r at)
+module _ (v : Edition) (doc : List ℕ) (at : ℕ) (h : at < length doc) (r : BrokenFound) (w : Walking doc (edition_number v) r at)
     (readable-here : is_utf8 (front_text (drop at doc)) ≡ true) (end : ℕ) (is : end ≡ at + token_len (drop at doc)) where
   -- a token without errors is passed
   pub walk_on : errors_at doc (edition_number v) at h ≡ [] → Walking doc (edition_number v) r end
@@ -134,26 +130,31 @@ module _ (v : Edition) (doc : List ℕ) (at : ℕ) (h : at < length doc) (r : Fi
         same = sym (turn_sound doc (edition_number v) at h readable-here none) ∙ w.same;
       }
 
-  pub walk_sound : errors_by (choice_in v (kind_encoding (kind_of (drop at doc)))) (front_text (drop at doc)) ≡ [] → Walking doc (edition_number v) r end
+  walk_sound : errors_by (choice_in v (kind_encoding (kind_of (drop at doc)))) (front_text (drop at doc)) ≡ [] → Walking doc (edition_number v) r end
   walk_sound none = walk_on (rw (named v _) none)
 
-  pub walk_other : kind_encoding (kind_of (drop at doc)) ≡ 0 → Walking doc (edition_number v) r end
+  walk_other : kind_encoding (kind_of (drop at doc)) ≡ 0 → Walking doc (edition_number v) r end
   walk_other none = walk_on (other_errors (edition_number v) _ (front_text (drop at doc)) none)
+
+  -- one that is not decoded
+  pub walk_undecoded : (a : Asks) → AskedOf v (drop at doc) a → ((e : Encoding) → a ≡ Decoding e → ⊥) → Walking doc (edition_number v) r end
+  walk_undecoded Nothing asked none = walk_sound asked.1
+  walk_undecoded Characters asked none = walk_other asked
+  walk_undecoded (Decoding e) asked none = absurd (none e refl)
 
   -- a string, by the first error of its text t
   module _ (e : Encoding) (asked : AskedOf v (drop at doc) (Decoding e)) (t : List ℕ) (text : t ≡ front_text (drop at doc))
-      (found : Verdict) (first : notes_of found ≡ take 1 (errors_of e t)) where
+      (found : Option Wrong) (first : notes_of found ≡ take 1 (errors_of e t)) where
     errors_are : errors_at doc (edition_number v) at h ≡ errors_of e t
     errors_are = rw text (string_errors v _ e (front_text (drop at doc)) asked.1)
 
-    pub walk_clean : found ≡ Clean → Walking doc (edition_number v) r end
+    pub walk_clean : found ≡ None → Walking doc (edition_number v) r end
     walk_clean clean = walk_on (errors_are ∙ first_none _ (sym first ∙ ap notes_of clean))
 
-    pub walk_broken : (error : DecodeError) (from to : ℕ) → found ≡ Wrong error from to
-        → (token : Token) → token ≡ token_of (kind_behind e) at end (line_of doc at)
-        → (x : FirstError) → x ≡ recorded_error (error_number error ∷ from ∷ to ∷ []) → Broken token x ≡ r
-    walk_broken error from to wrong token made x noted =
-        let some = first_some (errors_of e t) (error_number error ∷ from ∷ to ∷ []) (sym first ∙ ap notes_of wrong) in
+    pub walk_broken : (x : Wrong) → found ≡ Some x → (token : Token) → token ≡ token_of (kind_behind e) at end (line_of doc at)
+        → (y : FirstError) → y ≡ recorded_error (error_number x.error ∷ x.start ∷ x.end ∷ []) → Ok (Some (token, y)) ≡ r
+    walk_broken x wrong token made y noted =
+        let some = first_some (errors_of e t) (error_number x.error ∷ x.start ∷ x.end ∷ []) (sym first ∙ ap notes_of wrong) in
         let broken = turn_broken doc (edition_number v) at h readable-here _ some.0 (errors_are ∙ some.1) in
         rw (made, noted, is, ← asked.0) (sym broken ∙ w.same)
 
@@ -183,7 +184,7 @@ module _ (doc : List ℕ) where
   pub walk_start : (edition : ℕ) → Walking doc edition (first_among doc edition (tokens_of doc)) (start_of doc)
   walk_start edition = record { within = start_fits doc; front = start_utf8; same = ap (first_among doc edition) tokens_start }
 
-  pub at_end : (edition at : ℕ) → length doc ≤ at → first_from doc edition at ≡ Sound
+  pub at_end : (edition at : ℕ) → length doc ≤ at → first_from doc edition at ≡ Ok None
   unfolding first_among
   at_end edition at h =
       let none : at - at ≡ 0 = omega arith in

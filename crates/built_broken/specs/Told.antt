@@ -1,36 +1,17 @@
--- FOLLOWS. The numbers in which the answer of `first_broken_in` is told: each follows from the answer, and its promise says
--- besides what they come to for the arguments. Proved by `found` in proofs/NumberLaws.antt.
+-- FOLLOWS. What the numbers in which the answer of `first_broken_in` is told (`told_number`, `told_value`, `told_length` in crate
+-- `text_refusals`) come to for the arguments. Proved by `found` in proofs/NumberLaws.antt.
 -- Assumes nothing.
 use Rattle.std.specs.Prelude.{ℕ}
 use mathlib.Core.{Bool.Bool, Bool.true, Bool.false, Bool.cond, List.List, List.[], List.◌∷◌}
 use lib.{Dec.ltb, ListN.length, ListN.drop}
-use Rattle.text_refusals.specs.{Refusals.limit, Refusals.refusal_number, Refusals.refusal_value, Refusals.refusal_length}
+use Rattle.text_refusals.specs.{Refusals.limit}
 use Rattle.text_scalars.specs.{Utf8Read.valid_prefix}
 use Rattle.text_characters.specs.{Lead.fault_len}
 use Rattle.lexer_token.specs.{Records.text_of}
 use Rattle.lexer_token.specs.declared.{Token.Token}
 use Rattle.lexer.specs.{Tokens.tokens_of}
 use Rattle.built_broken.specs.{Broken.is_utf8, Broken.token_errors}
-use Rattle.built_broken.specs.declared.{FirstBroken.FirstBroken, FirstBroken.TheVariants.Broken, FirstBroken.TheVariants.Sound, FirstBroken.TheVariants.Refused}
 use Rattle.decoder_rules.specs.Encodings.{is_edition}
-
--- which answer it is: 0 where answered, else the refusal's number
-abbrev pub broken_number : FirstBroken → ℕ
-broken_number (Broken t e) = 0
-broken_number Sound = 0
-broken_number (Refused r) = refusal_number r
-
--- the number returned with a refusal
-abbrev pub broken_value : FirstBroken → ℕ
-broken_value (Broken t e) = 0
-broken_value Sound = 0
-broken_value (Refused r) = refusal_value r
-
--- the second number returned with refusal 1, the length of the faulty sequence; else zero
-abbrev pub broken_length : FirstBroken → ℕ
-broken_length (Broken t e) = 0
-broken_length Sound = 0
-broken_length (Refused r) = refusal_length r
 
 -- what they come to for the arguments: 2 with the limit, 9 with the number named, then 1 with the whole document's two numbers
 -- where a token that is not UTF-8 comes before all that are broken, else 0

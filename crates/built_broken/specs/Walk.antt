@@ -1,7 +1,7 @@
 -- What the helpers of `first_broken_in` say, from token to token and within one string. None of it is a rule: no promise of a
 -- public function cites it.
 -- Assumes nothing.
-use Rattle.std.specs.Prelude.{ℕ, ◌+◌, ◌≤◌, ◌<◌, ◌≡◌, true, false, List, [], take, drop, get_or}
+use Rattle.std.specs.Prelude.{ℕ, ◌+◌, ◌≤◌, ◌<◌, ◌≡◌, true, false, List, [], take, drop, get_or, None, Ok}
 use Rattle.lexer_token.specs.Encodings.{kind_encoding}
 use Rattle.lexer_token.specs.declared.TokenKind.{TokenKind}
 use Rattle.lexer_token.specs.declared.TokenKind.TheVariants.{LiteralString as LiteralToken, BasicString as BasicToken, MlLiteralString as MlLiteralToken, MlBasicString as MlBasicToken, Atom}
@@ -14,18 +14,15 @@ use Rattle.decoder_rules.specs.Bodies.{piece_of}
 use Rattle.decoder_rules.specs.declared.Edition.{Edition}
 use Rattle.decoder_rules.specs.declared.Encoding.{Encoding}
 use Rattle.decoder_rules.specs.declared.Encoding.TheVariants.{LiteralString, BasicString, MlLiteralString, MlBasicString, UnquotedKey}
-use Rattle.decoder_rules.specs.declared.Choice.TheVariants.{Known}
 use Rattle.decoder_rules.specs.declared.Piece.{Piece}
-use Rattle.decoder_rules.specs.declared.Verdict.TheVariants.{Clean}
 use Rattle.decoder_pieces.specs.declared.body.Body.{Body}
-use Rattle.built_broken.specs.Broken.{is_utf8, first_among}
-use Rattle.built_broken.specs.declared.FirstBroken.{FirstBroken}
+use Rattle.built_broken.specs.Broken.{BrokenFound, is_utf8, first_among}
 use Rattle.built_broken.specs.declared.look.Asks.{Asks}
 use Rattle.built_broken.specs.declared.look.Asks.TheVariants.{Nothing, Characters, Decoding}
 use Rattle.built_broken.specs.declared.look.Look.{Look}
 
 -- the answer by the tokens from the place `at` on
-abbrev pub first_from : List ℕ → ℕ → ℕ → FirstBroken
+abbrev pub first_from : List ℕ → ℕ → ℕ → BrokenFound
 first_from doc edition at = first_among doc edition (tokens_from at (line_of doc at) (drop at doc))
 
 -- the bytes of the token at the front of s
@@ -45,7 +42,7 @@ kind_behind UnquotedKey = Atom
 abbrev pub AskedOf : Edition → List ℕ → Asks → Type 0
 AskedOf v s Nothing = (is_utf8 (front_text s) ≡ true) × (errors_by (choice_in v (kind_encoding (kind_of s))) (front_text s) ≡ [])
 AskedOf v s Characters = kind_encoding (kind_of s) ≡ 0
-AskedOf v s (Decoding e) = (kind_of s ≡ kind_behind e) × (choice_in v (kind_encoding (kind_of s)) ≡ Known e)
+AskedOf v s (Decoding e) = (kind_of s ≡ kind_behind e) × (choice_in v (kind_encoding (kind_of s)) ≡ Ok e)
 
 -- that, and where the token ends that stands at the place `at`
 pub record Looked (v : Edition) (at : ℕ) (s : List ℕ) (l : Look) : Type 0 where
@@ -61,5 +58,5 @@ pub record CleanFront (e : Encoding) (b : Body) (s : List ℕ) (n : ℕ) : Type 
   pub piece : Piece
   pub reads : piece ≡ piece_of e b.dropping b.at s
   pub takes : piece.take ≡ n
-  pub clean : piece.verdict ≡ Clean
+  pub clean : piece.verdict ≡ None
   pub outside : piece.dropping ≡ false

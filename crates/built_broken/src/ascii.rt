@@ -3,6 +3,8 @@
 ghost use Rattle.std.specs.Prelude.{◌≡◌, true, ◌+◌, ◌<◌, ◌≤◌, length};
 ghost use Rattle.built_broken.specs.Walk.{AsciiIn};
 
+use text_ascii::is_ascii_block;
+
 pub(crate) fn is_ascii(s: &[u8]) -> bool
     ensures { result ≡ true → AsciiIn s.now 0 (length s.now) }
 {
@@ -18,13 +20,14 @@ pub(crate) fn is_ascii(s: &[u8]) -> bool
     }
     let last = n - 16;
     let mut i = 0;
+    // By hand: `chunks` ends in a part of fewer bytes, which is no block that the compiler takes at once.
     while i < last {
-        if !is_ascii_part(s, i, 16) {
+        if !is_ascii_block(&s[i..i + 16]) {
             return false;
         }
         i += 16;
     }
-    is_ascii_part(s, last, 16)
+    is_ascii_block(&s[last..last + 16])
 }
 
 // Up to three bytes: the first, the middle one and the last are all.
@@ -44,23 +47,6 @@ fn is_ascii_ends(s: &[u8], n: usize) -> bool
     requires { (n ≤ length s.now) × (length s.now ≤ n + n) }
     ensures { result ≡ true → AsciiIn s.now 0 (length s.now) }
 {
-    if !is_ascii_part(s, 0, n) {
-        return false;
-    }
-    is_ascii_part(s, s.len() - n, n)
-}
-
-// The n bytes from i on. One test of all their bits together, and no branch among them, so that the compiler takes them all at
-// once.
-fn is_ascii_part(s: &[u8], i: usize, n: usize) -> bool
-    requires { i + n ≤ length s.now }
-    ensures { result ≡ true → AsciiIn s.now i (i + n) }
-{
-    let mut bits: u8 = 0;
-    let mut j = 0;
-    while j < n {
-        bits = bits | s[i + j];
-        j += 1;
-    }
-    bits < 0x80
+    let last = s.len() - n;
+    is_ascii_block(&s[..n]) && is_ascii_block(&s[last..last + n])
 }

@@ -13,7 +13,8 @@ ghost use Rattle.lexer_token.specs.Records.{token_of};
 ghost use Rattle.decoder_rules.specs.Encodings.{edition_number};
 ghost use Rattle.decoder_rules.specs.Pieces.{error_number};
 ghost use Rattle.built_broken.specs.Broken.{is_utf8, recorded_error, not_utf8, first_among, broken_answer};
-ghost use Rattle.built_broken.specs.Told.{broken_number, broken_value, broken_length, broken_refusal, broken_returned, broken_fault};
+ghost use Rattle.text_refusals.specs.Told.{told_number, told_value, told_length};
+ghost use Rattle.built_broken.specs.Told.{broken_refusal, broken_returned, broken_fault};
 ghost use Rattle.built_broken.specs.Walk.{front_text, kind_behind};
 
 mod ascii;
@@ -22,92 +23,65 @@ mod look;
 
 use crate::ascii::is_ascii;
 use crate::error::first_error;
-use crate::look::{Asks, look_at};
-use decoder_rules::{DecodeError, Edition, Encoding, Verdict};
+use crate::look::{Asks, Look, look_at};
+use decoder_rules::{Edition, Encoding, Wrong};
 use lexer::{line_of, start_of};
 use lexer_token::{Span, Token, TokenKind};
-use text::{Utf8Check, check_utf8};
+use text::check_utf8;
 use text_refusals::{LIMIT, Refusal};
 
 // An error as `decode` records it: its number, and from where to where it goes, counted from the token's start.
-#[derive(Clone, Copy)]
+#[derive(Clone, Copy, Debug, PartialEq, Eq)]
 pub struct FirstError {
     pub number: usize,
     pub start: usize,
     pub end: usize,
 }
 
-// What the calls answer: the first broken token and its first error, that no string is broken, or why neither is told.
-#[derive(Clone, Copy)]
-pub enum FirstBroken {
-    Broken(Token, FirstError),
-    Sound,
-    Refused(Refusal),
-}
-
-// The first broken string of a document in TOML 1.0.
-pub fn first_broken(doc: &[u8]) -> FirstBroken
+// The first broken token of a document in TOML 1.0 and its first error, or that no string is broken.
+pub fn first_broken(doc: &[u8]) -> Result<Option<(Token, FirstError)>, Refusal>
     ensures answer { result ≡ broken_answer doc.now 10 }
-    ensures number { broken_number result ≡ broken_refusal doc.now 10 }
-    ensures value { broken_value result ≡ broken_returned doc.now 10 }
-    ensures length { broken_length result ≡ broken_fault doc.now 10 }
+    ensures number { told_number result ≡ broken_refusal doc.now 10 }
+    ensures value { told_value result ≡ broken_returned doc.now 10 }
+    ensures length { told_length result ≡ broken_fault doc.now 10 }
 {
     first_broken_in(doc, Edition::TOML_10)
 }
 
 // The same in the edition of TOML that a number names: 10 for TOML 1.0, 11 for TOML 1.1.
-pub fn first_broken_in(doc: &[u8], edition: usize) -> FirstBroken
+pub fn first_broken_in(doc: &[u8], edition: usize) -> Result<Option<(Token, FirstError)>, Refusal>
     ensures answer { result ≡ broken_answer doc.now edition }
-    ensures number { broken_number result ≡ broken_refusal doc.now edition }
-    ensures value { broken_value result ≡ broken_returned doc.now edition }
-    ensures length { broken_length result ≡ broken_fault doc.now edition }
+    ensures number { told_number result ≡ broken_refusal doc.now edition }
+    ensures value { told_value result ≡ broken_returned doc.now edition }
+    ensures length { told_length result ≡ broken_fault doc.now edition }
 {
     if LIMIT < doc.len() {
-        return FirstBroken::Refused(Refusal::TooLong);
+        return Err(Refusal::TooLong);
     }
-    match edition {
-        Edition::TOML_10 => find(Edition::Toml10, doc),
-        Edition::TOML_11 => find(Edition::Toml11, doc),
-        _ => FirstBroken::Refused(Refusal::NoEdition { number: edition }),
-    }
+    find(Edition::try_from(edition)?, doc)
 }
 
 // From token to token. Only the answer's token bears a line, so lines are not counted on the way.
-fn find(v: Edition, doc: &[u8]) -> FirstBroken
+fn find(v: Edition, doc: &[u8]) -> Result<Option<(Token, FirstError)>, Refusal>
     requires { length doc.now ≤ limit }
     ensures { result ≡ first_among doc.now (edition_number v) (tokens_of doc.now) }
 {
     let mut at = start_of(doc);
+    // no iterator: a turn goes over a token, as far as it reaches
     while at < doc.len() {
-        let look = look_at(v, doc, at);
-        let end = look.end;
-        let asks = look.asks;
-        if !is_readable(asks, &doc[at..end]) {
-            return FirstBroken::Refused(refusal_at(doc, at, end));
+        let Look { asks, end } = look_at(v, doc, at);
+        let text = &doc[at..end];
+        if !is_readable(asks, text) {
+            return Err(refusal_at(doc, at, end));
         }
-        match asks {
-            Asks::Nothing => {
-                at = end;
+        if let Asks::Decoding(e) = asks {
+            if let Some(wrong) = first_error(e, text) {
+                return Ok(Some((string_token(e, doc, at, end), recorded(wrong))));
             }
-            Asks::Characters => {
-                at = end;
-            }
-            Asks::Decoding(e) => match first_error(e, &doc[at..end]) {
-                Verdict::Clean => {
-                    at = end;
-                }
-                Verdict::Wrong {
-                    error,
-                    start: from,
-                    end: to,
-                } => {
-                    let token = string_token(e, doc, at, end);
-                    return FirstBroken::Broken(token, recorded(error, from, to));
-                }
-            },
         }
+        at = end;
     }
-    FirstBroken::Sound
+    Ok(None)
 }
 
 // Is the token's text UTF-8? Of a token of which nothing is asked it is known.
@@ -117,22 +91,16 @@ fn is_readable(asks: Asks, text: &[u8]) -> bool
 {
     match asks {
         Asks::Nothing => true,
-        Asks::Characters => is_utf8(text),
-        Asks::Decoding(_) => is_utf8(text),
+        _ => is_utf8(text),
     }
 }
 
+#[tactic(auto, using(crate::proofs::ReadableLaws::check_valid, crate::proofs::ReadableLaws::check_refused, crate::proofs::ReadableLaws::ascii_readable))]
 fn is_utf8(s: &[u8]) -> bool
     requires { length s.now ≤ limit }
     ensures { result ≡ is_utf8 s.now }
 {
-    if is_ascii(s) {
-        return true;
-    }
-    match check_utf8(s) {
-        Utf8Check::Valid => true,
-        Utf8Check::Refused(_) => false,
-    }
+    is_ascii(s) || check_utf8(s).is_ok()
 }
 
 // Refusal 1 for the document, by the first token that is not UTF-8, from `at` to `end`. Its fault begins within it; how long it
@@ -144,12 +112,12 @@ fn refusal_at(doc: &[u8], at: usize, end: usize) -> Refusal
         × (end ≡ at + token_len (drop at doc.now))
         × Utf8 (take at doc.now)
         × (is_utf8 (front_text (drop at doc.now)) ≡ false) }
-    ensures { FirstBroken.Refused result ≡ not_utf8 doc.now }
+    ensures { Err result ≡ not_utf8 doc.now }
 {
     let stop = if end < doc.len() { end + 1 } else { end };
     match check_utf8(&doc[at..stop]) {
-        Utf8Check::Valid => Refusal::TooLong,
-        Utf8Check::Refused(r) => Refusal::NotUtf8 {
+        Ok(()) => Refusal::TooLong,
+        Err(r) => Refusal::NotUtf8 {
             valid: at + r.value(),
             length: r.length(),
         },
@@ -177,12 +145,12 @@ fn kind_of(e: Encoding) -> TokenKind
 }
 
 // An error as it is answered, by its number.
-fn recorded(error: DecodeError, from: usize, to: usize) -> FirstError
-    ensures { result ≡ recorded_error (error_number error ∷ from ∷ to ∷ []) }
+fn recorded(wrong: Wrong) -> FirstError
+    ensures { result ≡ recorded_error (error_number wrong.error ∷ wrong.start ∷ wrong.end ∷ []) }
 {
     FirstError {
-        number: error.number(),
-        start: from,
-        end: to,
+        number: wrong.error.number(),
+        start: wrong.start,
+        end: wrong.end,
     }
 }

@@ -18,7 +18,7 @@ use text_classes::{APOSTROPHE, COMMENT_START_SYMBOL, QUOTATION_MARK, is_at, is_t
 
 // What is to be asked of a token: nothing, as it is UTF-8 and has no error; whether it is UTF-8; or that, and what is wrong with it,
 // decoded by an encoding.
-#[derive(Clone, Copy)]
+#[derive(Clone, Copy, Debug, PartialEq, Eq)]
 pub(crate) enum Asks {
     Nothing,
     Characters,
@@ -26,12 +26,13 @@ pub(crate) enum Asks {
 }
 
 // That, and where the token ends.
-#[derive(Clone, Copy)]
+#[derive(Clone, Copy, Debug, PartialEq, Eq)]
 pub(crate) struct Look {
     pub asks: Asks,
     pub end: usize,
 }
 
+// Document and place stay parameters here, as in crate `lexer`, which says why.
 pub(crate) fn look_at(v: Edition, doc: &[u8], at: usize) -> Look
     requires { at < length doc.now }
     ensures { Looked v at (drop at doc.now) result }
@@ -82,10 +83,7 @@ fn look_atom(doc: &[u8], at: usize) -> Look
 fn is_ascii_at(doc: &[u8], i: usize) -> bool
     ensures { result ≡ ltb (get_or doc.now i 0) 0x80 }
 {
-    if doc.len() <= i {
-        return true;
-    }
-    doc[i] < 0x80
+    doc.get(i).is_none_or(|b| *b < 0x80)
 }
 
 // At an apostrophe: three of them open the multi-line kind. Most strings on one line have no error, and are found to be so where their

@@ -1,6 +1,6 @@
 -- RULE. Lexing byte by byte: what is in progress between two bytes, and what one byte more does to it. No place and no line
 -- stands here: crate `built_lexing` counts them.
-use Rattle.std.specs.Prelude.{ℕ}
+use Rattle.std.specs.Prelude.{ℕ, Option, Some, None}
 use mathlib.Core.{Bool.Bool, Bool.true, Bool.false, Bool.cond}
 use lib.{Dec.eqb}
 use Rattle.text_classes.specs.{Classes.wschar}
@@ -8,7 +8,7 @@ use Rattle.lexer_scans.specs.{Extents.in_comment, Extents.in_atom, Extents.hides
 use Rattle.lexer.specs.{Table.kind_by}
 use Rattle.lexer_token.specs.declared.{TokenKind.TokenKind}
 use Rattle.lexer_token.specs.declared.TokenKind.TheVariants.{Dot, Equals, Comma, LeftSquareBracket, RightSquareBracket, LeftCurlyBracket, RightCurlyBracket, Whitespace, Comment, Newline, LiteralString, BasicString, MlLiteralString, MlBasicString, Atom, Eof}
-use Rattle.built_bytes.specs.declared.{Quote.Quote, Quote.TheVariants.Apostrophe, Quote.TheVariants.Quotation, Mode.Mode, Turn.Turn, Pending.Pending, Pending.TheVariants.Nothing, Pending.TheVariants.Kind}
+use Rattle.built_bytes.specs.declared.{Quote.Quote, Quote.TheVariants.Apostrophe, Quote.TheVariants.Quotation, Mode.Mode, Turn.Turn}
 use Rattle.built_bytes.specs.declared.Mode.TheVariants.{Start, Bom1, Bom2, Idle, Blanks, Remark, Word, Return, One, Two, Line, Ml, MlOne, MlTwo, Shut, ShutOne}
 use Rattle.built_bytes.specs.declared.Turn.TheVariants.{Opens, Single, More, Ends, Apart, Skipped}
 
@@ -83,20 +83,20 @@ turn_of (Shut q) b = cond (eqb b (mark_of q)) (More (ShutOne q)) (Apart (ml_kind
 turn_of (ShutOne q) b = cond (eqb b (mark_of q)) (Ends (ml_kind q)) (Apart (ml_kind q))
 
 -- the kind of the token in progress, were the document to end here; at the start and between two tokens there is none
-unfoldable pub pending_of : Mode → Pending
-pending_of Start = Nothing
-pending_of Bom1 = Kind Atom
-pending_of Bom2 = Kind Atom
-pending_of Idle = Nothing
-pending_of Blanks = Kind Whitespace
-pending_of Remark = Kind Comment
-pending_of Word = Kind Atom
-pending_of Return = Kind Newline
-pending_of (One q) = Kind (line_kind q)
-pending_of (Two q) = Kind (line_kind q)
-pending_of (Line q h) = Kind (line_kind q)
-pending_of (Ml q h) = Kind (ml_kind q)
-pending_of (MlOne q) = Kind (ml_kind q)
-pending_of (MlTwo q) = Kind (ml_kind q)
-pending_of (Shut q) = Kind (ml_kind q)
-pending_of (ShutOne q) = Kind (ml_kind q)
+unfoldable pub pending_of : Mode → Option TokenKind
+pending_of Start = None
+pending_of Bom1 = Some Atom
+pending_of Bom2 = Some Atom
+pending_of Idle = None
+pending_of Blanks = Some Whitespace
+pending_of Remark = Some Comment
+pending_of Word = Some Atom
+pending_of Return = Some Newline
+pending_of (One q) = Some (line_kind q)
+pending_of (Two q) = Some (line_kind q)
+pending_of (Line q h) = Some (line_kind q)
+pending_of (Ml q h) = Some (ml_kind q)
+pending_of (MlOne q) = Some (ml_kind q)
+pending_of (MlTwo q) = Some (ml_kind q)
+pending_of (Shut q) = Some (ml_kind q)
+pending_of (ShutOne q) = Some (ml_kind q)

@@ -13,14 +13,14 @@ use text_classes::{
 };
 
 // The mark of a string.
-#[derive(Clone, Copy)]
+#[derive(Clone, Copy, Debug, PartialEq, Eq)]
 pub enum Quote {
     Apostrophe,
     Quotation,
 }
 
 // What is in progress between two bytes.
-#[derive(Clone, Copy)]
+#[derive(Clone, Copy, Debug, PartialEq, Eq)]
 pub enum Mode {
     // nothing was read yet; after EF; after EF BB: what may become a byte order mark
     Start,
@@ -49,7 +49,7 @@ pub enum Mode {
 }
 
 // What one byte more does.
-#[derive(Clone, Copy)]
+#[derive(Clone, Copy, Debug, PartialEq, Eq)]
 pub enum Turn {
     // it is the first byte of a token that goes on
     Opens(Mode),
@@ -63,13 +63,6 @@ pub enum Turn {
     Apart(TokenKind),
     // it is the last byte of a byte order mark
     Skipped,
-}
-
-// The token in progress where a document ends.
-#[derive(Clone, Copy)]
-pub enum Pending {
-    Nothing,
-    Kind(TokenKind),
 }
 
 impl Quote {
@@ -106,6 +99,7 @@ impl Quote {
 
 impl Mode {
     // What a byte does.
+    #[tactic(auto, unfolding(crate::specs::Turns::turn_of))]
     pub fn turn(self, b: u8) -> Turn
         ensures { result ≡ turn_of self b }
     {
@@ -177,32 +171,28 @@ impl Mode {
         }
     }
 
-    // The token in progress, were the document to end here.
-    pub fn pending(self) -> Pending
+    // The kind of the token in progress, were the document to end here.
+    #[tactic(auto, unfolding(crate::specs::Turns::pending_of))]
+    pub fn pending(self) -> Option<TokenKind>
         ensures { result ≡ pending_of self }
     {
         match self {
-            Mode::Start => Pending::Nothing,
-            Mode::Bom1 => Pending::Kind(TokenKind::Atom),
-            Mode::Bom2 => Pending::Kind(TokenKind::Atom),
-            Mode::Idle => Pending::Nothing,
-            Mode::Blanks => Pending::Kind(TokenKind::Whitespace),
-            Mode::Remark => Pending::Kind(TokenKind::Comment),
-            Mode::Word => Pending::Kind(TokenKind::Atom),
-            Mode::Return => Pending::Kind(TokenKind::Newline),
-            Mode::One(q) => Pending::Kind(q.line_kind()),
-            Mode::Two(q) => Pending::Kind(q.line_kind()),
-            Mode::Line(q, _) => Pending::Kind(q.line_kind()),
-            Mode::Ml(q, _) => Pending::Kind(q.ml_kind()),
-            Mode::MlOne(q) => Pending::Kind(q.ml_kind()),
-            Mode::MlTwo(q) => Pending::Kind(q.ml_kind()),
-            Mode::Shut(q) => Pending::Kind(q.ml_kind()),
-            Mode::ShutOne(q) => Pending::Kind(q.ml_kind()),
+            Mode::Start | Mode::Idle => None,
+            Mode::Bom1 => Some(TokenKind::Atom),
+            Mode::Bom2 => Some(TokenKind::Atom),
+            Mode::Blanks => Some(TokenKind::Whitespace),
+            Mode::Remark => Some(TokenKind::Comment),
+            Mode::Word => Some(TokenKind::Atom),
+            Mode::Return => Some(TokenKind::Newline),
+            Mode::One(q) | Mode::Two(q) | Mode::Line(q, _) => Some(q.line_kind()),
+            Mode::Ml(q, _) | Mode::MlOne(q) | Mode::MlTwo(q) | Mode::Shut(q) | Mode::ShutOne(q) =>
+                Some(q.ml_kind()),
         }
     }
 }
 
 // The first byte of a token.
+#[tactic(auto, unfolding(crate::specs::Turns::opening, lexer::specs::Table::kind_by, text_classes::specs::Classes::wschar))]
 pub fn opened_by(b: u8) -> Turn
     ensures { result ≡ opening b }
 {
@@ -214,8 +204,7 @@ pub fn opened_by(b: u8) -> Turn
         b']' => Turn::Single(TokenKind::RightSquareBracket),
         b'{' => Turn::Single(TokenKind::LeftCurlyBracket),
         b'}' => Turn::Single(TokenKind::RightCurlyBracket),
-        b' ' => Turn::Opens(Mode::Blanks),
-        b'\t' => Turn::Opens(Mode::Blanks),
+        b' ' | b'\t' => Turn::Opens(Mode::Blanks),
         COMMENT_START_SYMBOL => Turn::Opens(Mode::Remark),
         b'\r' => Turn::Opens(Mode::Return),
         b'\n' => Turn::Single(TokenKind::Newline),
@@ -257,13 +246,7 @@ fn is_eol(b: u8) -> bool
 fn hides_next(q: Quote, hidden: bool, b: u8) -> bool
     ensures { result ≡ hides (mark_of q) hidden b }
 {
-    if hidden {
-        return false;
-    }
-    match q {
-        Quote::Apostrophe => false,
-        Quote::Quotation => b == ESCAPE,
-    }
+    !hidden && q == Quote::Quotation && b == ESCAPE
 }
 
 fn closes_line(q: Quote, hidden: bool, b: u8) -> bool

@@ -4,64 +4,50 @@
 
 ghost use Rattle.std.specs.Prelude.{◌≡◌};
 ghost use Rattle.built_characters.specs.Characters.{led_by, as_asked, character_turn};
-ghost use Rattle.built_characters.specs.declared.CharacterTurn.TheVariants.{Sound};
-ghost use Rattle.built_characters.specs.declared.Character.TheVariants.{Begun};
 
-use text_characters::lead_of;
+use text_characters::{Lead, lead_of};
 
 // The character in progress between two bytes: none; or so many bytes are still to come, the next from `low` to `high`.
-#[derive(Clone, Copy)]
+// No Option: `Whole` says what none of three numbers would not.
+#[derive(Clone, Copy, Debug, PartialEq, Eq)]
 pub enum Character {
     Whole,
     Begun { left: usize, low: u8, high: u8 },
 }
 
-// What one byte more does to it.
-#[derive(Clone, Copy)]
-pub enum CharacterTurn {
-    Sound(Character),
-    Broken,
-}
-
 impl Character {
-    // What a byte does.
-    pub fn turn(self, b: u8) -> CharacterTurn
+    // The character in progress after a byte; None where the byte may not stand there.
+    #[tactic(auto, unfolding(crate::specs::Characters::character_turn))]
+    pub fn turn(self, b: u8) -> Option<Character>
         ensures { result ≡ character_turn self b }
     {
         match self {
             Character::Whole => led_by(b),
             Character::Begun { left, low, high } => {
-                if b < low {
-                    return CharacterTurn::Broken;
+                if b < low || high < b {
+                    return None;
                 }
-                if high < b {
-                    return CharacterTurn::Broken;
-                }
-                CharacterTurn::Sound(as_asked(left))
+                Some(as_asked(left))
             }
         }
     }
 }
 
 // The first byte of a character, by the table of first bytes.
-fn led_by(b: u8) -> CharacterTurn
+#[tactic(auto, unfolding(crate::specs::Characters::led_by))]
+fn led_by(b: u8) -> Option<Character>
     ensures { result ≡ led_by b }
 {
-    let lead = lead_of(b);
-    let n = lead.0;
-    if n < 1 {
-        return CharacterTurn::Broken;
+    let Lead(n, low, high) = lead_of(b);
+    match n {
+        0 => None,
+        1 => Some(Character::Whole),
+        _ => Some(Character::Begun {
+            left: n - 1,
+            low,
+            high,
+        }),
     }
-    if n < 2 {
-        return CharacterTurn::Sound(Character::Whole);
-    }
-    asks_for(n - 1, lead.1, lead.2)
-}
-
-fn asks_for(left: usize, low: u8, high: u8) -> CharacterTurn
-    ensures { result ≡ Sound (Begun left low high) }
-{
-    CharacterTurn::Sound(Character::Begun { left, low, high })
 }
 
 // The character after one byte more that is as asked for.

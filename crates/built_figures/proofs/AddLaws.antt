@@ -1,12 +1,13 @@
 -- Numbers added one by one: the order does not matter, nothing added changes nothing, one more at a place is what a store there
 -- makes of it, and sums that fit are sums of numbers that fit.
 -- Assumes nothing.
-use Prim.Native.Nat.{ℕ, zero, suc, ◌+◌, ◌≤◌, ◌<◌, ◌^◌}
-use mathlib.Core.Path.{◌≡◌, refl, sym, ap, ◌∙◌}
-use mathlib.Core.Bool.{true, false, and-false}
+use Prim.Native.Nat.{ℕ, zero, suc, ◌+◌, ◌≤◌, ◌<◌, ◌^◌, ◌-◌}
+use mathlib.Core.Path.{◌≡◌, refl, sym, ap}
+use Rattle.std.specs.Prelude.{IsTrue, ◌↔◌, EachIndex}
+use mathlib.Core.Bool.{Bool, true, false}
 use mathlib.Core.List.{List, [], ◌∷◌, ◌++◌}
 use native.Mathlib.Omega.{arith}
-use borrow.Author.Tests.{leb-true, le-leb, lt-leb}
+use borrow.Author.Tests.{leb-true, le-leb}
 use Rattle.text_classes.proofs.Conds.{both_left, both_right}
 use lib.Dec.{leb}
 use lib.ListN.{length, get_or, set, take, replicate}
@@ -111,8 +112,16 @@ each_fits [] e i = omega arith
 each_fits (n ∷ ns) e zero = omega (arith, leb-true n greatest (both_left (leb n greatest) (all_fit ns) e))
 each_fits (n ∷ ns) e (suc i) = each_fits ns (both_right (leb n greatest) (all_fit ns) e) i
 
-pub one_not : (ns : List ℕ) (i : ℕ) → greatest < get_or ns i 0 → all_fit ns ≡ false
-unfolding all_fit
-one_not [] i h = absurd (omega arith)
-one_not (n ∷ ns) zero h = rw (lt-leb n greatest h)
-one_not (n ∷ ns) (suc i) h = rw (one_not ns i h) (and-false (leb n greatest))
+-- asked of each place: whether the second number is at most what the first one leaves
+pub fits_told : (xs ys : List ℕ) (r : Bool) → length xs ≡ length ys → ((i : ℕ) → get_or xs i 0 < 2 ^ 64)
+    → IsTrue r ↔ EachIndex xs (λ i. get_or ys i 0 ≤ greatest - get_or xs i 0) → r ≡ all_fit (added xs ys)
+fits_told xs ys true long small told =
+    sym (all_fit_lem (added xs ys)
+    (λ i h.
+    let there : i < length xs = omega (arith, added_length xs ys long) in
+    omega (arith, added_at xs ys i, told.0 refl i there, small i)))
+fits_told xs ys false long small told = go (all_fit (added xs ys)) refl
+  where
+    go : (t : Bool) → all_fit (added xs ys) ≡ t → false ≡ t
+    go true e = told.1 (λ i h. omega (arith, each_fits (added xs ys) e i, added_at xs ys i))
+    go false e = refl

@@ -4,9 +4,10 @@
 use Prim.Native.Nat.{ℕ, ◌+◌, ◌≤◌, ◌<◌}
 use mathlib.Core.Path.{◌≡◌, refl, sym, ap, ◌∙◌}
 use mathlib.Core.Bool.{Bool, false}
-use mathlib.Core.List.{List, [], ◌∷◌, ◌++◌, map-append}
+use mathlib.Core.List.{List, [], ◌++◌, map-append}
 use native.Mathlib.Omega.{arith}
 use lib.ListN.{length, get_or}
+use Rattle.std.specs.Prelude.{Some}
 use Rattle.text_classes.specs.Runs.{run}
 use Rattle.text_classes.proofs.RunLaws.{run_le, run_first}
 use Rattle.decoder_rules.specs.declared.Encoding.{Encoding}
@@ -65,12 +66,11 @@ plain_sound e s n is some =
       outside = refl;
     }
 
-pub escape_sound : (e : Encoding) (d : Bool) (s : List ℕ) (x : Escape) → x ≡ escape_at e s → 0 < x.take
-    → SoundAt e d s x.take
-escape_sound e d s x is some =
+pub escape_sound : (e : Encoding) (d : Bool) (s : List ℕ) (x : Escape) → Some x ≡ escape_at e s → SoundAt e d s x.take
+escape_sound e d s x is =
     record {
       piece = char_piece x.take x.char;
-      reads = λ at. rw is (good_escape_piece e d at s (rw is at some));
+      reads = λ at. good_escape_piece e d at s x is;
       takes = refl;
       clean = refl;
       outside = refl;

@@ -4,20 +4,19 @@
 use Prim.Native.Nat.{ℕ, zero, suc, ◌+◌, ◌≤◌, ◌<◌, ◌^◌}
 use mathlib.Core.Path.{◌≡◌, refl, sym, ap, ◌∙◌}
 use mathlib.Core.Bool.{Bool, true, false, cond}
-use mathlib.Core.List.{List, [], ◌∷◌, ◌++◌, map}
+use mathlib.Core.List.{List, [], ◌∷◌, ◌++◌}
 use native.Mathlib.Omega.{arith}
 use lib.Dec.{eqb}
-use lib.ListN.{length, get_or, set, replicate, length-append, length-replicate, get_or-append}
+use lib.ListN.{length, get_or, set}
 use lib.Seq.{get_or-set_same}
 use Rattle.lexer_token.specs.KindNumbers.{kind_number}
 use Rattle.lexer_token.specs.declared.TokenKind.{TokenKind}
 use Rattle.lexer_token.specs.declared.TokenKind.TheVariants.{Dot, Equals, Comma, LeftSquareBracket, RightSquareBracket, LeftCurlyBracket, RightCurlyBracket, Whitespace, Comment, Newline, LiteralString, BasicString, MlLiteralString, MlBasicString, Atom, Eof}
-use Rattle.lexer_token.specs.declared.Token.{Token}
 use Rattle.decoder_rules.specs.declared.DecodeError.{DecodeError}
 use Rattle.decoder_rules.specs.declared.DecodeError.TheVariants.{LiteralMissingQuote, LiteralInvalid, MlLiteralMissingQuote, LoneCr, MlLiteralInvalid, BasicMissingQuote, BasicInvalid, MissingEscape, FewDigits, NotScalar, MlBasicMissingQuote, MlBasicInvalid, MissingNewline, EmptyKey, KeyInvalid}
 use Rattle.decoder_rules.specs.Pieces.{error_number}
-use Rattle.built_figures.specs.Figures.{times, times_each, kind_numbers, error_numbers, figures_for, numbers_of, token_error_numbers, kinds_among, errors_among, figures_among, added}
-use Rattle.built_figures.specs.Counting.{Fit, Room, zeros, one_at, kind_slot, token_figures, error_figures}
+use Rattle.built_figures.specs.Figures.{times, times_each, kind_numbers, error_numbers, figures_for, added}
+use Rattle.built_figures.specs.Counting.{Room, zeros, one_at, kind_slot}
 use Rattle.built_figures.proofs.AddLaws.{added_zeros, added_assoc, added_at, added_length, added_parts, added_one, fit_left}
 
 -- ---- lists that are joined

@@ -1,10 +1,10 @@
 -- A document, from token to token: each step gives the next token of whole lexing, until all are given; what the tokens add, one
 -- after the other, makes the document's figures; and these fit into 64 bits.
 -- Assumes nothing.
-use Prim.Native.Nat.{ℕ, zero, suc, ◌+◌, ◌-◌, ◌*◌, ◌^◌, ◌≤◌, ◌<◌}
+use Prim.Native.Nat.{ℕ, zero, suc, ◌+◌, ◌-◌, ◌*◌, ◌≤◌, ◌<◌}
 use mathlib.Core.Path.{◌≡◌, refl, sym, ap, ◌∙◌}
 use mathlib.Core.Bool.{Bool, true, false, cond, false≢true}
-use mathlib.Core.List.{List, [], ◌∷◌, ◌++◌}
+use mathlib.Core.List.{List, [], ◌∷◌}
 use native.Mathlib.Decide.{dec_lt}
 use native.Mathlib.Omega.{arith}
 use lib.ListN.{length, get_or, drop, length-append, length-map, length-take}
@@ -14,24 +14,19 @@ use Rattle.lexer_token.specs.KindNumbers.{kind_number}
 use Rattle.lexer_token.specs.Encodings.{kind_encoding, encoding_by, encoding_of}
 use Rattle.lexer_token.specs.Records.{text_of}
 use Rattle.lexer_token.specs.declared.TokenKind.{TokenKind}
-use Rattle.lexer_token.specs.declared.KindEncoding.{KindEncoding}
-use Rattle.lexer_token.specs.declared.KindRead.TheVariants.{Kind}
 use Rattle.lexer_token.proofs.KindLaws.{kind_back}
 use Rattle.lexer.specs.declared.Cursor.{Cursor}
-use Rattle.lexer.specs.declared.Step.{Step}
-use Rattle.lexer.specs.declared.Step.TheVariants.{Token as Next, End, Refused}
+use Rattle.std.specs.Prelude.{Result, Ok, Err, Some, None}
 use Rattle.lexer.specs.Tokens.{token_at, eof_at, line_after, start_of, tokens_of}
-use Rattle.lexer.specs.Steps.{cursor_of, step_of}
+use Rattle.lexer.specs.Steps.{Step, cursor_of, step_of}
 use Rattle.lexer.proofs.TokenLaws.{end_at, tokens_on, tokens_step, tokens_end, token_fits_at, token_long_at, line_fits_at, start_fits, tokens_count}
 use Rattle.theorems_tokens.proofs.Lexing.{step_token, step_eof, step_end}
 use Rattle.text_refusals.specs.declared.Refusal.{Refusal}
 use Rattle.decoder_rules.specs.declared.Encoding.{Encoding}
-use Rattle.decoder_rules.specs.declared.Choice.{Choice}
-use Rattle.decoder_rules.specs.declared.Choice.TheVariants.{Known, Unknown}
 use Rattle.decoder_rules.specs.Encodings.{choice_by}
 use Rattle.decoder_rules.specs.Decoding.{errors_of, errors_by}
 use Rattle.decoder_rules.proofs.Bounds.{errors_few}
-use Rattle.built_figures.specs.Figures.{most, times, times_each, figures_for, numbers_of, token_error_numbers, kinds_among, errors_among, figures_among, added}
+use Rattle.built_figures.specs.Figures.{most, figures_for, token_error_numbers, kinds_among, errors_among, figures_among, added}
 use Rattle.built_figures.specs.Counting.{Fit, Room, zeros, token_figures, error_figures}
 use Rattle.built_figures.proofs.AddLaws.{added_comm, added_zeros, added_assoc}
 use Rattle.built_figures.proofs.FigureLaws.{figures_joined, figures_long, figures_most, none_added, room_first, room_rest}
@@ -61,9 +56,9 @@ module _ (doc : List ℕ) where
     pub inside : t.span.end ≤ length doc
 
   abbrev pub Told : Cursor → Step → Type 0
-  Told c (Next t n) = Given c t n
-  Told c End = tokens_left c ≡ []
-  Told c (Refused r) = ⊥
+  Told c (Ok (Some (t, n))) = Given c t n
+  Told c (Ok None) = tokens_left c ≡ []
+  Told c (Err r) = ⊥
 
 module _ (doc : List ℕ) (l : length doc ≤ limit) where
   at_end : (line : ℕ) → line ≤ length doc + 1 → (at : ℕ) → at ≡ length doc
@@ -121,9 +116,9 @@ figures_end doc = refl
 
 -- ---- they fit
 
-by_few : (c : Choice) (t : List ℕ) → length (errors_by c t) ≤ length t + 2
-by_few (Known e) t = errors_few e t
-by_few (Unknown r) t = omega arith
+by_few : (c : Result Encoding Refusal) (t : List ℕ) → length (errors_by c t) ≤ length t + 2
+by_few (Ok e) t = errors_few e t
+by_few (Err r) t = omega arith
 
 token_few : (doc : List ℕ) (t : Token) → length (token_error_numbers doc t) ≤ t.span.end - t.span.start + 2
 token_few doc t =
@@ -171,13 +166,20 @@ figures_fit doc l i =
 
 -- ---- a token that is counted
 
--- how its text is read, by the numbers that the code asks for
-pub choice_is : (k : TokenKind) (n : ℕ) (x : KindEncoding) (c : Choice) → n ≡ kind_number k → x ≡ encoding_of n → c ≡ choice_by 10 x.number
-    → choice_by 10 (kind_encoding k) ≡ c
+-- its encoding, by the number that the code asks for
+pub encoding_is : (k : TokenKind) (n : ℕ) (x : Result ℕ Refusal) → n ≡ kind_number k → x ≡ encoding_of n → x ≡ Ok (kind_encoding k)
 unfolding encoding_of
-choice_is k n x c by_number by_encoding by_choice =
-    let read : x ≡ encoding_by (Kind k) = by_encoding ∙ ap encoding_of by_number ∙ ap encoding_by (kind_back k) in
-    sym (by_choice ∙ ap (λ (y : KindEncoding). choice_by 10 y.number) read)
+encoding_is k n x by_number by_encoding = by_encoding ∙ ap encoding_of by_number ∙ ap encoding_by (kind_back k)
+
+pub err_not_ok : {A : Type 0} {r : Refusal} {a : A} → ◌≡◌ {A = Result A Refusal} (Err r) (Ok a) → ⊥
+err_not_ok e = let z : ◌≡◌ {A = ℕ} 0 1 = cc in omega arith
+
+pub read_is : (k : TokenKind) (n m : ℕ) (c : Result Encoding Refusal) → n ≡ kind_number k → Ok m ≡ encoding_of n → c ≡ choice_by 10 m
+    → choice_by 10 (kind_encoding k) ≡ c
+read_is k n m c by_number by_encoding by_choice =
+    let same : ◌≡◌ {A = Result ℕ Refusal} (Ok m) (Ok (kind_encoding k)) = encoding_is k n (Ok m) by_number by_encoding in
+    let read : m ≡ kind_encoding k = cc in
+    sym (by_choice ∙ ap (choice_by 10) read)
 
 module _ (doc : List ℕ) (t : Token) (counts : List ℕ) (room : Room counts (token_figures doc t)) where
   abbrev kind : List ℕ
@@ -198,19 +200,19 @@ module _ (doc : List ℕ) (t : Token) (counts : List ℕ) (room : Room counts (t
   rest : Room (added counts kind) (figures_for [] (token_error_numbers doc t))
   rest = room_rest counts kind (figures_for [] (token_error_numbers doc t)) (figures_long (kind_number t.kind ∷ []) []) split
 
-  errors_are : (c : Choice) → choice_by 10 (kind_encoding t.kind) ≡ c
+  errors_are : (c : Result Encoding Refusal) → choice_by 10 (kind_encoding t.kind) ≡ c
       → figures_for [] (token_error_numbers doc t) ≡ error_figures (errors_by c (text_of doc t))
-  errors_are c is = ap (λ (x : Choice). error_figures (errors_by x (text_of doc t))) is
+  errors_are c is = ap (λ (x : Result Encoding Refusal). error_figures (errors_by x (text_of doc t))) is
 
-  module _ (e : Encoding) (is : choice_by 10 (kind_encoding t.kind) ≡ Known e) where
+  module _ (e : Encoding) (is : choice_by 10 (kind_encoding t.kind) ≡ Ok e) where
     pub string_room : Room (added counts kind) (error_figures (errors_of e (text_of doc t)))
-    string_room = rw (errors_are (Known e) is) at rest
+    string_room = rw (errors_are (Ok e) is) at rest
 
     pub string_added : added (added counts kind) (error_figures (errors_of e (text_of doc t))) ≡ added counts (token_figures doc t)
-    string_added = rw (errors_are (Known e) is) at joined
+    string_added = rw (errors_are (Ok e) is) at joined
 
-  pub other_added : (r : Refusal) → choice_by 10 (kind_encoding t.kind) ≡ Unknown r → added counts kind ≡ added counts (token_figures doc t)
-  other_added r is = sym (none_added (added counts kind) rest.long) ∙ rw (errors_are (Unknown r) is) at joined
+  pub other_added : (r : Refusal) → choice_by 10 (kind_encoding t.kind) ≡ Err r → added counts kind ≡ added counts (token_figures doc t)
+  other_added r is = sym (none_added (added counts kind) rest.long) ∙ rw (errors_are (Err r) is) at joined
 
 -- ---- a document that is walked: the counts, with what is still to come, make the whole
 

@@ -1,13 +1,12 @@
 -- What the helpers of this crate's code say. Not to be believed: no promise of a public function cites it.
 -- Assumes nothing.
-use Rattle.std.specs.Prelude.{ℕ, ◌<◌, ◌^◌, ◌≡◌, Bool, false, List, [], ◌∷◌, length, get_or, set, replicate}
+use Rattle.std.specs.Prelude.{ℕ, ◌<◌, ◌^◌, ◌≡◌, Bool, false, List, [], ◌∷◌, length, get_or, set, replicate, None}
 use Rattle.lexer_token.specs.KindNumbers.{kind_number}
 use Rattle.lexer_token.specs.declared.TokenKind.{TokenKind}
 use Rattle.lexer_token.specs.declared.TokenKind.TheVariants.{Dot, Equals, Comma, LeftSquareBracket, RightSquareBracket, LeftCurlyBracket, RightCurlyBracket, Whitespace, Comment, Newline, LiteralString, BasicString, MlLiteralString, MlBasicString, Atom, Eof}
 use Rattle.lexer_token.specs.declared.Token.{Token}
 use Rattle.decoder_rules.specs.declared.Encoding.{Encoding}
 use Rattle.decoder_rules.specs.declared.Piece.{Piece}
-use Rattle.decoder_rules.specs.declared.Verdict.TheVariants.{Clean}
 use Rattle.decoder_rules.specs.Bodies.{piece_of}
 use Rattle.built_figures.specs.Figures.{added, figures_for, numbers_of, token_error_numbers}
 
@@ -59,5 +58,5 @@ pub record SoundAt (e : Encoding) (d : Bool) (s : List ℕ) (n : ℕ) : Type 0 w
   pub piece : Piece
   pub reads : (at : ℕ) → piece_of e d at s ≡ piece
   pub takes : piece.take ≡ n
-  pub clean : piece.verdict ≡ Clean
+  pub clean : piece.verdict ≡ None
   pub outside : piece.dropping ≡ false

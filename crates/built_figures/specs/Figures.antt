@@ -1,17 +1,16 @@
 -- RULE. Figures over documents: a document adds its counts to the totals of those before it. Totals are thirty-three numbers:
 -- the tokens of each kind, in the order of the table of kinds; the errors of each number, 1 to 15, over all string tokens,
 -- read as TOML 1.0; and the documents refused with 1 and with 2.
-use Rattle.std.specs.Prelude.{ℕ, suc, ◌+◌}
+use Rattle.std.specs.Prelude.{ℕ, suc, ◌+◌, Result, Ok, Err, ⊤}
 use mathlib.Core.{Bool.Bool, Bool.true, Bool.cond, Bool.◌&&◌, List.List, List.[], List.◌∷◌, List.◌++◌, List.map}
 use lib.{ListN.length, ListN.get_or, ListN.replicate, Dec.ltb, Dec.leb, Dec.eqb}
-use Rattle.text_refusals.specs.{Refusals.greatest, declared.Refusal.TheVariants.TotalFull}
+use Rattle.text_refusals.specs.{Refusals.greatest, declared.Refusal.Refusal, declared.Refusal.TheVariants.TotalFull}
 use Rattle.text.specs.{CheckMeans.check_of}
-use Rattle.text.specs.declared.{utf8.Utf8Check.Utf8Check, utf8.Utf8Check.TheVariants.Valid, utf8.Utf8Check.TheVariants.Refused as Broken}
 use Rattle.lexer_token.specs.{KindNumbers.kind_number, KindNumbers.kinds, Encodings.kind_encoding, Records.text_of}
 use Rattle.lexer_token.specs.declared.{Token.Token}
 use Rattle.lexer.specs.{Tokens.tokens_of}
 use Rattle.decoder_rules.specs.{Encodings.choice_by, Decoding.errors_by}
-use Rattle.built_figures.specs.declared.{Adding.Adding, Adding.TheVariants.Added, Adding.TheVariants.TooLong, Adding.TheVariants.Refused, Tallied.Tallied}
+use Rattle.built_figures.specs.declared.{NotAdded.NotAdded, NotAdded.TheVariants.TooLong, NotAdded.TheVariants.Refused, Tallied.Tallied}
 
 -- the most bytes that a document may have here
 abbrev pub most : ℕ
@@ -65,20 +64,20 @@ figures_among doc ts = figures_for (kinds_among ts) (errors_among doc ts)
 abbrev pub refused_figures : ℕ → ℕ → List ℕ
 refused_figures broken long = replicate 31 0 ++ (broken ∷ long ∷ [])
 
-abbrev pub figures_by : Utf8Check → List ℕ → List ℕ
-figures_by (Broken r) doc = refused_figures 1 0
-figures_by Valid doc = figures_among doc (tokens_of doc)
+abbrev pub figures_by : Result ⊤ Refusal → List ℕ → List ℕ
+figures_by (Err r) doc = refused_figures 1 0
+figures_by (Ok done) doc = figures_among doc (tokens_of doc)
 
 unfoldable pub figures_of : List ℕ → List ℕ
 figures_of doc = cond (ltb most (length doc)) (refused_figures 0 1) (figures_by (check_of doc) doc)
 
 -- what becomes of it, where that can be added: 2 comes before 1
-abbrev pub verdict_by : Utf8Check → Adding
-verdict_by (Broken r) = Refused r
-verdict_by Valid = Added
+abbrev pub verdict_by : Result ⊤ Refusal → Result ⊤ NotAdded
+verdict_by (Err r) = Err (Refused r)
+verdict_by (Ok done) = Ok tt
 
-unfoldable pub verdict_on : List ℕ → Adding
-verdict_on doc = cond (ltb most (length doc)) TooLong (verdict_by (check_of doc))
+unfoldable pub verdict_on : List ℕ → Result ⊤ NotAdded
+verdict_on doc = cond (ltb most (length doc)) (Err TooLong) (verdict_by (check_of doc))
 
 -- ---- the totals afterwards
 
@@ -98,4 +97,4 @@ unfoldable pub tallied : List ℕ → List ℕ → Tallied
 tallied doc totals =
     let sums : List ℕ = added totals (figures_of doc) in
     cond (all_fit sums) (record { answer = verdict_on doc; totals = sums })
-    (record { answer = Refused TotalFull; totals = totals })
+    (record { answer = Err (Refused TotalFull); totals = totals })

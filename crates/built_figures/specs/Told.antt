@@ -1,32 +1,32 @@
 -- FOLLOWS. The numbers in which the answer of `tally` is told: each follows from the answer, and its promise says besides what
 -- they come to for the arguments. Proved by `numbers` in proofs/NumberLaws.antt.
 -- Assumes nothing.
-use Rattle.std.specs.Prelude.{ℕ}
+use Rattle.std.specs.Prelude.{ℕ, Result, Ok, Err, ⊤}
 use mathlib.Core.{Bool.Bool, Bool.cond, List.List}
 use lib.{Dec.ltb, Dec.eqb, ListN.length, ListN.drop}
 use Rattle.text_refusals.specs.{Refusals.greatest, Refusals.refusal_number, Refusals.refusal_value, Refusals.refusal_length}
 use Rattle.text_scalars.specs.{Utf8Read.valid_prefix}
 use Rattle.text_characters.specs.{Lead.fault_len}
 use Rattle.built_figures.specs.{Figures.most, Figures.figures_of, Figures.added, Figures.all_fit}
-use Rattle.built_figures.specs.declared.{Adding.Adding, Adding.TheVariants.Added, Adding.TheVariants.TooLong, Adding.TheVariants.Refused}
+use Rattle.built_figures.specs.declared.{NotAdded.NotAdded, NotAdded.TheVariants.TooLong, NotAdded.TheVariants.Refused}
 
 -- which answer it is: 0 where the document was added, else the refusal's number
-abbrev pub tally_number : Adding → ℕ
-tally_number Added = 0
-tally_number TooLong = 2
-tally_number (Refused r) = refusal_number r
+abbrev pub tally_number : Result ⊤ NotAdded → ℕ
+tally_number (Ok done) = 0
+tally_number (Err TooLong) = 2
+tally_number (Err (Refused r)) = refusal_number r
 
 -- the number returned: with 2 it is the most bytes that are taken here, and not the limit
-abbrev pub tally_value : Adding → ℕ
-tally_value Added = 0
-tally_value TooLong = most
-tally_value (Refused r) = refusal_value r
+abbrev pub tally_value : Result ⊤ NotAdded → ℕ
+tally_value (Ok done) = 0
+tally_value (Err TooLong) = most
+tally_value (Err (Refused r)) = refusal_value r
 
 -- the second number returned with refusal 1, the length of the faulty sequence; else zero
-abbrev pub tally_length : Adding → ℕ
-tally_length Added = 0
-tally_length TooLong = 0
-tally_length (Refused r) = refusal_length r
+abbrev pub tally_length : Result ⊤ NotAdded → ℕ
+tally_length (Ok done) = 0
+tally_length (Err TooLong) = 0
+tally_length (Err (Refused r)) = refusal_length r
 
 -- what they come to for a document and totals: 13 where a sum does not fit, then 2, then 1, else 0
 abbrev sums_fit : List ℕ → List ℕ → Bool

@@ -14,13 +14,11 @@ ghost use Rattle.built_figures.specs.Told.{tally_number, tally_value, tally_leng
 ghost use Rattle.built_figures.specs.Counting.{Fit, Room, zeros, one_at, kind_slot, token_figures, error_figures, SoundAt};
 
 use decoder_marks::{choice_by, open_text};
-use decoder_pieces::{Body, BodyStep, escape_at};
-use decoder_rules::{Choice, Edition, Encoding, Verdict};
+use decoder_pieces::{Body, escape_at};
+use decoder_rules::{Edition, Encoding, Wrong};
 use decoder_scans::plain_run;
-use lexer::{Cursor, Step};
+use lexer::{Cursor, Ranges};
 use lexer_token::{Token, TokenKind};
-use table_classes::Engine;
-use text::Utf8Check;
 use text_refusals::Refusal;
 
 // Thirty-three numbers: tokens of each kind, in the order of the table of kinds; errors 1 to 15; and the documents
@@ -37,23 +35,19 @@ pub const NOT_UTF8: usize = 31;
 
 pub const TOO_LONG: usize = 32;
 
-const LARGEST: u64 = 18446744073709551615;
-
-// What became of a document; beside each, its number, and after the semicolon the value returned.
-#[derive(Clone, Copy)]
-pub enum Adding {
-    // 0; 0
-    Added,
+// Why a document was not added; beside each, its number, and after the semicolon the value returned.
+#[derive(Clone, Copy, Debug, PartialEq, Eq)]
+pub enum NotAdded {
     // 2; 65,536, the most bytes that are taken here
     TooLong,
     // 1 and 13, each with its own value
     Refused(Refusal),
 }
 
-// The totals afterwards beside that.
+// What became of a document, and the totals afterwards.
 #[derive(Clone, Copy)]
 pub struct Tallied {
-    pub answer: Adding,
+    pub answer: Result<(), NotAdded>,
     pub totals: Totals,
 }
 
@@ -69,7 +63,7 @@ pub fn tally(doc: &[u8], totals: Totals) -> Tallied
     let verdict = count_in(doc, &mut figures);
     if !fits(&totals, &figures) {
         return Tallied {
-            answer: Adding::Refused(Refusal::TotalFull),
+            answer: Err(NotAdded::Refused(Refusal::TotalFull)),
             totals,
         };
     }
@@ -82,21 +76,21 @@ pub fn tally(doc: &[u8], totals: Totals) -> Tallied
 }
 
 // What a document adds to the totals, in place of zeros, and what becomes of it where that can be added.
-fn count_in(doc: &[u8], figures: &mut [u64]) -> Adding
+fn count_in(doc: &[u8], figures: &mut [u64]) -> Result<(), NotAdded>
     requires { figures.old ≡ zeros }
     ensures verdict { result ≡ verdict_on doc.now }
     ensures figures { figures.new ≡ figures_of doc.now }
 {
     if MOST < doc.len() {
         figures[TOO_LONG] = 1;
-        return Adding::TooLong;
+        return Err(NotAdded::TooLong);
     }
-    if let Utf8Check::Refused(refusal) = text::check_utf8(doc) {
+    if let Err(refusal) = text::check_utf8(doc) {
         figures[NOT_UTF8] = 1;
-        return Adding::Refused(refusal);
+        return Err(NotAdded::Refused(refusal));
     }
     count_tokens(doc, figures);
-    Adding::Added
+    Ok(())
 }
 
 // Does each sum of two numbers at the same place fit into 64 bits?
@@ -104,14 +98,10 @@ fn fits(totals: &[u64], figures: &[u64]) -> bool
     requires { length totals.now ≡ length figures.now }
     ensures { result ≡ all_fit (added totals.now figures.now) }
 {
-    let mut i = 0;
-    while i < totals.len() {
-        if LARGEST - totals[i] < figures[i] {
-            return false;
-        }
-        i += 1;
-    }
-    true
+    totals
+        .iter()
+        .zip(figures)
+        .all(|(total, figure)| *figure <= u64::MAX - *total)
 }
 
 // Adds the figures to the totals, number by number.
@@ -119,10 +109,8 @@ fn add_in(totals: &mut [u64], figures: &[u64])
     requires { (length totals.old ≡ length figures.now) × Fit (added totals.old figures.now) }
     ensures { totals.new ≡ added totals.old figures.now }
 {
-    let mut i = 0;
-    while i < totals.len() {
-        totals[i] += figures[i];
-        i += 1;
+    for (i, figure) in figures.iter().enumerate() {
+        totals[i] += *figure;
     }
 }
 
@@ -136,16 +124,10 @@ fn count_tokens(doc: &[u8], figures: &mut [u64])
         line: 1,
         ended: false,
     };
-    loop {
-        match cursor.step_by(Engine::Ranges, doc) {
-            Step::Token(token, next) => {
-                count_token(doc, token, figures);
-                cursor = next;
-            }
-            Step::End => return,
-            // never: such a document is short enough, and the cursor in place
-            Step::Refused(_) => return,
-        }
+    // no step is refused: such a document is short enough, and the cursor in place
+    while let Ok(Some((token, next))) = cursor.step_by::<Ranges>(doc) {
+        count_token(doc, token, figures);
+        cursor = next;
     }
 }
 
@@ -160,8 +142,10 @@ fn count_token(doc: &[u8], token: Token, figures: &mut [u64])
     let start = token.span.start;
     let end = token.span.end;
     count_kind(kind, figures);
-    let encoding = TokenKind::encoding(kind.number());
-    if let Choice::Known(e) = choice_by(Edition::TOML_10, encoding.number) {
+    let Ok(encoding) = TokenKind::encoding(kind.number()) else {
+        return;
+    };
+    if let Ok(e) = choice_by(Edition::TOML_10, encoding) {
         count_errors(e, &doc[start..end], figures);
     }
 }
@@ -181,7 +165,7 @@ fn count_one(slot: usize, figures: &mut [u64])
     figures[slot] += 1;
 }
 
-// Where a kind stands in the table of kinds.
+// Where a kind stands in the table of kinds: edit eof_with_the_atoms changes an arm, and a kind's own number is another.
 fn slot_of(kind: TokenKind) -> usize
     ensures { result ≡ kind_slot kind }
 {
@@ -226,17 +210,18 @@ fn count_body(e: Encoding, start: Body, text: &[u8], figures: &mut [u64])
     ensures { figures.new ≡ added figures.old (error_figures (errors_left e text.now start)) }
 {
     let mut body = start;
+    // no iterator: a turn goes over a piece, or over bytes that surely have no error
     while body.at < body.end {
         let at = body.at;
         let end = body.end;
         let n = sound_at(e, body.dropping, &text[at..end]);
         if 0 < n {
-            body = past(body, n);
+            body = body.past(n);
             continue;
         }
         match body.step(e, text) {
-            BodyStep::End => break,
-            BodyStep::Piece(p, next) => {
+            None => break,
+            Some((p, next)) => {
                 let verdict = p.verdict;
                 count_error(verdict, figures);
                 body = next;
@@ -246,17 +231,12 @@ fn count_body(e: Encoding, start: Body, text: &[u8], figures: &mut [u64])
 }
 
 // Counts the error that a verdict has, if any.
-fn count_error(verdict: Verdict, figures: &mut [u64])
+fn count_error(verdict: Option<Wrong>, figures: &mut [u64])
     requires { Room figures.old (error_figures (notes_of verdict)) }
     ensures { figures.new ≡ added figures.old (error_figures (notes_of verdict)) }
 {
-    match verdict {
-        Verdict::Clean => (),
-        Verdict::Wrong {
-            error,
-            start: _,
-            end: _,
-        } => count_one(BEFORE_ERRORS + error.number(), figures),
+    if let Some(wrong) = verdict {
+        count_one(BEFORE_ERRORS + wrong.error.number(), figures);
     }
 }
 
@@ -271,17 +251,8 @@ fn sound_at(e: Encoding, dropping: bool, s: &[u8]) -> usize
             return n;
         }
     }
-    escape_at(e, s).take
-}
-
-// The body after n of its bytes, where no line-ending escape goes on.
-fn past(body: Body, n: usize) -> Body
-    requires { body.at + n < 2 ^ 64 }
-    ensures { result ≡ body_after body (copy_piece n) }
-{
-    Body {
-        at: body.at + n,
-        end: body.end,
-        dropping: false,
+    match escape_at(e, s) {
+        Some(escape) => escape.take,
+        None => 0,
     }
 }

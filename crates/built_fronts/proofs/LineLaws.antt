@@ -1,10 +1,11 @@
 -- What going over a string on one line keeps: each byte that stands for itself, and each escape of one letter, leaves its end where it
 -- was, and is no error.
 -- Assumes nothing.
-use Rattle.std.proofs.Common.{◌≡◌, ℕ, zero, suc, ◌+◌, ◌-◌, ◌%◌, ◌^◌, ◌<◌, ◌≤◌, Bool, true, false, not, ◌&&◌, eqb, ltb, leb, List, [], ◌∷◌, length, get_or, take, drop, refl, ap, ◌∙◌, inl, inr, add-zero, zero-add, arith, length-drop, drop-cons, ltb-true, lt-ltb, ne_eqb, le-leb, leb-true}
+use Rattle.std.proofs.Common.{◌≡◌, ℕ, zero, suc, Option, Some, None, IfSome, ◌+◌, ◌-◌, ◌%◌, ◌^◌, ◌<◌, ◌≤◌, Bool, true, false, not, ◌&&◌, eqb, ltb, leb, List, [], ◌∷◌, length, get_or, take, drop, refl, ap, ◌∙◌, inl, inr, add-zero, zero-add, arith, length-drop, drop-cons, ltb-true, ne_eqb, leb-true}
 use borrow.Author.Tests.{eqb-false, not-true}
 use Rattle.text_classes.specs.Classes.{literal_char, basic_unescaped}
 use Rattle.text_classes.specs.Runs.{run}
+use Rattle.text_classes.proofs.ByteTable.{classes_agree}
 use Rattle.text_classes.proofs.Conds.{not_both, both_left, both_right}
 use Rattle.text_classes.proofs.RunLaws.{run_le, run_step, run_stop}
 use Rattle.text_characters.specs.Lead.{WideAt}
@@ -55,13 +56,10 @@ plain_in : (v : Edition) (line : Line) (b : ℕ) → plain_of line b ≡ true �
 plain_in v Literal b h = h
 plain_in v Basic b h = h
 
--- the tests by which such ASCII is found: it is neither of two bytes, and a sum says that it is printable
-pub clear_tests : (q z b sum : ℕ) → b < 2 ^ 8 → sum ≡ (b + 0x81) % 2 ^ 8 → eqb b q ≡ false → eqb b z ≡ false → 0xA1 ≤ sum
-    → clear_byte q z b ≡ true
-clear_tests q z b sum byte is first second h =
-    let low : 0x20 ≤ b = omega arith in
-    let high : b < 0x7F = omega arith in
-    rw (le-leb 0x20 b low, lt-ltb b 0x7F high, first, second)
+-- the tests by which such ASCII is found: a sum says that it is printable
+pub clear_sum : (b sum : ℕ) → b < 2 ^ 8 → sum ≡ (b + 0x81) % 2 ^ 8 → leb 0xA1 sum ≡ (leb 0x20 b && ltb b 0x7F)
+clear_sum b sum byte is =
+    ap (leb 0xA1) is ∙ classes_agree (λ n. leb 0xA1 ((n + 0x81) % 2 ^ 8)) (λ n. leb 0x20 n && ltb n 0x7F) 0 256 tt b (omega arith) byte
 
 clear_is : (q z b : ℕ) → clear_byte q z b ≡ true → Clear q z b
 clear_is q z b c =
@@ -129,17 +127,17 @@ drop_two doc i h is =
     let next : suc (i + 1) ≡ i + 2 = omega arith in
     drop-cons doc i 0 (omega arith) ∙ rw (is, place, drop-cons doc (i + 1) 0 h, next)
 
-goes_letter : (doc : List ℕ) (i : ℕ) → i + 1 < length doc → get_or doc i 0 ≡ 0x5C → 0 < letter_char (get_or doc (i + 1) 0) → Goes Basic doc i (i + 2)
+goes_letter : (doc : List ℕ) (i : ℕ) → i + 1 < length doc → get_or doc i 0 ≡ 0x5C → (x : ℕ) → letter_char (get_or doc (i + 1) 0) ≡ Some x → Goes Basic doc i (i + 2)
 unfolding letter_char
-goes_letter doc i h is letter =
+goes_letter doc i h is x letter =
     let b = get_or doc (i + 1) 0 in
-    let no_lf : b ≡ 0x0A → ⊥ = λ e. let z : 0 < letter_char 0x0A = rw e at letter in omega (arith, z) in
+    let no_lf : b ≡ 0x0A → ⊥ = λ e. let z : letter_char 0x0A ≡ Some x = rw e at letter in cc in
     let two : i + 2 - i ≡ 2 = omega arith in
     record {
       same = (omega arith, omega (arith, line_escaped doc i h is no_lf));
       clean = λ v at n.
           let size : 2 + n ≡ suc (suc n) = omega arith in
-          rw (two, size, drop_two doc i h is) (letter_errors v at b (take n (drop (i + 2) doc)) letter);
+          rw (two, size, drop_two doc i h is) (letter_errors v at b x (take n (drop (i + 2) doc)) letter);
     }
 
 -- ---- over whole characters
@@ -159,14 +157,19 @@ module _ (line : Line) (doc : List ℕ) where
   sound_plain i h low own =
       record { along = along_ascii doc i i h low (omega arith, omega arith, refl); goes = goes_byte line doc i h own }
 
-  pub sound_wide : (i n : ℕ) → 0 < n → WideAt doc i n → Sound line doc i (i + n)
-  sound_wide i n some wide =
-      let fits = (wide some).0 in
-      let char = (wide some).1 in
+  pub sound_wide : (i n : ℕ) → WideAt doc i (Some n) → Sound line doc i (i + n)
+  sound_wide i n wide =
+      let fits = wide.0 in
+      let char = wide.1 in
       record {
         along = along_whole doc i i n fits char (omega arith, omega arith, refl);
         goes = goes_over line doc n i fits (λ k l. plain_high line (get_or doc (i + k) 0) (wide_high doc i n k char l));
       }
+
+  -- where one may be answered
+  pub sound_wide_if : (i : ℕ) (n : Option ℕ) → WideAt doc i n → IfSome n (λ size. Sound line doc i (i + size))
+  sound_wide_if i (Some n) wide = sound_wide i n wide
+  sound_wide_if i None wide = tt
 
   -- over n bytes of such ASCII
   abbrev clear : ℕ → Bool
@@ -188,10 +191,17 @@ module _ (line : Line) (doc : List ℕ) where
           rw place (sound_join i (i + 1) (i + 1 + n) first (more (omega arith) (omega (arith, run_step clear doc i here own))))
       go false own more = absurd (omega (arith, run_stop clear doc i here own))
 
-pub sound_letter : (doc : List ℕ) (i : ℕ) → i + 1 < length doc → get_or doc i 0 ≡ 0x5C → 0 < letter_char (get_or doc (i + 1) 0) → Sound Basic doc i (i + 2)
-sound_letter doc i h is letter =
+-- up to a place that its run reaches
+pub sound_to : (line : Line) (doc : List ℕ) (q z start r : ℕ) → q ≡ mark_of line → z ≡ stop_of line → start ≤ length doc → start ≤ r
+    → r ≤ start + run (clear_byte q z) (drop start doc) → Sound line doc start r
+sound_to line doc q z start r e f h l reached =
+    let place : start + (r - start) ≡ r = omega arith in
+    rw place at (sound_over line doc (r - start) start h (omega (arith, rw (e, f) at reached)))
+
+pub sound_letter : (doc : List ℕ) (i : ℕ) → i + 1 < length doc → get_or doc i 0 ≡ 0x5C → (x : ℕ) → letter_char (get_or doc (i + 1) 0) ≡ Some x → Sound Basic doc i (i + 2)
+sound_letter doc i h is x letter =
     let b = get_or doc (i + 1) 0 in
     let place : i + 1 + 1 ≡ i + 2 = omega arith in
-    let low : b < 0x80 = (stands_fit Toml10 (b ∷ []) (letter_char b) (letter_stands Toml10 b letter)).0.low in
+    let low : b < 0x80 = (stands_fit Toml10 (b ∷ []) x (letter_stands Toml10 b x letter)).0.low in
     let one = along_ascii doc i i (omega arith) (omega arith) (omega arith, omega arith, refl) in
-    record { along = rw place at (along_ascii doc i (i + 1) h low one); goes = goes_letter doc i h is letter }
+    record { along = rw place at (along_ascii doc i (i + 1) h low one); goes = goes_letter doc i h is x letter }

@@ -3,64 +3,54 @@
 // `lexer_scans`, Decoding.antt of crate `decoder_rules`.
 #![tactic(auto)]
 
-ghost use Rattle.std.specs.Prelude.{◌≡◌, ◌+◌, ◌<◌, ◌≤◌, true, false, length, drop};
+ghost use Rattle.std.specs.Prelude.{◌≡◌, ◌+◌, ◌≤◌, length, drop, IfSome};
+ghost use Rattle.std.proofs.Common.{refl, ltb-true};
 ghost use Rattle.text_classes.specs.Runs.{run};
-ghost use Rattle.text_classes.proofs.RunLaws.{Block};
 ghost use Rattle.built_fronts.specs.Fronts.{ascii_atom, mark_of, stop_of, plain_of, clear_byte, Sound};
 
 use decoder_rules::{Edition, Encoding};
 use decoder_scans::is_plain;
 use decoder_short::letter_char;
+use lexer_scans::{Passed, find_in_blocks};
 use std::num::wrapping_add_u8;
 use text_characters::wide_at;
-use text_classes::{APOSTROPHE, ESCAPE, QUOTATION_MARK, is_at, is_token_start};
+use text_classes::{APOSTROPHE, ByteSet, ESCAPE, QUOTATION_MARK, is_at, is_token_start, run_of};
 
 // Over the ASCII bytes of an atom, four to a turn as long as so many are left.
+// Four to a turn by hand: with `run_of` alone an atom takes up to a quarter more instructions.
 pub fn atom_front(doc: &[u8], start: usize) -> usize
     ensures { result ≡ start + run ascii_atom (drop start doc.now) }
 {
     // from a place before `last` on there are four bytes
-    let last = if doc.len() < 4 { 0 } else { doc.len() - 3 };
+    let last = doc.len().saturating_sub(3);
     let mut i = start;
     while i < last {
-        if !is_ascii_atom(doc[i]) {
+        if !AsciiAtom.holds(doc[i]) {
             return i;
         }
-        if !is_ascii_atom(doc[i + 1]) {
+        if !AsciiAtom.holds(doc[i + 1]) {
             return i + 1;
         }
-        if !is_ascii_atom(doc[i + 2]) {
+        if !AsciiAtom.holds(doc[i + 2]) {
             return i + 2;
         }
-        if !is_ascii_atom(doc[i + 3]) {
+        if !AsciiAtom.holds(doc[i + 3]) {
             return i + 3;
         }
         i += 4;
     }
-    atom_rest(doc, i)
+    run_of(AsciiAtom, doc, i)
 }
 
-// The same, one by one.
-fn atom_rest(doc: &[u8], start: usize) -> usize
-    ensures { result ≡ start + run ascii_atom (drop start doc.now) }
-{
-    let mut i = start;
-    while i < doc.len() {
-        if !is_ascii_atom(doc[i]) {
-            return i;
-        }
-        i += 1;
-    }
-    i
-}
+#[derive(Clone, Copy)]
+struct AsciiAtom;
 
-fn is_ascii_atom(b: u8) -> bool
-    ensures { result ≡ ascii_atom b }
-{
-    if is_token_start(b) {
-        return false;
+impl ByteSet for AsciiAtom {
+    ghost holds = { λ _. ascii_atom };
+
+    fn holds(self, b: u8) -> bool {
+        !is_token_start(b) && b < 0x80
     }
-    b < 0x80
 }
 
 // The strings on one line.
@@ -80,6 +70,7 @@ pub fn line_front(line: Line, doc: &[u8], start: usize) -> usize
         return start;
     }
     let mut i = start;
+    // no iterator: a turn goes over whole blocks, and then over a few characters
     loop {
         i = clear_blocks(line, doc, i);
         if is_at(doc, i, mark_of(line)) {
@@ -132,55 +123,50 @@ fn few_chars(line: Line, doc: &[u8], start: usize) -> usize
     ensures { Sound line doc.now start result }
 {
     let mut i = start;
-    let mut n: usize = 0;
-    while n < 16 {
-        let size = char_front(line, doc, i);
-        if size == 0 {
+    for _ in 0..16 {
+        let Some(size) = char_front(line, doc, i) else {
             return i;
-        }
+        };
         i += size;
-        n += 1;
     }
     i
 }
 
-// How many bytes the character at `i` has that stands for itself, or the escape of one letter; 0 where there is neither.
-fn char_front(line: Line, doc: &[u8], i: usize) -> usize
-    ensures { 0 < result → Sound line doc.now i (i + result) }
+// How many bytes the character at `i` has that stands for itself, or the escape of one letter.
+fn char_front(line: Line, doc: &[u8], i: usize) -> Option<usize>
+    ensures { IfSome result (λ size. Sound line doc.now i (i + size)) }
 {
     if doc.len() <= i {
-        return 0;
+        return None;
     }
     let b = doc[i];
     if 0x80 <= b {
         return wide_at(doc, i);
     }
     if is_plain_in(line, b) {
-        return 1;
+        return Some(1);
     }
     match line {
-        Line::Literal => 0,
+        Line::Literal => None,
         Line::Basic => letter_front(doc, i),
     }
 }
 
-// The escape of one letter at `i`: 2, or 0 where none stands there.
-fn letter_front(doc: &[u8], i: usize) -> usize
-    ensures { 0 < result → Sound Line.Basic doc.now i (i + result) }
+// The two bytes of the escape of one letter at `i`.
+fn letter_front(doc: &[u8], i: usize) -> Option<usize>
+    ensures { IfSome result (λ size. Sound Line.Basic doc.now i (i + size)) }
 {
     if doc.len() < 2 {
-        return 0;
+        return None;
     }
     if doc.len() - 2 < i {
-        return 0;
+        return None;
     }
     if doc[i] != ESCAPE {
-        return 0;
+        return None;
     }
-    if letter_char(doc[i + 1]) == 0 {
-        return 0;
-    }
-    2
+    letter_char(doc[i + 1])?;
+    Some(2)
 }
 
 // Over plain ASCII as long as whole blocks are left: a place before which all is.
@@ -188,53 +174,38 @@ fn clear_blocks(line: Line, doc: &[u8], start: usize) -> usize
     requires { start ≤ length doc.now }
     ensures { Sound line doc.now start result }
 {
-    if doc.len() < 48 {
-        return start;
+    let clear = ClearByte {
+        mark: mark_of(line),
+        stop: stop_of(line),
+    };
+    match find_in_blocks(clear, doc, start) {
+        Ok(found) => found,
+        Err(rest) => rest,
     }
-    let last = doc.len() - 48;
-    let mut i = start;
-    while i <= last {
-        let n = clear_bytes(mark_of(line), stop_of(line), doc, i);
-        if n < 48 {
-            return i + n;
-        }
-        i += 48;
+}
+
+// Printable ASCII, and neither of two bytes.
+#[derive(Clone, Copy)]
+struct ClearByte {
+    mark: u8,
+    stop: u8,
+}
+
+impl ByteSet for ClearByte {
+    ghost holds = { λ set. clear_byte set.mark set.stop };
+
+    // Printable ASCII is told by one comparison: with 81 added DEL is 00, those below 20 and those from 80 on are A0 at the
+    // most, and the others above.
+    fn holds(self, b: u8) -> bool {
+        (0xA1 <= wrapping_add_u8(b, 0x81)) & (b != self.mark) & (b != self.stop)
     }
-    i
 }
 
-// How many bytes of the block from i on stand before the first that is q, is z or is not printable ASCII: the least of their places,
-// counted in a byte, so that the compiler takes sixteen at once. In shorter blocks it takes them one by one.
-fn clear_bytes(q: u8, z: u8, doc: &[u8], i: usize) -> usize
-    requires { i + 48 ≤ length doc.now }
-    ensures { (result ≤ 48) × Block (clear_byte q z) doc.now i result }
-{
-    let mut first: u8 = 48;
-    let mut k: u8 = 0;
-    while k < 48 {
-        first = least(place_of(q, z, doc[i + k as usize], k), first);
-        k += 1;
-    }
-    first as usize
-}
+impl Passed for ClearByte {
+    // in shorter blocks the compiler takes the bytes one by one
+    const BLOCK: u8 = 48;
 
-// The place k where b is such a byte, else one beyond the block. Printable ASCII is told by one comparison: with 81 added DEL
-// is 00, those below 20 and those from 80 on are A0 at the most, and the others above.
-fn place_of(q: u8, z: u8, b: u8, k: u8) -> u8
-    ensures { k < result → clear_byte q z b ≡ true }
-{
-    let other = place_if(wrapping_add_u8(b, 0x81) < 0xA1, k);
-    least(place_if(b == q, k), least(place_if(b == z, k), other))
-}
+    ghost BLOCK = { 48 };
 
-fn place_if(met: bool, k: u8) -> u8
-    ensures { k < result → met ≡ false }
-{
-    if met { k } else { 0xFF }
-}
-
-fn least(a: u8, b: u8) -> u8
-    ensures { (result ≤ a) × (result ≤ b) }
-{
-    if a < b { a } else { b }
+    ghost some = { ltb-true 0 48 refl };
 }

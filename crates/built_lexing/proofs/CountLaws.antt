@@ -1,10 +1,13 @@
 -- A part gives at most one token more than it has bytes: so many records always suffice.
 -- Assumes nothing.
-use Prim.Native.Nat.{ℕ, zero, suc, ◌+◌, ◌≤◌, ◌<◌}
-use mathlib.Core.Path.{◌≡◌, refl, sym, ap, ◌∙◌}
-use mathlib.Core.Bool.{Bool, true, false, cond}
-use mathlib.Core.List.{List, [], ◌∷◌, ◌++◌}
+use Prim.Native.Nat.{ℕ, ◌+◌, ◌≤◌}
+use mathlib.Core.Path.{◌≡◌, refl}
+use mathlib.Core.Bool.{true, false}
+use mathlib.Core.List.{List, [], ◌∷◌}
 use native.Mathlib.Omega.{arith}
+use Rattle.std.specs.Prelude.{Option, Some, None}
+use Rattle.std.specs.Option.{is_some}
+use Rattle.lexer_token.specs.declared.Token.{Token}
 use lib.ListN.{length, length-append}
 use lib.Dec.{eqb}
 use Rattle.text_classes.proofs.Conds.{cond_case}
@@ -17,8 +20,6 @@ use Rattle.built_bytes.specs.declared.Turn.TheVariants.{Opens, Single, More, End
 use Rattle.built_bytes.specs.Turns.{opening, turn_of}
 use Rattle.built_bytes.proofs.RestLaws.{OpensTo, opens, single, opened}
 use Rattle.built_lexing.specs.declared.states.Lexing.{Lexing}
-use Rattle.built_lexing.specs.declared.states.Given.{Given}
-use Rattle.built_lexing.specs.declared.states.Given.TheVariants.{Nothing, One as Token}
 use Rattle.built_lexing.specs.declared.states.Moved.{Moved}
 use Rattle.built_lexing.specs.States.{idle_at, moved_by, moved_from, moved, tokens_in, gives, given_by, state_after}
 
@@ -132,7 +133,16 @@ given_most l (b ∷ s) =
 pub given_few : (l : Lexing) (s : List ℕ) → length (given_by l s) ≤ length s + 1
 given_few l s = omega (arith, given_most l s, going_one l.mode)
 
+-- how many records a token and `Eof` ask for, or `Eof` alone
+pub ending_two : (g : Option Token) → is_some g ≡ true → 2 ≡ length (tokens_in g) + 1
+ending_two None e = cc
+ending_two (Some t) e = refl
+
+pub ending_one : (g : Option Token) → is_some g ≡ false → 1 ≡ length (tokens_in g) + 1
+ending_one None e = refl
+ending_one (Some t) e = cc
+
 -- a token, or none
-pub given_one : (g : Given) → length (tokens_in g) ≤ 1
-given_one Nothing = omega arith
-given_one (Token t) = omega arith
+pub given_one : (g : Option Token) → length (tokens_in g) ≤ 1
+given_one None = omega arith
+given_one (Some t) = omega arith

@@ -1,11 +1,11 @@
 -- What a part and the end come to, case by case, with the records that are left; and the tests of the limit and of the line.
 -- Assumes nothing.
-use Prim.Native.Nat.{ℕ, zero, suc, ◌+◌, ◌-◌, ◌≤◌, ◌<◌}
+use Prim.Native.Nat.{ℕ, ◌+◌, ◌-◌, ◌≤◌, ◌<◌}
 use mathlib.Core.Path.{◌≡◌, refl, sym, ap, ◌∙◌}
-use mathlib.Core.Bool.{Bool, true, false, cond}
+use mathlib.Core.Bool.{Bool, true, false}
 use mathlib.Core.List.{List, [], ◌∷◌, ◌++◌, map}
 use native.Mathlib.Omega.{arith}
-use native.Mathlib.Nat.{zero-add}
+use Rattle.std.specs.Prelude.{Result, Ok, Err}
 use lib.ListN.{length, drop, length-append}
 use lib.Seq.{sets, sets-eq}
 use lib.Dec.{ltb}
@@ -17,7 +17,8 @@ use Rattle.lexer.specs.Tokens.{eof_at}
 use Rattle.built_bytes.specs.Turns.{pending_of}
 use Rattle.built_lexing.specs.declared.states.Lexing.{Lexing}
 use Rattle.built_lexing.specs.declared.PartLexed.{PartLexed}
-use Rattle.built_lexing.specs.declared.PartLexed.TheVariants.{Put, Few, Over}
+use Rattle.built_lexing.specs.declared.NotLexed.{NotLexed}
+use Rattle.built_lexing.specs.declared.NotLexed.TheVariants.{Few, Over}
 use Rattle.built_lexing.specs.States.{tokens_in, given_by, state_after, pending_token, last_tokens}
 use Rattle.built_lexing.specs.Filling.{astray, lexed_part, lexed_end, placed, part_memory, end_memory}
 use Rattle.built_lexing.proofs.PartLaws.{records_length, stores_join}
@@ -39,32 +40,34 @@ module _ (l : Lexing) (s : List ℕ) (old : List (List ℕ)) where
   needs = length (given_by l s)
 
   -- an answer, with the records that it leaves
-  abbrev Lexes : PartLexed → List (List ℕ) → Type 0
+  abbrev Lexes : Result PartLexed NotLexed → List (List ℕ) → Type 0
   Lexes x new = record { answer : x ≡ lexed_part l s (length old); memory : new ≡ part_memory l s old }
 
-  lexes_as : (x : PartLexed) (new : List (List ℕ)) → lexed_part l s (length old) ≡ x → new ≡ placed x (given_by l s) old → Lexes x new
+  lexes_as : (x : Result PartLexed NotLexed) (new : List (List ℕ)) → lexed_part l s (length old) ≡ x → new ≡ placed x (given_by l s) old → Lexes x new
   unfolding part_memory
   lexes_as x new e w = record { answer = sym e; memory = rw e w }
 
-  pub part_astray : astray l ≡ true → Lexes Over old
+  pub part_astray : astray l ≡ true → Lexes (Err Over) old
   unfolding lexed_part
-  part_astray t = lexes_as Over old (rw t) refl
+  part_astray t = lexes_as (Err Over) old (rw t) refl
 
   module _ (straight : astray l ≡ false) where
-    pub part_long : ltb limit (l.at + length s) ≡ true → Lexes Over old
+    pub part_long : ltb limit (l.at + length s) ≡ true → Lexes (Err Over) old
     unfolding lexed_part
-    part_long t = lexes_as Over old (rw (straight, t)) refl
+    part_long t = lexes_as (Err Over) old (rw (straight, t)) refl
 
     module _ (fits : ltb limit (l.at + length s) ≡ false) where
-      pub part_few : (n : ℕ) → n ≡ needs → length old < n → Lexes (Few n) old
+      pub part_few : (r : NotLexed) → (length old < needs) × (r ≡ Few needs) → Lexes (Err r) old
       unfolding lexed_part
-      part_few n is h = lexes_as (Few n) old (rw (straight, fits, ← is, lt-ltb (length old) n h)) refl
+      part_few r w =
+          let few : length old < needs = w.0 in
+          lexes_as (Err r) old (rw (straight, fits, lt-ltb (length old) needs few, w.1)) refl
 
-      pub part_put : (n : ℕ) (next : Lexing) (new : List (List ℕ)) → n ≡ needs → next ≡ state_after l s → needs ≤ length old
-          → new ≡ sets old 0 (map record_of (given_by l s)) → Lexes (Put n next) new
+      pub part_put : (p : PartLexed) (new : List (List ℕ)) → p.count ≡ needs → p.next ≡ state_after l s → needs ≤ length old
+          → new ≡ sets old 0 (map record_of (given_by l s)) → Lexes (Ok p) new
       unfolding lexed_part
-      part_put n next new is after h w =
-          lexes_as (Put n next) new (rw (straight, fits, le-ltb (length old) needs h, is, after)) (over_front (given_by l s) old new h w)
+      part_put p new is after h w =
+          lexes_as (Ok p) new (rw (straight, fits, le-ltb (length old) needs h, ← is, ← after)) (over_front (given_by l s) old new h w)
 
 -- ---- the end
 
@@ -72,30 +75,32 @@ last_count : (l : Lexing) → length (last_tokens l) ≡ length (tokens_in (pend
 unfolding last_tokens
 last_count l = length-append (tokens_in (pending_token (pending_of l.mode) l)) (eof_at l.at l.line ∷ [])
 
-module _ (l : Lexing) (old : List (List ℕ)) (k : ℕ) (is : k ≡ length (tokens_in (pending_token (pending_of l.mode) l))) where
-  abbrev Ends : PartLexed → List (List ℕ) → Type 0
+module _ (l : Lexing) (old : List (List ℕ)) where
+  abbrev waiting : ℕ
+  waiting = length (tokens_in (pending_token (pending_of l.mode) l))
+
+  abbrev Ends : Result PartLexed NotLexed → List (List ℕ) → Type 0
   Ends x new = record { answer : x ≡ lexed_end l (length old); memory : new ≡ end_memory l old }
 
-  ends_as : (x : PartLexed) (new : List (List ℕ)) → lexed_end l (length old) ≡ x → new ≡ placed x (last_tokens l) old → Ends x new
+  ends_as : (x : Result PartLexed NotLexed) (new : List (List ℕ)) → lexed_end l (length old) ≡ x → new ≡ placed x (last_tokens l) old → Ends x new
   unfolding end_memory
   ends_as x new e w = record { answer = sym e; memory = rw e w }
 
-  counts : length (last_tokens l) ≡ k + 1
-  counts = last_count l ∙ omega (arith, is)
-
-  pub end_few : length old < k + 1 → Ends (Few (k + 1)) old
+  pub end_few : (n : ℕ) → n ≡ waiting + 1 → length old < n → Ends (Err (Few n)) old
   unfolding lexed_end
-  end_few h = ends_as (Few (k + 1)) old (rw (counts, lt-ltb (length old) (k + 1) h)) refl
+  end_few n is h = ends_as (Err (Few n)) old (rw (last_count l, ← is, lt-ltb (length old) n h)) refl
 
-  pub end_put : k + 1 ≤ length old → (m : ℕ) (then new : List (List ℕ)) → m ≡ k + 1
+  pub end_put : waiting + 1 ≤ length old → (k m : ℕ) (then new : List (List ℕ)) → k ≡ waiting → m ≡ k + 1
       → then ≡ sets old 0 (map record_of (tokens_in (pending_token (pending_of l.mode) l)))
-      → new ≡ sets then k (map record_of (eof_at l.at l.line ∷ [])) → Ends (Put m l) new
+      → new ≡ sets then k (map record_of (eof_at l.at l.line ∷ [])) → Ends (Ok (record { count = m; next = l })) new
   unfolding lexed_end last_tokens
-  end_put h m then new a b w =
+  end_put h k m then new is a b w =
       let ts = tokens_in (pending_token (pending_of l.mode) l) in
       let all : new ≡ sets old 0 (map record_of (last_tokens l)) =
       w ∙ stores_join old then 0 k ts (eof_at l.at l.line ∷ []) (omega (arith, is)) b in
-      ends_as (Put m l) new (rw (counts, le-ltb (length old) (k + 1) h, a)) (over_front (last_tokens l) old new (omega (arith, counts)) all)
+      let count : m ≡ waiting + 1 = omega arith in
+      ends_as (Ok (record { count = m; next = l })) new (rw (last_count l, le-ltb (length old) (waiting + 1) h, count))
+      (over_front (last_tokens l) old new (omega (arith, last_count l)) all)
 
 -- ---- the limit, and the line of a state
 

@@ -5,6 +5,7 @@ use Prim.Native.Nat.{ℕ, ◌+◌, ◌-◌, ◌≤◌}
 use mathlib.Core.Path.{◌≡◌, sym, ap, ◌∙◌, subst}
 use mathlib.Core.List.{List, ◌++◌}
 use native.Mathlib.Omega.{arith}
+use Rattle.std.specs.Prelude.{Some, None}
 use lib.ListN.{length, take, drop, length-drop, take-append-drop}
 use lib.Seq.{drop-drop, length-take-le}
 use Rattle.lexer_token.specs.declared.TokenKind.{TokenKind}
@@ -15,8 +16,6 @@ use Rattle.built_ahead.specs.declared.Ahead.{Ahead}
 use Rattle.built_ahead.specs.declared.Ahead.TheVariants.{Whole, Open}
 use Rattle.built_ahead.specs.Ahead.{EndsAt, LeadsTo, Looked}
 use Rattle.built_lexing.specs.declared.states.Lexing.{Lexing}
-use Rattle.built_lexing.specs.declared.states.Given.TheVariants.{Nothing, One as Token}
-use Rattle.built_lexing.specs.declared.ahead.Leapt.{Leapt}
 use Rattle.built_lexing.specs.States.{lexing_of, idle_at, token_from, given_by, state_after}
 use Rattle.built_lexing.specs.Leaps.{LeaptTo}
 use Rattle.built_lexing.proofs.StepLaws.{Wholly, wholly, ran_to, ran}
@@ -45,7 +44,7 @@ module _ (l : Lexing) (s : List ℕ) (i : ℕ) (inside : i ≤ length s) (low : 
       drop-drop (e - i) i s ∙ ap (λ (k : ℕ). drop k s) n
 
   pub whole_leap : (k : TokenKind) (e feeds at line : ℕ) → EndsAt l.mode s i k e feeds → at ≡ l.at + (e - i) → line ≡ l.line + feeds
-      → LeaptTo l s i (record { given = Token (token_from k l at); next = idle_at at line; place = e })
+      → LeaptTo l s i (record { given = Some (token_from k l at); next = idle_at at line; place = e })
   whole_leap k e feeds at line w is on =
       let n : rest_len l.mode (drop i s) ≡ e - i = omega (arith, w.end) in
       let law : Wholly l (e - i) k (drop i s) = rw (← n, w.kind) (wholly (drop i s) l w.busy (omega (arith, w.end, w.within, length-drop i s))) in
@@ -62,7 +61,7 @@ module _ (l : Lexing) (s : List ℕ) (i : ℕ) (inside : i ≤ length s) (low : 
       }
 
   pub open_leap : (n : Mode) (e feeds at line : ℕ) → LeadsTo l.mode s i n e feeds → at ≡ l.at + (e - i) → line ≡ l.line + feeds
-      → LeaptTo l s i (record { given = Nothing; next = lexing_of n l.start l.first at line; place = e })
+      → LeaptTo l s i (record { given = None; next = lexing_of n l.start l.first at line; place = e })
   open_leap n e feeds at line w is on =
       let u = take (e - i) (drop i s) in
       let size : length u ≡ e - i = length-take-le (e - i) (drop i s) (omega (arith, w.forward, w.within inside, length-drop i s)) in

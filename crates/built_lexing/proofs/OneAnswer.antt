@@ -5,6 +5,9 @@ use mathlib.Core.Path.{sym, ◌∙◌}
 use Rattle.text_classes.proofs.OneAnswer.{OneAnswer, OneOutcome, ◌and◌, both}
 use Rattle.built_lexing.proofs as promised
 
+pub not_lexed : OneAnswer promised.RefusalFromNotLexed.from.Reads.Learnt
+not_lexed κs a x y s t p q = p ∙ sym q
+
 pub lex_start : OneAnswer promised.lex_start.Reads.Learnt
 lex_start κs a x y s t p q = p ∙ sym q
 

@@ -1,31 +1,26 @@
 -- One byte by its turn, and bytes by the turns of each: what they give, and the state after them, with its places and lines.
 -- Assumes nothing.
-use Prim.Native.Nat.{ℕ, zero, suc, ◌+◌, ◌-◌, ◌≤◌, ◌<◌}
-use mathlib.Core.Path.{◌≡◌, refl, sym, ap, ◌∙◌, subst}
-use mathlib.Core.Bool.{Bool, true, false, cond}
-use mathlib.Core.List.{List, [], ◌∷◌, ◌++◌, append_assoc}
+use Prim.Native.Nat.{ℕ, suc, ◌+◌, ◌≤◌, ◌<◌}
+use mathlib.Core.Path.{◌≡◌, refl, ap, ◌∙◌}
+use mathlib.Core.List.{List, [], ◌∷◌, ◌++◌}
 use native.Mathlib.Omega.{arith}
 use native.Mathlib.Numerals.{add-one}
-use native.Mathlib.Nat.{add-zero}
 use lib.ListN.{length, take, drop, get_or, drop_of_length-le}
 use lib.Seq.{drop-cons}
 use lib.Dec.{eqb}
 use Rattle.text_classes.proofs.Conds.{cond_case}
 use Rattle.lexer_token.specs.declared.TokenKind.{TokenKind}
 use Rattle.lexer_token.specs.declared.Token.{Token}
-use Rattle.lexer_token.specs.Records.{token_of}
 use Rattle.lexer.specs.Lines.{line_feeds, line_behind}
 use Rattle.lexer.specs.Table.{kind_of}
 use Rattle.lexer.proofs.LineLaws.{behind_front, feeds_none}
 use Rattle.built_bytes.specs.declared.Mode.{Mode}
-use Rattle.built_bytes.specs.declared.Mode.TheVariants.{Idle}
 use Rattle.built_bytes.specs.declared.Turn.{Turn}
 use Rattle.built_bytes.specs.declared.Turn.TheVariants.{Opens, Single, More, Ends, Apart, Skipped}
 use Rattle.built_bytes.specs.Turns.{opening, turn_of}
 use Rattle.built_bytes.specs.Rests.{Busy, rest_len, rest_kind, Runs, stay, on}
 use Rattle.built_bytes.proofs.RestLaws.{Goes, more, ends, apart, goes, OpensTo, opens, single, opened}
 use Rattle.built_lexing.specs.declared.states.Lexing.{Lexing}
-use Rattle.built_lexing.specs.declared.states.Moved.{Moved}
 use Rattle.built_lexing.specs.States.{lexing_of, idle_at, token_from, moved_by, moved_from, moved, tokens_in, gives, given_by, state_after}
 
 -- ---- places and lines

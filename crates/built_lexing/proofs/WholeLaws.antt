@@ -1,12 +1,12 @@
 -- The tokens that are whole within a part: a first byte by what it opens, the rest of the token by a look ahead, and token after
 -- token, with what is stored and what is still given.
 -- Assumes nothing.
-use Prim.Native.Nat.{ℕ, zero, suc, ◌+◌, ◌-◌, ◌≤◌, ◌<◌}
+use Prim.Native.Nat.{ℕ, ◌+◌, ◌-◌, ◌≤◌, ◌<◌}
 use mathlib.Core.Path.{◌≡◌, refl, sym, ap, ◌∙◌, subst}
-use mathlib.Core.Bool.{Bool, true, false, cond}
+use mathlib.Core.Bool.{false}
 use mathlib.Core.List.{List, [], ◌∷◌, ◌++◌, map}
 use native.Mathlib.Omega.{arith}
-use native.Mathlib.Numerals.{add-one}
+use Rattle.std.specs.Prelude.{Some, None}
 use lib.ListN.{length, get_or, drop, length-append}
 use lib.Seq.{sets, length-sets}
 use lib.Dec.{eqb}
@@ -25,14 +25,13 @@ use Rattle.built_ahead.specs.declared.Ahead.TheVariants.{Whole, Open}
 use Rattle.built_ahead.specs.Ahead.{Looked, TokenAt, past, alone, longer}
 use Rattle.built_lexing.specs.declared.states.Lexing.{Lexing}
 use Rattle.built_lexing.specs.declared.states.Moved.{Moved}
-use Rattle.built_lexing.specs.declared.states.Given.TheVariants.{Nothing, One as Token}
 use Rattle.built_lexing.specs.declared.ahead.Leapt.{Leapt}
 use Rattle.built_lexing.specs.States.{lexing_of, idle_at, moved_from, moved, tokens_in, gives, given_by, state_after}
 use Rattle.built_lexing.specs.Leaps.{LeaptTo}
 use Rattle.built_lexing.specs.Whole.{Onward}
 use Rattle.built_lexing.proofs.StepLaws.{behind_le, given_at, after_at}
 use Rattle.built_lexing.proofs.LeapLaws.{whole_found, open_found, whole_leap, open_leap}
-use Rattle.built_lexing.proofs.PartLaws.{stores_join, Stored, Underway, leapt}
+use Rattle.built_lexing.proofs.PartLaws.{stores_join, Underway, leapt}
 
 -- ---- the token that begins at a place, whatever its place in the document and its line
 
@@ -42,7 +41,7 @@ pub record TokenTo (s : List ℕ) (i : ℕ) (k : TokenKind) (e feeds : ℕ) : Ty
   pub within : e ≤ length s
   pub few : feeds ≤ e - i
   pub taken : (at line : ℕ) → line ≤ at + 1 → LeaptTo (idle_at at line) s i
-      (record { given = Token (token_of k at (at + (e - i)) line); next = idle_at (at + (e - i)) (line + feeds); place = e })
+      (record { given = Some (token_of k at (at + (e - i)) line); next = idle_at (at + (e - i)) (line + feeds); place = e })
 
 -- or it goes on, and is in the mode m at the place e
 pub record OpenTo (s : List ℕ) (i : ℕ) (m : Mode) (e feeds : ℕ) : Type 0 where
@@ -50,7 +49,7 @@ pub record OpenTo (s : List ℕ) (i : ℕ) (m : Mode) (e feeds : ℕ) : Type 0 w
   pub within : e ≤ length s
   pub few : feeds ≤ e - i
   pub led : (at line : ℕ) → line ≤ at + 1 → LeaptTo (idle_at at line) s i
-      (record { given = Nothing; next = lexing_of m at line (at + (e - i)) (line + feeds); place = e })
+      (record { given = None; next = lexing_of m at line (at + (e - i)) (line + feeds); place = e })
 
 abbrev TakenAt : List ℕ → ℕ → Ahead → Type 0
 TakenAt s i (Whole k e feeds) = TokenTo s i k e feeds
@@ -63,12 +62,12 @@ started_by m at line = lexing_of m at line (at + 1) line
 
 module _ (at line b : ℕ) where
   first_single : (k : TokenKind) → opening b ≡ Single k → moved (idle_at at line) b
-      ≡ record { before = Nothing; through = Token (token_of k at (at + 1) line); next = idle_at (at + 1) (line_behind line b) }
+      ≡ record { before = None; through = Some (token_of k at (at + 1) line); next = idle_at (at + 1) (line_behind line b) }
   unfolding moved turn_of
   first_single k e = rw e
 
   first_opens : (m : Mode) → opening b ≡ Opens m → eqb b 10 ≡ false → moved (idle_at at line) b
-      ≡ record { before = Nothing; through = Nothing; next = started_by m at line }
+      ≡ record { before = None; through = None; next = started_by m at line }
   unfolding moved turn_of
   first_opens m e n = rw (e, n)
 
@@ -203,7 +202,7 @@ module _ (s : List ℕ) where
 
   -- no token more, and a part of the next one
   pub onward_open : {l m : Lexing} {i n j k : ℕ} {old new : List (List ℕ)} → Onward l s i n old m j k new → (next : Lexing) (e : ℕ)
-      → LeaptTo m s j (record { given = Nothing; next = next; place = e }) → Onward l s i n old next e k new
+      → LeaptTo m s j (record { given = None; next = next; place = e }) → Onward l s i n old next e k new
   onward_open {l} {m} {i} {n} {j} {k} {old} {new} u next e h = onward_leapt u _ h k new (omega arith) refl
 
   -- from any state between two tokens, where a byte follows

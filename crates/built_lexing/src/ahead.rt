@@ -3,13 +3,14 @@
 ghost use Rattle.std.specs.Prelude.{◌≡◌, ◌+◌, ◌-◌, ◌≤◌, ◌<◌, length};
 ghost use Rattle.built_lexing.specs.Leaps.{LeaptTo};
 
-use crate::states::{Given, Lexing, idle_at, lexing_of, token_of};
+use crate::states::Lexing;
 use built_ahead::Ahead;
+use lexer_token::Token;
 
 // The token in progress that was taken whole, if one was, and the state and the place after it.
 #[derive(Clone, Copy)]
 pub(crate) struct Leapt {
-    pub given: Given,
+    pub given: Option<Token>,
     pub next: Lexing,
     pub place: usize,
 }
@@ -19,21 +20,23 @@ pub(crate) fn leap(l: Lexing, part: &[u8], i: usize) -> Leapt
     requires { (i ≤ length part.now) × (l.at + (length part.now - i) ≤ 16777216) × (l.line ≤ l.at + 1) }
     ensures { LeaptTo l part.now i result }
 {
-    let before = l.mode;
-    let start = l.start;
-    let first = l.first;
-    match built_ahead::look(before, part, i) {
+    match built_ahead::look(l.mode, part, i) {
         Ahead::Whole { kind, end, feeds } => {
             let at = l.at + (end - i);
             Leapt {
-                given: Given::One(token_of(kind, start, at, first)),
-                next: idle_at(at, l.line + feeds),
+                given: Some(l.token(kind, at)),
+                next: Lexing::idle(at, l.line + feeds),
                 place: end,
             }
         }
         Ahead::Open { mode, end, feeds } => Leapt {
-            given: Given::Nothing,
-            next: lexing_of(mode, start, first, l.at + (end - i), l.line + feeds),
+            given: None,
+            next: Lexing {
+                mode,
+                at: l.at + (end - i),
+                line: l.line + feeds,
+                ..l
+            },
             place: end,
         },
     }

@@ -5,10 +5,10 @@ ghost use Rattle.built_lexing.specs.States.{idle_at, given_by};
 ghost use Rattle.built_lexing.specs.Whole.{PassedTo};
 
 use crate::put;
-use crate::states::{Given, Lexing, lexing_of, token_of};
+use crate::states::Lexing;
 use built_ahead::{Ahead, token_at};
 use built_bytes::Mode;
-use lexer_token::Record;
+use lexer_token::{Record, Span, Token};
 
 // How many tokens there are after those that were passed, and the state and the place there.
 #[derive(Clone, Copy)]
@@ -29,16 +29,10 @@ pub(crate) fn take_tokens(
     requires { (start ≤ length part.now) × (l.at + (length part.now - start) ≤ 16777216) × (l.line ≤ l.at + 1) × (n + length (given_by l (drop start part.now)) ≤ 16777217) }
     ensures { PassedTo l part.now start n records.old result records.new }
 {
-    let mode = l.mode;
     if start < part.len() {
-        return match mode {
-            Mode::Idle => take_whole(l.at, l.line, part, start, n, records),
-            _ => Passed {
-                count: n,
-                next: l,
-                place: start,
-            },
-        };
+        if let Mode::Idle = l.mode {
+            return take_whole(l.at, l.line, part, start, n, records);
+        }
     }
     Passed {
         count: n,
@@ -63,11 +57,13 @@ fn take_whole(
     let mut at = first;
     let mut on = line;
     let mut count = n;
+    // no iterator: a turn goes over a token, as far as it reaches
     loop {
         match token_at(part, i) {
             Ahead::Whole { kind, end, feeds } => {
                 let stop = at + (end - i);
-                count = put(records, count, Given::One(token_of(kind, at, stop, on)));
+                let token = Token::new(kind, Span::new(at, stop), on);
+                count = put(records, count, Some(token));
                 i = end;
                 at = stop;
                 on += feeds;
@@ -75,7 +71,13 @@ fn take_whole(
             Ahead::Open { mode, end, feeds } => {
                 return Passed {
                     count,
-                    next: lexing_of(mode, at, on, at + (end - i), on + feeds),
+                    next: Lexing {
+                        mode,
+                        start: at,
+                        first: on,
+                        at: at + (end - i),
+                        line: on + feeds,
+                    },
                     place: end,
                 };
             }

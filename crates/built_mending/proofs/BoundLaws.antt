@@ -13,8 +13,8 @@ use Rattle.lexer.specs.Table.{kind_of, token_len}
 use Rattle.lexer.specs.Tokens.{start_of, tokens_of}
 use Rattle.lexer.proofs.TokenLaws.{token_fits_at, token_long_at, start_fits}
 use Rattle.decoder_rules.specs.declared.Encoding.{Encoding}
-use Rattle.decoder_rules.specs.declared.Choice.{Choice}
-use Rattle.decoder_rules.specs.declared.Choice.TheVariants.{Known, Unknown}
+use Rattle.std.specs.Prelude.{Result, Ok, Err}
+use Rattle.text_refusals.specs.declared.Refusal.{Refusal}
 use Rattle.decoder_rules.specs.Encodings.{mark_error}
 use Rattle.decoder_rules.specs.Pieces.{gives, notes_at, Pieces, collect}
 use Rattle.decoder_rules.specs.Bodies.{piece_of}
@@ -103,20 +103,20 @@ new_long quoted value =
     length-append (gap quoted) (replacement value) ∙ ap (λ (n : ℕ). length (gap quoted) + n) (replacement_long value)
 
 -- a token's text by the encoding that is chosen for it, if one is
-choice_noted : (choice : Choice) (t : List ℕ) → ((e : Encoding) → choice ≡ Known e → Opens e t) → length (errors_by choice t) ≤ length t
-choice_noted (Known e) t opens = text_noted e t (opens e refl)
-choice_noted (Unknown r) t opens = omega arith
+choice_noted : (choice : Result Encoding Refusal) (t : List ℕ) → ((e : Encoding) → choice ≡ Ok e → Opens e t) → length (errors_by choice t) ≤ length t
+choice_noted (Ok e) t opens = text_noted e t (opens e refl)
+choice_noted (Err r) t opens = omega arith
 
-choice_spelt : (choice : Choice) (t : List ℕ) → ((e : Encoding) → choice ≡ Known e → Opens e t)
+choice_spelt : (choice : Result Encoding Refusal) (t : List ℕ) → ((e : Encoding) → choice ≡ Ok e → Opens e t)
     → is_broken (errors_by choice t) ≡ true → length (respelt (bytes_by choice t)) + 6 ≤ 6 * length t
-choice_spelt (Known e) t opens h = text_spelt e t (opens e refl)
-choice_spelt (Unknown r) t opens h = not_both h refl
+choice_spelt (Ok e) t opens h = text_spelt e t (opens e refl)
+choice_spelt (Err r) t opens h = not_both h refl
 
 module _ (edition : ℕ) (doc : List ℕ) (at line : ℕ) (h : at < length doc) where
   abbrev p : Part
   p = part_here doc at line
 
-  opens : (e : Encoding) → read_as edition p ≡ Known e → Opens e p.text
+  opens : (e : Encoding) → read_as edition p ≡ Ok e → Opens e p.text
   opens e chosen =
       let s = drop at doc in
       let size : at + token_len s - at ≡ token_len s = omega arith in

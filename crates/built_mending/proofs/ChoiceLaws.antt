@@ -25,17 +25,26 @@ use Rattle.decoder_rules.specs.declared.Edition.{Edition}
 use Rattle.decoder_rules.specs.declared.Edition.TheVariants.{Toml10, Toml11}
 use Rattle.decoder_rules.specs.declared.Encoding.{Encoding}
 use Rattle.decoder_rules.specs.declared.Encoding.TheVariants.{LiteralString as LiteralText, BasicString as BasicText, MlLiteralString as MlLiteralText, MlBasicString as MlBasicText}
-use Rattle.decoder_rules.specs.declared.Choice.{Choice}
-use Rattle.decoder_rules.specs.declared.Choice.TheVariants.{Known, Unknown}
+use Rattle.std.specs.Prelude.{Result, Ok, Err}
 use Rattle.decoder_rules.specs.Encodings.{choice_in, unnamed, choice_by}
 use Rattle.decoder_rules.specs.Marks.{line_ends, ml_start, ml_ends, ends_of}
 
 -- ---- the encoding of a kind
 
--- the number that the encoding of a kind has, by the kind's own number
-pub encoding_is : (k : TokenKind) → (encoding_of (kind_number k)).number ≡ kind_encoding k
+-- it is found by the kind's own number
+encoding_is : (k : TokenKind) (n : ℕ) (x : Result ℕ Refusal) → n ≡ kind_number k → x ≡ encoding_of n → x ≡ Ok (kind_encoding k)
 unfolding encoding_of
-encoding_is k = ap (λ r. (encoding_by r).number) (kind_back k)
+encoding_is k n x by_number by_encoding = by_encoding ∙ ap encoding_of by_number ∙ ap encoding_by (kind_back k)
+
+pub encoding_read : (k : TokenKind) (n m : ℕ) → n ≡ kind_number k → Ok m ≡ encoding_of n → m ≡ kind_encoding k
+encoding_read k n m by_number by_encoding =
+    let same : ◌≡◌ {A = Result ℕ Refusal} (Ok m) (Ok (kind_encoding k)) = encoding_is k n (Ok m) by_number by_encoding in cc
+
+pub encoding_found : (k : TokenKind) (n : ℕ) (r : Refusal) → n ≡ kind_number k → Err r ≡ encoding_of n → ⊥
+encoding_found k n r by_number by_encoding =
+    let same : ◌≡◌ {A = Result ℕ Refusal} (Err r) (Ok (kind_encoding k)) = encoding_is k n (Err r) by_number by_encoding in
+    let z : ◌≡◌ {A = ℕ} 0 1 = cc in
+    omega arith
 
 -- a token of the kind k is decoded by e
 abbrev pub Reads : TokenKind → Encoding → Type 0
@@ -56,13 +65,13 @@ Reads Newline e = ⊥
 Reads Atom e = ⊥
 Reads Eof e = ⊥
 
-unknown : {r : Refusal} {e : Encoding} {P : Type 0} → Unknown r ≡ Known e → P
+unknown : {r : Refusal} {e : Encoding} {P : Type 0} → ◌≡◌ {A = Result Encoding Refusal} (Err r) (Ok e) → P
 unknown h = let z : ◌≡◌ {A = ℕ} 0 1 = cc in absurd (omega arith)
 
-known : {x e : Encoding} → Known x ≡ Known e → e ≡ x
+known : {x e : Encoding} → ◌≡◌ {A = Result Encoding Refusal} (Ok x) (Ok e) → e ≡ x
 known h = cc
 
-by_edition : (P : Choice → Type 0) (edition n : ℕ) → P (choice_in Toml10 n) → P (choice_in Toml11 n)
+by_edition : (P : Result Encoding Refusal → Type 0) (edition n : ℕ) → P (choice_in Toml10 n) → P (choice_in Toml11 n)
     → P (unnamed edition (choice_in Toml10 n)) → P (choice_by edition n)
 unfolding choice_by
 by_edition P edition n ten eleven neither =
@@ -70,22 +79,22 @@ by_edition P edition n ten eleven neither =
 
 module _ (edition : ℕ) where
   -- a kind that is no string
-  pub none_is : choice_by edition 0 ≡ Unknown (NoKind 0)
+  pub none_is : choice_by edition 0 ≡ Err (NoKind 0)
   unfolding choice_in
-  none_is = by_edition (λ c. c ≡ Unknown (NoKind 0)) edition 0 refl refl refl
+  none_is = by_edition (λ c. c ≡ Err (NoKind 0)) edition 0 refl refl refl
 
-  no_string : {e : Encoding} → choice_by edition 0 ≡ Known e → ⊥
+  no_string : {e : Encoding} → choice_by edition 0 ≡ Ok e → ⊥
   no_string h = unknown (sym none_is ∙ h)
 
-  pub reads_of : (k : TokenKind) (e : Encoding) → choice_by edition (kind_encoding k) ≡ Known e → Reads k e
+  pub reads_of : (k : TokenKind) (e : Encoding) → choice_by edition (kind_encoding k) ≡ Ok e → Reads k e
   unfolding choice_in
-  reads_of LiteralString e h = by_edition (λ c. c ≡ Known e → e ≡ LiteralText) edition 39 known known unknown h
+  reads_of LiteralString e h = by_edition (λ c. c ≡ Ok e → e ≡ LiteralText) edition 39 known known unknown h
   reads_of BasicString e h =
-      by_edition (λ c. c ≡ Known e → (v : Edition) × (e ≡ BasicText v)) edition 34
+      by_edition (λ c. c ≡ Ok e → (v : Edition) × (e ≡ BasicText v)) edition 34
       (λ x. (Toml10, known x)) (λ x. (Toml11, known x)) unknown h
-  reads_of MlLiteralString e h = by_edition (λ c. c ≡ Known e → e ≡ MlLiteralText) edition 1 known known unknown h
+  reads_of MlLiteralString e h = by_edition (λ c. c ≡ Ok e → e ≡ MlLiteralText) edition 1 known known unknown h
   reads_of MlBasicString e h =
-      by_edition (λ c. c ≡ Known e → (v : Edition) × (e ≡ MlBasicText v)) edition 2
+      by_edition (λ c. c ≡ Ok e → (v : Edition) × (e ≡ MlBasicText v)) edition 2
       (λ x. (Toml10, known x)) (λ x. (Toml11, known x)) unknown h
   reads_of Dot e h = no_string h
   reads_of Equals e h = no_string h

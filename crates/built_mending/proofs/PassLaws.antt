@@ -12,12 +12,11 @@ use lib.ListN.{length, take, get_or, length-append, length-map}
 use lib.Seq.{sets, length-take-le}
 use Rattle.lexer.specs.Tokens.{start_of, tokens_of}
 use Rattle.lexer.proofs.TokenLaws.{token_fits_at, token_long_at, line_fits_at, start_fits}
+use Rattle.std.specs.Prelude.{Option, Some, None}
 use Rattle.decoder_rules.specs.declared.Encoding.{Encoding}
 use Rattle.decoder_rules.specs.Decoding.{bytes_of, errors_of}
 use Rattle.decoder_rules.proofs.StoreLaws.{Stored, sets_append}
 use Rattle.lexer_token.specs.declared.Token.{Token}
-use Rattle.built_mending.specs.declared.Reading.{Reading}
-use Rattle.built_mending.specs.declared.Reading.TheVariants.{Broken, Whole}
 use Rattle.built_mending.specs.Mending.{replacement, Part, part_of, gap, mend, mended, record_at, list, listed}
 use Rattle.built_mending.specs.Passes.{Finds, between, tokens_at, parts_at}
 use Rattle.built_mending.proofs.TokenLaws.{token_here, found_here, part_here, end_here, line_there, part_long, part_ends, part_join, part_none, ends_replaced, mend_step, list_step, mend_end, list_end, broken_reports, broken_becomes, whole_reports, whole_becomes}
@@ -35,7 +34,7 @@ module _ (edition : ℕ) (doc : List ℕ) (at line : ℕ) (h : at < length doc) 
   end_fits = (omega (arith, token_long_at doc at h), token_fits_at doc at (omega arith))
 
   -- it is replaced
-  module _ (e : Encoding) (found : Finds edition p (Broken e)) (quoted : Bool) where
+  module _ (e : Encoding) (found : Finds edition p (Some e)) (quoted : Bool) where
     pub mend_broken : mend edition quoted (parts_at doc at line)
         ≡ (gap quoted ++ replacement (bytes_of e (between doc at end))) ++ mend edition true (parts_at doc end (line_there doc at line))
     mend_broken =
@@ -47,7 +46,7 @@ module _ (edition : ℕ) (doc : List ℕ) (at line : ℕ) (h : at < length doc) 
     list_broken = list_step doc at line edition h ∙ rw (broken_reports edition p e found)
 
   -- it stays
-  module _ (found : Finds edition p Whole) where
+  module _ (found : Finds edition p None) where
     pub mend_whole : (quoted : Bool) → mend edition quoted (parts_at doc at line)
         ≡ between doc at end ++ mend edition (eqb (get_or doc (end - 1) 0) 0x22) (parts_at doc end (line_there doc at line))
     mend_whole quoted =
@@ -83,7 +82,7 @@ module _ (edition : ℕ) (doc : List ℕ) where
       }
 
   module _ (at line : ℕ) (h : at < length doc) where
-    pub counted_broken : (e : Encoding) → Finds edition (part_here doc at line) (Broken e) → {quoted : Bool} {n m w k : ℕ}
+    pub counted_broken : (e : Encoding) → Finds edition (part_here doc at line) (Some e) → {quoted : Bool} {n m w k : ℕ}
         → Counted edition doc at line quoted n m → w ≡ length (gap quoted) + length (replacement (bytes_of e (between doc at (end_here doc at line))))
         → k ≡ length (errors_of e (between doc at (end_here doc at line)))
         → Counted edition doc (end_here doc at line) (line_there doc at line) true (n + w) (m + k)
@@ -110,7 +109,7 @@ module _ (edition : ℕ) (doc : List ℕ) where
           );
         }
 
-    pub counted_whole : Finds edition (part_here doc at line) Whole → {quoted : Bool} {n m : ℕ} → Counted edition doc at line quoted n m
+    pub counted_whole : Finds edition (part_here doc at line) None → {quoted : Bool} {n m : ℕ} → Counted edition doc at line quoted n m
         → Counted edition doc (end_here doc at line) (line_there doc at line) (eqb (get_or doc (end_here doc at line - 1) 0) 0x22)
         (n + (end_here doc at line - at)) m
     counted_whole found {quoted} v =
@@ -174,7 +173,7 @@ module _ (edition : ℕ) (doc out₀ : List ℕ) (recs₀ : List (List ℕ)) whe
     stop = end_here doc at line
 
     -- a token that stays joins what is still to be copied
-    pub filled_whole : Finds edition (part_here doc at line) Whole
+    pub filled_whole : Finds edition (part_here doc at line) None
         → Filled edition doc out₀ recs₀ out recs from stop (line_there doc at line) (eqb (get_or doc (stop - 1) 0) 0x22) o m
     filled_whole found =
         let fits = end_fits edition doc at line h in
@@ -198,7 +197,7 @@ module _ (edition : ℕ) (doc out₀ : List ℕ) (recs₀ : List (List ℕ)) whe
         }
 
     -- a token that is replaced: what was still to be copied, its replacement and its records are stored
-    module _ (e : Encoding) (found : Finds edition (part_here doc at line) (Broken e)) where
+    module _ (e : Encoding) (found : Finds edition (part_here doc at line) (Some e)) where
       abbrev new : List ℕ
       new = gap quoted ++ replacement (bytes_of e (between doc at stop))
 
@@ -294,35 +293,35 @@ module _ (doc : List ℕ) (at line : ℕ) (h : at < length doc) (t : Token) (is 
       let end : t.span.end ≡ end_here doc at line = ap (λ (u : Token). u.span.end) is in
       (ap (λ (u : Token). u.span.start) is, omega (arith, fits.0), omega (arith, fits.1))
 
-  module _ (edition on : ℕ) (next : on ≡ line_there doc at line) (r : Reading) (found : Finds edition (part_of doc t) r) where
-    pub counted_replaced : (e : Encoding) → r ≡ Broken e → {quoted : Bool} {n m w k : ℕ} → Counted edition doc at line quoted n m
+  module _ (edition on : ℕ) (next : on ≡ line_there doc at line) (r : Option Encoding) (found : Finds edition (part_of doc t) r) where
+    pub counted_replaced : (e : Encoding) → r ≡ Some e → {quoted : Bool} {n m w k : ℕ} → Counted edition doc at line quoted n m
         → w ≡ length (gap quoted) + length (replacement (bytes_of e (between doc at t.span.end)))
         → k ≡ length (errors_of e (between doc at t.span.end))
         → Counted edition doc t.span.end on true (n + w) (m + k)
     counted_replaced e which v ew ek =
-        let here = found_here edition doc at line t r (Broken e) is which found in
+        let here = found_here edition doc at line t r (Some e) is which found in
         rw (is, next) (counted_broken edition doc at line h e here v (rw is at ew) (rw is at ek))
 
-    pub counted_kept : r ≡ Whole → {quoted : Bool} {n m : ℕ} → Counted edition doc at line quoted n m
+    pub counted_kept : r ≡ None → {quoted : Bool} {n m : ℕ} → Counted edition doc at line quoted n m
         → Counted edition doc t.span.end on (eqb (get_or doc (t.span.end - 1) 0) 0x22) (n + (t.span.end - at)) m
     counted_kept which v =
-        let here = found_here edition doc at line t r Whole is which found in
+        let here = found_here edition doc at line t r None is which found in
         rw (is, next) (counted_whole edition doc at line h here v)
 
     module _ (out₀ : List ℕ) (recs₀ : List (List ℕ)) {out : List ℕ} {recs : List (List ℕ)} {from : ℕ} {quoted : Bool} {o m : ℕ}
         (v : Filled edition doc out₀ recs₀ out recs from at line quoted o m) where
-      pub filled_kept : r ≡ Whole
+      pub filled_kept : r ≡ None
           → Filled edition doc out₀ recs₀ out recs from t.span.end on (eqb (get_or doc (t.span.end - 1) 0) 0x22) o m
       filled_kept which =
-          let here = found_here edition doc at line t r Whole is which found in
+          let here = found_here edition doc at line t r None is which found in
           rw (is, next) (filled_whole edition doc out₀ recs₀ at line h v here)
 
-      module _ (e : Encoding) (which : r ≡ Broken e) where
+      module _ (e : Encoding) (which : r ≡ Some e) where
         pub filled_space : length (mended edition doc) ≤ length out₀ → length (listed edition doc) ≤ length recs₀
             → (o + (length (between doc from at) + length (gap quoted ++ replacement (bytes_of e (between doc at t.span.end)))) ≤ length out)
             × (m + length (errors_of e (between doc at t.span.end)) ≤ length recs)
         filled_space a z =
-            let here = found_here edition doc at line t r (Broken e) is which found in
+            let here = found_here edition doc at line t r (Some e) is which found in
             rw is (filled_room edition doc out₀ recs₀ at line h v e here a z)
 
         pub filled_replaced : {out₁ out₂ : List ℕ} {recs₂ : List (List ℕ)} {o₁ o₂ m₂ : ℕ} → length out₂ ≡ length out
@@ -331,6 +330,6 @@ module _ (doc : List ℕ) (at line : ℕ) (h : at < length doc) (t : Token) (is 
             → Stored recs m (map (record_at t.span.start t.span.end) (errors_of e (between doc at t.span.end))) m₂ recs₂
             → Filled edition doc out₀ recs₀ out₂ recs₂ t.span.end t.span.end on true o₂ m₂
         filled_replaced same_out same-recs copied put Listed-in =
-            let here = found_here edition doc at line t r (Broken e) is which found in
+            let here = found_here edition doc at line t r (Some e) is which found in
             rw (is, next)
             (filled_broken edition doc out₀ recs₀ at line h v e here same_out same-recs copied (rw is at put) (rw is at Listed-in))

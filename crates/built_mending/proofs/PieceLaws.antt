@@ -2,7 +2,7 @@
 -- Assumes nothing.
 use Prim.Native.Nat.{ℕ, suc, ◌+◌, ◌*◌, ◌≤◌, ◌<◌}
 use mathlib.Core.Path.{◌≡◌, refl, sym, ◌∙◌, ap}
-use mathlib.Core.Bool.{true, false}
+use mathlib.Core.Bool.{◌||◌}
 use mathlib.Core.List.{List, [], ◌∷◌, ◌++◌, map, map-append}
 use native.Mathlib.Numerals.{add-one}
 use native.Mathlib.Omega.{arith}
@@ -12,31 +12,25 @@ use Rattle.decoder_rules.specs.declared.Encoding.{Encoding}
 use Rattle.decoder_rules.specs.declared.Piece.{Piece}
 use Rattle.decoder_rules.specs.declared.Given.{Given}
 use Rattle.decoder_rules.specs.declared.Given.TheVariants.{Copy, Char, Nothing}
-use Rattle.decoder_rules.specs.Pieces.{given_of, gives, notes}
+use Rattle.decoder_rules.specs.Pieces.{given_of, gives, notes, notes_of}
 use Rattle.decoder_rules.proofs.PieceLaws.{notes_few}
 use Rattle.decoder_rules.proofs.Fine.{FineAt, turn_fine}
 use Rattle.decoder_rules.proofs.BodyLaws.{piece_fine}
 use Rattle.decoder_rules.proofs.StoreLaws.{Stored, sets_append, store_append}
 use Rattle.decoder_pieces.specs.declared.body.Body.{Body}
-use Rattle.decoder_pieces.specs.declared.body.BodyStep.TheVariants.{Piece as Taken}
+use Rattle.std.specs.Prelude.{Option, Some, None, is_some}
+use Rattle.decoder_rules.specs.declared.Wrong.{Wrong}
 use Rattle.decoder_pieces.specs.Steps.{body_bytes, body_step, bytes_left, errors_left}
-use Rattle.decoder_pieces.proofs.StepLaws.{step_turn, at_piece}
+use Rattle.decoder_pieces.proofs.StepLaws.{step_turn, turn_fits, at_piece}
 use Rattle.built_mending.specs.Mending.{respelt, is_broken}
 use Rattle.built_mending.proofs.SpellLaws.{respelt_none, respelt_append, respelt_six, char_six}
 
 -- ---- whether there is an error
 
-pub broken_none : (errors : List (List ℕ)) → length errors ≤ 0 → is_broken errors ≡ false
-broken_none [] h = refl
-broken_none (e ∷ errors) h = absurd (omega arith)
-
-pub broken_first : (a b : List (List ℕ)) → 0 < length a → is_broken (a ++ b) ≡ true
-broken_first [] b h = absurd (omega arith)
-broken_first (e ∷ a) b h = refl
-
-pub broken_later : (a b : List (List ℕ)) → length a ≤ 0 → is_broken (a ++ b) ≡ is_broken b
-broken_later [] b h = refl
-broken_later (e ∷ a) b h = absurd (omega arith)
+-- a verdict's error first, and then others
+pub broken_by : (v : Option Wrong) (b : List (List ℕ)) → is_broken (notes_of v ++ b) ≡ (is_some v || is_broken b)
+broken_by None b = refl
+broken_by (Some w) b = refl
 
 -- ---- what a piece is written with
 
@@ -53,9 +47,12 @@ gives_six p s h = given_six p.given p.take s h
 
 -- ---- a step that gives a piece
 
-module _ (e : Encoding) (t : List ℕ) (b next : Body) (p : Piece) (step : body_step e t b ≡ Taken p next) where
+module _ (e : Encoding) (t : List ℕ) (b next : Body) (p : Piece) (step : body_step e t b ≡ Some (p, next)) where
   pub step_fine : FineAt p (body_bytes b t)
   step_fine = turn_fine (piece_fine e) (step_turn e t b p next step).0
+
+  pub step_within : (b.at ≤ b.end) × (b.at ≤ length t)
+  step_within = let fits = turn_fits e t b p (step_turn e t b p next step).0 in (omega (arith, fits.2), omega (arith, fits.3))
 
   pub step_end : next.end ≡ b.end
   step_end = ap (λ (x : Body). x.end) (step_turn e t b p next step).1
@@ -73,7 +70,7 @@ module _ (e : Encoding) (t : List ℕ) (start : Body) where
   pub count_start : CountedTo start 0 0
   count_start = record { small = omega arith; few = omega arith; bytes = omega arith; errors = omega arith }
 
-  module _ (b next : Body) (p : Piece) (step : body_step e t b ≡ Taken p next) where
+  module _ (b next : Body) (p : Piece) (step : body_step e t b ≡ Some (p, next)) where
     -- what is written of b is what is written of the piece, and then of what is left
     pub spelt_piece : respelt (bytes_left e t b) ≡ respelt (gives p (body_bytes b t)) ++ respelt (bytes_left e t next)
     spelt_piece =
@@ -123,7 +120,7 @@ module _ (e : Encoding) (t : List ℕ) (start : Body) where
     write_start =
         record { out_long = refl; recs_long = refl; out_sum = refl; recs_sum = refl; out_is = refl; recs_is = refl }
 
-    module _ (b next : Body) (p : Piece) (step : body_step e t b ≡ Taken p next) {out : List ℕ} {recs : List (List ℕ)} {o m : ℕ}
+    module _ (b next : Body) (p : Piece) (step : body_step e t b ≡ Some (p, next)) {out : List ℕ} {recs : List (List ℕ)} {o m : ℕ}
         (v : WrittenTo out recs b o m) where
       -- there is room for what the piece is written with, and for its error
       pub write_room : o₀ + length (respelt (bytes_left e t start)) ≤ length out₀ → m₀ + length (errors_left e t start) ≤ length recs₀

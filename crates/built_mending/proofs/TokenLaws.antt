@@ -16,14 +16,11 @@ use Rattle.lexer.specs.Table.{token_len}
 use Rattle.lexer.specs.Tokens.{token_at, line_after}
 use Rattle.lexer.specs.Steps.{cursor_of, step_of}
 use Rattle.lexer.specs.declared.Cursor.{Cursor}
-use Rattle.lexer.specs.declared.Step.TheVariants.{Token as Gives, End, Refused}
+use Rattle.std.specs.Prelude.{Result, Ok, Err, Option, Some, None}
 use Rattle.lexer.proofs.TokenLaws.{tokens_step, tokens_end}
 use Rattle.decoder_rules.specs.declared.Encoding.{Encoding}
-use Rattle.decoder_rules.specs.declared.Choice.{Choice}
 use Rattle.decoder_rules.specs.Decoding.{bytes_of, errors_of, errors_by}
 use Rattle.text_classes.proofs.Conds.{not_both}
-use Rattle.built_mending.specs.declared.Reading.{Reading}
-use Rattle.built_mending.specs.declared.Reading.TheVariants.{Broken, Whole}
 use Rattle.built_mending.specs.Mending.{respelt, replacement, Part, part_of, reported, is_broken, gap, becomes, ends_quoted, mend, record_at, list}
 use Rattle.built_mending.specs.Passes.{Finds, between, tokens_at, parts_at}
 use Rattle.built_mending.proofs.ChoiceLaws.{none_is}
@@ -37,23 +34,24 @@ part_long doc from to h l = length-take-le (to - from) (drop from doc) (omega (a
 
 module _ (doc : List ℕ) (small : length doc ≤ limit) (at line : ℕ) (h : at < length doc) (low : line ≤ at + 1) where
   step_is : step_of doc (cursor_of at line false)
-      ≡ Gives (token_at at line (drop at doc)) (cursor_of (at + token_len (drop at doc)) (line_after line (drop at doc)) false)
+      ≡ Ok (Some (token_at at line (drop at doc), cursor_of (at + token_len (drop at doc)) (line_after line (drop at doc)) false))
   unfolding step_of
   step_is =
       let within : at ≤ length doc = omega arith in
       rw (le-ltb limit (length doc) small, le-ltb (length doc) at within, le-ltb (at + 1) line low, ne_eqb at (length doc) (λ e. omega arith))
 
-  pub step_gives : (t : Token) (c : Cursor) → step_of doc (cursor_of at line false) ≡ Gives t c
+  pub step_gives : (t : Token) (c : Cursor) → step_of doc (cursor_of at line false) ≡ Ok (Some (t, c))
       → (t ≡ token_at at line (drop at doc)) × (c.line ≡ line_after line (drop at doc))
   step_gives t c e =
       let is = step_is in
-      let cursor : c ≡ cursor_of (at + token_len (drop at doc)) (line_after line (drop at doc)) false = cc in
-      ((cc), ap (λ (x : Cursor). x.line) cursor)
+      let next = cursor_of (at + token_len (drop at doc)) (line_after line (drop at doc)) false in
+      let both : ◌≡◌ {A = Token × Cursor} (t, c) (token_at at line (drop at doc), next) = cc in
+      (ap (λ (x : Token × Cursor). x.0) both, ap (λ (x : Token × Cursor). x.1.line) both)
 
-  pub not_end : step_of doc (cursor_of at line false) ≡ End → ⊥
+  pub not_end : step_of doc (cursor_of at line false) ≡ Ok None → ⊥
   not_end e = let is = step_is in let z : ◌≡◌ {A = ℕ} 0 1 = cc in omega arith
 
-  pub not_refused : (r : Refusal) → step_of doc (cursor_of at line false) ≡ Refused r → ⊥
+  pub not_refused : (r : Refusal) → step_of doc (cursor_of at line false) ≡ Err r → ⊥
   not_refused r e = let is = step_is in let z : ◌≡◌ {A = ℕ} 0 1 = cc in omega arith
 
 -- ---- the tokens from a place on
@@ -104,15 +102,15 @@ unbroken [] h = refl
 unbroken (e ∷ errors) h = not_both refl h
 
 module _ (edition : ℕ) (p : Part) where
-  module _ (e : Encoding) (found : Finds edition p (Broken e)) where
+  module _ (e : Encoding) (found : Finds edition p (Some e)) where
     pub broken_reports : reported edition p ≡ errors_of e p.text
-    broken_reports = ap (λ (c : Choice). errors_by c p.text) found.0
+    broken_reports = ap (λ (c : Result Encoding Refusal). errors_by c p.text) found.0
 
     pub broken_becomes : (quoted : Bool) → becomes edition quoted p ≡ gap quoted ++ replacement (bytes_of e p.text)
     unfolding becomes
     broken_becomes quoted = rw (found.0, found.1)
 
-  module _ (found : Finds edition p Whole) where
+  module _ (found : Finds edition p None) where
     pub whole_reports : reported edition p ≡ []
     whole_reports = unbroken (reported edition p) found
 
@@ -121,7 +119,7 @@ module _ (edition : ℕ) (p : Part) where
     whole_becomes quoted = rw found
 
 -- what is found of a token that is the one at a place
-pub found_here : (edition : ℕ) (doc : List ℕ) (at line : ℕ) (t : Token) (r x : Reading) → t ≡ token_here doc at line → r ≡ x
+pub found_here : (edition : ℕ) (doc : List ℕ) (at line : ℕ) (t : Token) (r x : Option Encoding) → t ≡ token_here doc at line → r ≡ x
     → Finds edition (part_of doc t) r → Finds edition (part_here doc at line) x
 found_here edition doc at line t r x is same found =
     subst (Finds edition (part_here doc at line)) same

@@ -1,21 +1,19 @@
 -- RULE. Putting broken strings right: the text that a document becomes, the list of what was wrong, what the call answers, and
 -- what it leaves in the lent memory. A string token that reports an error is replaced by a basic string of the bytes that it
 -- decodes to; all other bytes of the document are kept. What is proved of the result stands in crate theorems_mending.
-use Rattle.std.specs.Prelude.{ℕ}
+use Rattle.std.specs.Prelude.{ℕ, Some, None, Result, Ok, Err, ⊤}
 use mathlib.Core.{Bool.Bool, Bool.true, Bool.false, Bool.cond, Bool.◌||◌, List.List, List.[], List.◌∷◌, List.◌++◌, List.map}
 use lib.{Dec.ltb, Dec.eqb, ListN.length, ListN.take, ListN.drop}
 use Rattle.text_refusals.specs.{Refusals.limit}
 use Rattle.text.specs.{CheckMeans.check_of}
-use Rattle.text_refusals.specs.declared.{Refusal.TheVariants.TooLong, Refusal.TheVariants.ShortOutput, Refusal.TheVariants.FewErrors, Refusal.TheVariants.NoEdition}
-use Rattle.text.specs.declared.{utf8.Utf8Check.Utf8Check, utf8.Utf8Check.TheVariants.Valid, utf8.Utf8Check.TheVariants.Refused as NotValid}
+use Rattle.text_refusals.specs.declared.{Refusal.Refusal, Refusal.TheVariants.TooLong, Refusal.TheVariants.ShortOutput, Refusal.TheVariants.FewErrors, Refusal.TheVariants.NoEdition}
 use Rattle.lexer_token.specs.{Encodings.kind_encoding, Records.text_of}
 use Rattle.lexer_token.specs.declared.{TokenKind.TokenKind, Token.Token}
 use Rattle.lexer.specs.{Tokens.start_of, Tokens.tokens_of}
 use Rattle.decoder_rules.specs.{Encodings.choice_by, Decoding.bytes_by, Decoding.errors_by, Encodings.is_edition}
-use Rattle.decoder_rules.specs.declared.{Choice.Choice}
+use Rattle.decoder_rules.specs.declared.{Encoding.Encoding}
 use Rattle.built_writing.specs.{Writing.spelling}
-use Rattle.built_writing.specs.declared.{spell.Spelling.TheVariants.Short, spell.Spelling.TheVariants.Coded}
-use Rattle.built_mending.specs.declared.{Mended.Mended, Mended.TheVariants.Written, Mended.TheVariants.Refused}
+use Rattle.built_mending.specs.declared.{Mended.Mended}
 
 -- ---- a basic string of given bytes
 
@@ -29,7 +27,7 @@ coded b = ltb b 0x20 || eqb b 0x7F
 
 -- how a byte is spelt: after a backslash; as \u00 and two hex digits, in capitals; else as it is
 unfoldable pub respell : ℕ → List ℕ
-respell b = cond (slashed b) (spelling (Short b) b) (cond (coded b) (spelling Coded b) (b ∷ []))
+respell b = cond (slashed b) (spelling (Some b) b) (cond (coded b) (spelling None b) (b ∷ []))
 
 unfoldable pub respelt : List ℕ → List ℕ
 respelt [] = []
@@ -50,7 +48,7 @@ abbrev pub part_of : List ℕ → Token → Part
 part_of doc t = record { kind = t.kind; text = text_of doc t }
 
 -- how it is decoded in the edition that a number names: a kind that is no string has no encoding
-abbrev pub read_as : ℕ → Part → Choice
+abbrev pub read_as : ℕ → Part → Result Encoding Refusal
 read_as edition p = choice_by edition (kind_encoding p.kind)
 
 -- the errors that it reports, and the bytes that it decodes to; none where it is no string
@@ -109,25 +107,25 @@ listed edition doc = list edition doc (tokens_of doc)
 
 -- a text and records, for an output of o bytes and room for m records: refusal 2 where the text would pass the limit, then 4
 -- and 5 with what is needed
-unfoldable pub fit_both : List ℕ → List (List ℕ) → ℕ → ℕ → Mended
+unfoldable pub fit_both : List ℕ → List (List ℕ) → ℕ → ℕ → Result Mended Refusal
 fit_both text records o m =
-    cond (ltb limit (length text)) (Refused TooLong)
-    (cond (ltb o (length text)) (Refused (ShortOutput (length text)))
-    (cond (ltb m (length records)) (Refused (FewErrors (length records)))
-    (Written (length text) (length records))))
+    cond (ltb limit (length text)) (Err TooLong)
+    (cond (ltb o (length text)) (Err (ShortOutput (length text)))
+    (cond (ltb m (length records)) (Err (FewErrors (length records)))
+    (Ok (record { bytes = length text; records = length records }))))
 
 -- refusals 2 and 1 are the check's, then comes 9
-abbrev pub mended_by : Utf8Check → List ℕ → ℕ → ℕ → ℕ → Mended
-mended_by (NotValid r) doc edition o m = Refused r
-mended_by Valid doc edition o m =
-    cond (is_edition edition) (fit_both (mended edition doc) (listed edition doc) o m) (Refused (NoEdition edition))
+abbrev pub mended_by : Result ⊤ Refusal → List ℕ → ℕ → ℕ → ℕ → Result Mended Refusal
+mended_by (Err r) doc edition o m = Err r
+mended_by (Ok done) doc edition o m =
+    cond (is_edition edition) (fit_both (mended edition doc) (listed edition doc) o m) (Err (NoEdition edition))
 
 -- the answer for a document, the number of an edition, an output of o bytes and m records
-unfoldable pub mend_in : List ℕ → ℕ → ℕ → ℕ → Mended
+unfoldable pub mend_in : List ℕ → ℕ → ℕ → ℕ → Result Mended Refusal
 mend_in doc edition o m = mended_by (check_of doc) doc edition o m
 
 -- lent memory that held `old` after that answer: what was to be written, from the front, and the rest untouched; all of it
 -- untouched where the call refused
-abbrev pub mended_after : {A : Type 0} → Mended → List A → List A → List A
-mended_after (Written bytes records) new old = new ++ drop (length new) old
-mended_after (Refused r) new old = old
+abbrev pub mended_after : {A : Type 0} → Result Mended Refusal → List A → List A → List A
+mended_after (Ok w) new old = new ++ drop (length new) old
+mended_after (Err r) new old = old

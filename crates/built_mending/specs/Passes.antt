@@ -1,19 +1,18 @@
 -- What the helpers of `put_right` say of a token and of a document. Not to be believed: no promise of a public function cites it.
 -- Assumes nothing.
-use Rattle.std.specs.Prelude.{◌≡◌, ℕ, ◌-◌, true, false, List, map, length, take, drop}
-use Rattle.decoder_rules.specs.declared.Choice.TheVariants.{Known}
+use Rattle.std.specs.Prelude.{◌≡◌, ℕ, ◌-◌, true, false, List, map, length, take, drop, Result, Ok, Option, Some, None}
+use Rattle.text_refusals.specs.declared.Refusal.{Refusal}
+use Rattle.decoder_rules.specs.declared.Encoding.{Encoding}
 use Rattle.decoder_rules.specs.Decoding.{errors_of}
 use Rattle.lexer_token.specs.declared.Token.{Token}
 use Rattle.lexer.specs.Tokens.{tokens_from}
 use Rattle.built_mending.specs.Mending.{Part, part_of, read_as, reported, is_broken, fit_both, mended_after}
 use Rattle.built_mending.specs.declared.Mended.{Mended}
-use Rattle.built_mending.specs.declared.Reading.{Reading}
-use Rattle.built_mending.specs.declared.Reading.TheVariants.{Broken, Whole}
 
 -- what is found of a token: that it is a string that reports an error, and its encoding; or that it reports none
-abbrev pub Finds : ℕ → Part → Reading → Type 0
-Finds edition p (Broken e) = (read_as edition p ≡ Known e) × (is_broken (errors_of e p.text) ≡ true)
-Finds edition p Whole = is_broken (reported edition p) ≡ false
+abbrev pub Finds : ℕ → Part → Option Encoding → Type 0
+Finds edition p (Some e) = (read_as edition p ≡ Ok e) × (is_broken (errors_of e p.text) ≡ true)
+Finds edition p None = is_broken (reported edition p) ≡ false
 
 -- the bytes of the document from the place `from` up to the place `to`
 abbrev pub between : List ℕ → ℕ → ℕ → List ℕ
@@ -27,7 +26,7 @@ abbrev pub parts_at : List ℕ → ℕ → ℕ → List Part
 parts_at doc at line = map (part_of doc) (tokens_at doc at line)
 
 -- the answer r for a text and records, and what the output and the records then hold
-pub record WroteBoth (text : List ℕ) (new : List (List ℕ)) (out : List ℕ) (recs : List (List ℕ)) (r : Mended) (held : List ℕ)
+pub record WroteBoth (text : List ℕ) (new : List (List ℕ)) (out : List ℕ) (recs : List (List ℕ)) (r : Result Mended Refusal) (held : List ℕ)
     (list : List (List ℕ)) : Type 0 where
   pub answer : r ≡ fit_both text new (length out) (length recs)
   pub output : held ≡ mended_after r text out

@@ -1,11 +1,10 @@
 // The body of a replacement: each byte of a value is spelt by itself. A function that stores answers the place after what it
 // stored. Rule: specs/Mending.antt.
-ghost use Rattle.std.specs.Prelude.{◌≡◌, ◌+◌, ◌<◌, ◌≤◌, length, take};
+ghost use Rattle.std.specs.Prelude.{◌≡◌, ◌+◌, ◌<◌, ◌≤◌, length, Some, None};
 ghost use Rattle.text_refusals.specs.Refusals.{limit};
 ghost use Rattle.text_scalars.specs.Utf8.{Scalar, encode_scalar};
 ghost use Rattle.decoder_rules.proofs.StoreLaws.{Stored};
 ghost use Rattle.built_writing.specs.Writing.{hex_digit, spelling};
-ghost use Rattle.built_writing.specs.declared.spell.Spelling.TheVariants.{Short, Coded};
 ghost use Rattle.built_mending.specs.Mending.{slashed, coded, respell, respelt};
 
 use text_scalars::encode;
@@ -35,16 +34,14 @@ fn width(b: u8) -> usize
     1
 }
 
-// How many bytes the first n bytes of s are written with.
-pub(crate) fn width_of(s: &[u8], n: usize) -> usize
-    requires { (n ≤ length s.now) × (n ≤ limit) }
-    ensures { result ≡ length (respelt (take n s.now)) }
+// How many bytes some bytes are written with.
+pub(crate) fn width_of(s: &[u8]) -> usize
+    requires { length s.now ≤ limit }
+    ensures { result ≡ length (respelt s.now) }
 {
-    let mut i = 0;
     let mut w = 0;
-    while i < n {
-        w += width(s[i]);
-        i += 1;
+    for b in s {
+        w += width(*b);
     }
     w
 }
@@ -55,9 +52,7 @@ pub(crate) fn char_width(c: u32) -> usize
     ensures { result ≡ length (respelt (encode_scalar c)) }
 {
     let e = encode(c);
-    let n = e.len;
-    let bytes = e.bytes;
-    width_of(&bytes, n)
+    width_of(&e.bytes[..e.len])
 }
 
 // A hex digit, in capitals.
@@ -85,7 +80,7 @@ fn put_byte(b: u8, output: &mut [u8], o: usize) -> usize
 // A backslash and the byte.
 fn put_short(b: u8, output: &mut [u8], o: usize) -> usize
     requires { o + 2 ≤ length output.old }
-    ensures { Stored output.old o (spelling (Short b) b) result output.new }
+    ensures { Stored output.old o (spelling (Some b) b) result output.new }
 {
     output[o] = b'\\';
     output[o + 1] = b;
@@ -95,7 +90,7 @@ fn put_short(b: u8, output: &mut [u8], o: usize) -> usize
 // A backslash, `u00` and the two digits of the byte's code.
 fn put_coded(b: u8, output: &mut [u8], o: usize) -> usize
     requires { o + 6 ≤ length output.old }
-    ensures { Stored output.old o (spelling Coded b) result output.new }
+    ensures { Stored output.old o (spelling None b) result output.new }
 {
     output[o] = b'\\';
     output[o + 1] = b'u';
@@ -106,16 +101,14 @@ fn put_coded(b: u8, output: &mut [u8], o: usize) -> usize
     o + 6
 }
 
-// Writes the first n bytes of s from place o0 on.
-pub(crate) fn put_bytes(s: &[u8], n: usize, output: &mut [u8], o0: usize) -> usize
-    requires { (n ≤ length s.now) × (o0 + length (respelt (take n s.now)) ≤ length output.old) }
-    ensures { Stored output.old o0 (respelt (take n s.now)) result output.new }
+// Writes some bytes from place o0 on.
+pub(crate) fn put_bytes(s: &[u8], output: &mut [u8], o0: usize) -> usize
+    requires { o0 + length (respelt s.now) ≤ length output.old }
+    ensures { Stored output.old o0 (respelt s.now) result output.new }
 {
-    let mut i = 0;
     let mut o = o0;
-    while i < n {
-        o = put_byte(s[i], output, o);
-        i += 1;
+    for b in s {
+        o = put_byte(*b, output, o);
     }
     o
 }
@@ -126,7 +119,5 @@ pub(crate) fn put_char(c: u32, output: &mut [u8], o: usize) -> usize
     ensures { Stored output.old o (respelt (encode_scalar c)) result output.new }
 {
     let e = encode(c);
-    let n = e.len;
-    let bytes = e.bytes;
-    put_bytes(&bytes, n, output, o)
+    put_bytes(&e.bytes[..e.len], output, o)
 }

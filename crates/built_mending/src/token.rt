@@ -10,31 +10,18 @@ ghost use Rattle.decoder_rules.proofs.StoreLaws.{Stored};
 ghost use Rattle.decoder_pieces.specs.Steps.{bytes_left, errors_left};
 ghost use Rattle.built_mending.specs.Mending.{respelt, replacement, is_broken, gap, record_at};
 
+use crate::Mended;
 use crate::spell::{char_width, put_bytes, put_char, width_of};
 use decoder_marks::open_text;
-use decoder_pieces::{Body, BodyStep};
-use decoder_rules::{DecodeError, Encoding, Given, Piece, Verdict};
+use decoder_pieces::Body;
+use decoder_rules::{DecodeError, Encoding, Given, Piece, Wrong};
 use lexer_token::Span;
 
-// Bytes and records: how many, or the places after those that were stored.
-#[derive(Clone, Copy)]
-pub(crate) struct Counts {
-    pub bytes: usize,
-    pub records: usize,
-}
-
 // How many errors a verdict has.
-fn noted(verdict: Verdict) -> usize
+fn noted(verdict: Option<Wrong>) -> usize
     ensures { result ≡ length (notes_of verdict) }
 {
-    match verdict {
-        Verdict::Clean => 0,
-        Verdict::Wrong {
-            error: _,
-            start: _,
-            end: _,
-        } => 1,
-    }
+    if verdict.is_some() { 1 } else { 0 }
 }
 
 // Does a text report an error? It is read no further than its first one; a mark that is missing is known at once.
@@ -42,15 +29,7 @@ pub(crate) fn is_broken(e: Encoding, text: &[u8]) -> bool
     ensures { result ≡ is_broken (errors_of e text.now) }
 {
     let opened = open_text(e, text);
-    let opening = opened.opening;
-    let closing = opened.closing;
-    if 0 < noted(opening) {
-        return true;
-    }
-    if 0 < noted(closing) {
-        return true;
-    }
-    has_error(e, opened.body, text)
+    opened.opening.is_some() || opened.closing.is_some() || has_error(e, opened.body, text)
 }
 
 // Does a piece of the body `start` have an error?
@@ -58,23 +37,17 @@ fn has_error(e: Encoding, start: Body, text: &[u8]) -> bool
     ensures { result ≡ is_broken (errors_left e text.now start) }
 {
     let mut body = start;
-    while body.at < body.end {
-        match body.step(e, text) {
-            BodyStep::End => break,
-            BodyStep::Piece(p, next) => {
-                let verdict = p.verdict;
-                if 0 < noted(verdict) {
-                    return true;
-                }
-                body = next;
-            }
+    while let Some((piece, next)) = body.step(e, text) {
+        if piece.verdict.is_some() {
+            return true;
         }
+        body = next;
     }
     false
 }
 
 // How many bytes the replacement of a text has, and how many errors the text reports.
-pub(crate) fn replacement_needs(e: Encoding, text: &[u8]) -> Counts
+pub(crate) fn replacement_needs(e: Encoding, text: &[u8]) -> Mended
     requires { length text.now ≤ limit }
     ensures bytes { result.bytes ≡ length (replacement (bytes_of e text.now)) }
     ensures records { result.records ≡ length (errors_of e text.now) }
@@ -83,7 +56,7 @@ pub(crate) fn replacement_needs(e: Encoding, text: &[u8]) -> Counts
     let opening = opened.opening;
     let closing = opened.closing;
     let c = count(e, opened.body, text);
-    Counts {
+    Mended {
         bytes: c.bytes + 2,
         records: noted(opening) + (noted(closing) + c.records),
     }
@@ -96,14 +69,14 @@ fn given_width(p: Piece, s: &[u8]) -> usize
 {
     let g = p.given;
     match g {
-        Given::Copy => width_of(s, p.take),
+        Given::Copy => width_of(&s[..p.take]),
         Given::Char(c) => char_width(c),
         Given::Nothing => 0,
     }
 }
 
 // How many bytes the pieces of the body `start` are written with, and how many errors they have.
-fn count(e: Encoding, start: Body, text: &[u8]) -> Counts
+fn count(e: Encoding, start: Body, text: &[u8]) -> Mended
     requires { (start.end ≤ length text.now) × (length text.now ≤ limit) }
     ensures bytes { result.bytes ≡ length (respelt (bytes_left e text.now start)) }
     ensures records { result.records ≡ length (errors_left e text.now start) }
@@ -111,21 +84,12 @@ fn count(e: Encoding, start: Body, text: &[u8]) -> Counts
     let mut body = start;
     let mut n = 0;
     let mut m = 0;
-    while body.at < body.end {
-        let at = body.at;
-        let end = body.end;
-        let s = &text[at..end];
-        match body.step(e, text) {
-            BodyStep::End => break,
-            BodyStep::Piece(p, next) => {
-                let verdict = p.verdict;
-                n += given_width(p, s);
-                m += noted(verdict);
-                body = next;
-            }
-        }
+    while let Some((piece, next)) = body.step(e, text) {
+        n += given_width(piece, &text[body.at..body.end]);
+        m += noted(piece.verdict);
+        body = next;
     }
-    Counts {
+    Mended {
         bytes: n,
         records: m,
     }
@@ -142,7 +106,7 @@ pub(crate) fn replace(
     o: usize,
     records: &mut [[usize; 5]],
     m: usize,
-) -> Counts
+) -> Mended
     requires { (o + length (gap quoted ++ replacement (bytes_of e text.now)) ≤ length output.old)
         × (m + length (errors_of e text.now) ≤ length records.old) }
     ensures output { Stored output.old o (gap quoted ++ replacement (bytes_of e text.now)) result.bytes output.new }
@@ -159,7 +123,7 @@ pub(crate) fn replace(
     let done = put_body(e, body, text, span, output, at + 1, records, m2);
     let end = done.bytes;
     output[end] = b'"';
-    Counts {
+    Mended {
         bytes: end + 1,
         records: done.records,
     }
@@ -177,13 +141,13 @@ fn put_gap(quoted: bool, output: &mut [u8], o: usize) -> usize
 }
 
 // Writes a verdict's error, if there is one, to record m.
-fn note(verdict: Verdict, span: Span, records: &mut [[usize; 5]], m: usize) -> usize
+fn note(verdict: Option<Wrong>, span: Span, records: &mut [[usize; 5]], m: usize) -> usize
     requires { m + length (notes_of verdict) ≤ length records.old }
     ensures { Stored records.old m (map (record_at span.start span.end) (notes_of verdict)) result records.new }
 {
     match verdict {
-        Verdict::Clean => m,
-        Verdict::Wrong { error, start, end } => put_record(error, start, end, span, records, m),
+        None => m,
+        Some(Wrong { error, start, end }) => put_record(error, start, end, span, records, m),
     }
 }
 
@@ -210,7 +174,7 @@ fn put_given(p: Piece, s: &[u8], output: &mut [u8], o: usize) -> usize
 {
     let g = p.given;
     match g {
-        Given::Copy => put_bytes(s, p.take, output, o),
+        Given::Copy => put_bytes(&s[..p.take], output, o),
         Given::Char(c) => put_char(c, output, o),
         Given::Nothing => o,
     }
@@ -226,7 +190,7 @@ fn put_body(
     o0: usize,
     records: &mut [[usize; 5]],
     m0: usize,
-) -> Counts
+) -> Mended
     requires { (start.end ≤ length text.now)
         × (o0 + length (respelt (bytes_left e text.now start)) ≤ length output.old)
         × (m0 + length (errors_left e text.now start) ≤ length records.old) }
@@ -236,21 +200,12 @@ fn put_body(
     let mut body = start;
     let mut o = o0;
     let mut m = m0;
-    while body.at < body.end {
-        let at = body.at;
-        let end = body.end;
-        let s = &text[at..end];
-        match body.step(e, text) {
-            BodyStep::End => break,
-            BodyStep::Piece(p, next) => {
-                let verdict = p.verdict;
-                o = put_given(p, s, output, o);
-                m = note(verdict, span, records, m);
-                body = next;
-            }
-        }
+    while let Some((piece, next)) = body.step(e, text) {
+        o = put_given(piece, &text[body.at..body.end], output, o);
+        m = note(piece.verdict, span, records, m);
+        body = next;
     }
-    Counts {
+    Mended {
         bytes: o,
         records: m,
     }

@@ -1,13 +1,14 @@
 -- A character in progress: which bytes of it were read, what one byte more makes of them, and that they are no whole character.
 -- Assumes nothing.
-use Prim.Native.Nat.{ℕ, zero, suc, ◌+◌, ◌-◌, ◌≤◌, ◌<◌}
-use mathlib.Core.Path.{◌≡◌, refl, sym, ap, ◌∙◌, subst}
-use mathlib.Core.Bool.{Bool, true, false, cond}
+use Prim.Native.Nat.{ℕ, zero, suc, ◌-◌, ◌≤◌, ◌<◌}
+use mathlib.Core.Path.{◌≡◌, refl, sym, ◌∙◌}
+use mathlib.Core.Bool.{false}
 use mathlib.Core.List.{List, [], ◌∷◌, ◌++◌}
 use native.Mathlib.Omega.{arith}
-use lib.ListN.{length, get_or, drop}
+use Rattle.std.specs.Prelude.{Option, Some, None}
+use lib.ListN.{length, get_or}
 use lib.Dec.{ltb}
-use borrow.Author.Tests.{lt-ltb, le-ltb}
+use borrow.Author.Tests.{le-ltb}
 use Rattle.text_classes.proofs.Conds.{by_lt}
 use Rattle.text_scalars.specs.Utf8Read.{char_len, valid_prefix}
 use Rattle.text_scalars.proofs.ReadLaws.{valid_none, valid_le}
@@ -17,8 +18,6 @@ use Rattle.text_characters.proofs.BegunLaws.{begun_1, begun_2, begun_3, begun_4,
 use Rattle.text.proofs.FaultLaws.{fault_lead, fault_end, fault_within}
 use Rattle.built_characters.specs.declared.Character.{Character}
 use Rattle.built_characters.specs.declared.Character.TheVariants.{Whole, Begun}
-use Rattle.built_characters.specs.declared.CharacterTurn.{CharacterTurn}
-use Rattle.built_characters.specs.declared.CharacterTurn.TheVariants.{Sound, Broken}
 use Rattle.built_characters.specs.Characters.{led, led_by, as_asked, character_turn}
 
 -- the bytes of a character that were read: none, or one to three that are as the first asks, and not all that it asks for
@@ -34,10 +33,10 @@ fault_of [] = 1
 fault_of (a ∷ r) = suc (length r)
 
 -- what one byte more makes of them
-pub data Makes (r : List ℕ) (b : ℕ) : CharacterTurn → Type 0 where
-  breaks : ((e : List ℕ) → char_len (r ++ (b ∷ e)) ≡ 0) → ((e : List ℕ) → fault_len (r ++ (b ∷ e)) ≡ fault_of r) → Makes r b Broken
-  goes : {left low high : ℕ} → Read (r ++ (b ∷ [])) (Begun left low high) → Makes r b (Sound (Begun left low high))
-  whole : char_len (r ++ (b ∷ [])) ≡ suc (length r) → Makes r b (Sound Whole)
+pub data Makes (r : List ℕ) (b : ℕ) : Option Character → Type 0 where
+  breaks : ((e : List ℕ) → char_len (r ++ (b ∷ e)) ≡ 0) → ((e : List ℕ) → fault_len (r ++ (b ∷ e)) ≡ fault_of r) → Makes r b None
+  goes : {left low high : ℕ} → Read (r ++ (b ∷ [])) (Begun left low high) → Makes r b (Some (Begun left low high))
+  whole : char_len (r ++ (b ∷ [])) ≡ suc (length r) → Makes r b (Some Whole)
 
 -- the first r bytes of s are as its first byte asks, and the next is not, or is not asked for, or is not there
 abbrev BegunOf : List ℕ → ℕ → Type 0
@@ -76,43 +75,43 @@ lead_makes b (suc (suc n)) e =
 out_of : (low high b : ℕ) → (b < low → ⊥) → (high < b → ⊥) → Among low high b
 out_of low high b f g = (omega (arith, f), omega (arith, g))
 
-in_range : (r : List ℕ) (left low high b : ℕ) → ((Among low high b → ⊥) → Makes r b Broken) → (Among low high b → Makes r b (Sound (as_asked left)))
+in_range : (r : List ℕ) (left low high b : ℕ) → ((Among low high b → ⊥) → Makes r b None) → (Among low high b → Makes r b (Some (as_asked left)))
     → Makes r b (character_turn (Begun left low high) b)
 unfolding character_turn
 in_range r left low high b f g =
     by_lt (Makes r b) b low (λ h. f (λ k. omega arith))
     (λ h. by_lt (Makes r b) high b (λ k. f (λ j. omega arith)) (λ k. g (h, k)))
 
-asked_one : (r : List ℕ) (b : ℕ) → char_len (r ++ (b ∷ [])) ≡ suc (length r) → Makes r b (Sound (as_asked 1))
+asked_one : (r : List ℕ) (b : ℕ) → char_len (r ++ (b ∷ [])) ≡ suc (length r) → Makes r b (Some (as_asked 1))
 asked_one r b e = whole e
 
-asked_more : (r : List ℕ) (b n : ℕ) → 1 ≤ n → Read (r ++ (b ∷ [])) (Begun n 0x80 0xBF) → Makes r b (Sound (as_asked (suc n)))
+asked_more : (r : List ℕ) (b n : ℕ) → 1 ≤ n → Read (r ++ (b ∷ [])) (Begun n 0x80 0xBF) → Makes r b (Some (as_asked (suc n)))
 asked_more r b n h p =
     let e : ltb (suc n) 2 ≡ false = le-ltb (suc n) 2 (omega arith) in
     let d : suc n - 1 ≡ n = omega arith in
     rw (e, d) (goes p)
 
 module _ (a b : ℕ) where
-  second_breaks : 2 ≤ (lead_of a).0 → (Among (lead_of a).1 (lead_of a).2 b → ⊥) → Makes (a ∷ []) b Broken
+  second_breaks : 2 ≤ (lead_of a).0 → (Among (lead_of a).1 (lead_of a).2 b → ⊥) → Makes (a ∷ []) b None
   second_breaks h f =
       let is : (x : List ℕ) → BegunOf (a ∷ b ∷ x) 1 = λ x. begun_1 (omega arith) (λ k j m. f m) in
       breaks (λ x. no_char (a ∷ b ∷ x) 1 (is x) (omega arith))
       (λ x. fault_inside (a ∷ b ∷ x) 1 (is x) (omega arith) (λ z. omega arith) (λ z. omega arith))
 
-  second_makes : (n : ℕ) → (lead_of a).0 ≡ suc n → 1 ≤ n → Among (lead_of a).1 (lead_of a).2 b → Makes (a ∷ []) b (Sound (as_asked n))
+  second_makes : (n : ℕ) → (lead_of a).0 ≡ suc n → 1 ≤ n → Among (lead_of a).1 (lead_of a).2 b → Makes (a ∷ []) b (Some (as_asked n))
   second_makes zero e h m = absurd (omega arith)
   second_makes (suc zero) e h m =
       asked_one (a ∷ []) b (all_char (a ∷ b ∷ []) 2 (begun_2 (omega arith) (omega arith) m (λ k. absurd (omega arith))) (omega arith) ∙ e)
   second_makes (suc (suc n)) e h m = asked_more (a ∷ []) b (suc n) (omega arith) (second e (omega arith) m)
 
 module _ (a x b : ℕ) (m : Among (lead_of a).1 (lead_of a).2 x) where
-  third_breaks : 3 ≤ (lead_of a).0 → (Among 0x80 0xBF b → ⊥) → Makes (a ∷ x ∷ []) b Broken
+  third_breaks : 3 ≤ (lead_of a).0 → (Among 0x80 0xBF b → ⊥) → Makes (a ∷ x ∷ []) b None
   third_breaks h f =
       let is : (t : List ℕ) → BegunOf (a ∷ x ∷ b ∷ t) 2 = λ t. begun_2 (omega arith) (omega arith) m (λ k j y. f y) in
       breaks (λ t. no_char (a ∷ x ∷ b ∷ t) 2 (is t) (omega arith))
       (λ t. fault_inside (a ∷ x ∷ b ∷ t) 2 (is t) (omega arith) (λ z. omega arith) (λ z. omega arith))
 
-  third_makes : (n : ℕ) → (lead_of a).0 ≡ suc (suc n) → 1 ≤ n → Among 0x80 0xBF b → Makes (a ∷ x ∷ []) b (Sound (as_asked n))
+  third_makes : (n : ℕ) → (lead_of a).0 ≡ suc (suc n) → 1 ≤ n → Among 0x80 0xBF b → Makes (a ∷ x ∷ []) b (Some (as_asked n))
   third_makes zero e h y = absurd (omega arith)
   third_makes (suc zero) e h y =
       asked_one (a ∷ x ∷ []) b
@@ -121,13 +120,13 @@ module _ (a x b : ℕ) (m : Among (lead_of a).1 (lead_of a).2 x) where
   third_makes (suc (suc (suc n))) e h y = absurd (omega (arith, (lead_fits a).0))
 
 module _ (a x y b : ℕ) (m : Among (lead_of a).1 (lead_of a).2 x) (k : Among 0x80 0xBF y) (e : (lead_of a).0 ≡ 4) where
-  fourth_breaks : (Among 0x80 0xBF b → ⊥) → Makes (a ∷ x ∷ y ∷ []) b Broken
+  fourth_breaks : (Among 0x80 0xBF b → ⊥) → Makes (a ∷ x ∷ y ∷ []) b None
   fourth_breaks f =
       let is : (t : List ℕ) → BegunOf (a ∷ x ∷ y ∷ b ∷ t) 3 = λ t. begun_3 (omega arith) (omega arith) m k (λ h j z. f z) in
       breaks (λ t. no_char (a ∷ x ∷ y ∷ b ∷ t) 3 (is t) (omega arith))
       (λ t. fault_inside (a ∷ x ∷ y ∷ b ∷ t) 3 (is t) (omega arith) (λ z. omega arith) (λ z. omega arith))
 
-  fourth_makes : Among 0x80 0xBF b → Makes (a ∷ x ∷ y ∷ []) b (Sound (as_asked 1))
+  fourth_makes : Among 0x80 0xBF b → Makes (a ∷ x ∷ y ∷ []) b (Some (as_asked 1))
   fourth_makes z =
       asked_one (a ∷ x ∷ y ∷ []) b
       (all_char (a ∷ x ∷ y ∷ b ∷ []) 4 (begun_4 (omega arith) (omega arith) m k z) (omega arith) ∙ e)

@@ -1,7 +1,7 @@
 -- The numbers of each answer: which refusal, and the two numbers returned.
 -- Assumes nothing.
 use Prim.Native.Nat.{ℕ, ◌+◌}
-use mathlib.Core.Path.{◌≡◌, refl, sym, ap, ◌∙◌}
+use mathlib.Core.Path.{◌≡◌, refl, ap, ◌∙◌}
 use native.Mathlib.Nat.{add-zero}
 use mathlib.Core.Bool.{Bool, true, false, cond}
 use mathlib.Core.List.{List}
@@ -10,12 +10,12 @@ use lib.Dec.{ltb}
 use Rattle.text_classes.proofs.Conds.{of_choice}
 use Rattle.text_refusals.specs.Refusals.{limit}
 use Rattle.text_refusals.specs.declared.Refusal.TheVariants.{TooLong, AfterEnd}
-use Rattle.lexer.specs.declared.Lexed.TheVariants.{Refused}
-use Rattle.lexer.specs.Told.{lexed_number, lexed_value, lexed_length}
+use Rattle.text_refusals.specs.Told.{told_number, told_count, told_length}
+use Rattle.std.specs.Prelude.{Result, Ok, Err}
 use Rattle.built_characters.specs.declared.Character.{Character}
 use Rattle.built_characters.specs.declared.Character.TheVariants.{Whole, Begun}
 use Rattle.built_parts.specs.declared.checks.Checked.{Checked}
-use Rattle.built_parts.specs.declared.checks.Checked.TheVariants.{Good, Bad}
+use Rattle.built_parts.specs.declared.checks.Faulty.{Faulty}
 use Rattle.built_parts.specs.declared.Parts.{Parts}
 use Rattle.built_parts.specs.declared.Fed.{Fed}
 use Rattle.built_lexing.specs.States.{given_by, state_after, last_tokens}
@@ -24,20 +24,20 @@ use Rattle.built_parts.specs.Told.{by_check, feed_refusal, feed_returned, feed_f
 
 -- what a call answers after the end, and where the limit is passed
 abbrev feed_over : Parts → Fed
-feed_over p = fed (Refused AfterEnd) p
+feed_over p = fed (Err AfterEnd) p
 
 abbrev feed_long : Parts → Fed
-feed_long p = fed (Refused TooLong) (closed p)
+feed_long p = fed (Err TooLong) (closed p)
 
 -- what is read off an answer
 abbrev number : Fed → ℕ
-number f = lexed_number f.answer
+number f = told_number f.answer
 
 abbrev value : Fed → ℕ
-value f = lexed_value f.answer
+value f = told_count f.answer
 
 abbrev len : Fed → ℕ
-len f = lexed_length f.answer
+len f = told_length f.answer
 
 same_choice : (t : Bool) (n : ℕ) → cond t n n ≡ n
 same_choice true n = refl
@@ -59,17 +59,17 @@ module _ (p : Parts) (s : List ℕ) (room : ℕ) where
   abbrev needs : ℕ
   needs = length (given_by p.lexing s)
 
-  by_number : (x : Checked) → number (feed_checked x p s room) ≡ by_check x (λ v n. 1) (cond (ltb room needs) 3 0)
-  by_number (Bad v n) = refl
-  by_number (Good c v) = room_number needs room p (parts_of (state_after p.lexing s) c v false)
+  by_number : (x : Result Checked Faulty) → number (feed_checked x p s room) ≡ by_check x (λ v n. 1) (cond (ltb room needs) 3 0)
+  by_number (Err f) = refl
+  by_number (Ok g) = room_number needs room p (parts_of (state_after p.lexing s) g.character g.valid false)
 
-  by_value : (x : Checked) → value (feed_checked x p s room) ≡ by_check x (λ v n. v) needs
-  by_value (Bad v n) = refl
-  by_value (Good c v) = room_value needs room p (parts_of (state_after p.lexing s) c v false)
+  by_value : (x : Result Checked Faulty) → value (feed_checked x p s room) ≡ by_check x (λ v n. v) needs
+  by_value (Err f) = refl
+  by_value (Ok g) = room_value needs room p (parts_of (state_after p.lexing s) g.character g.valid false)
 
-  by_len : (x : Checked) → len (feed_checked x p s room) ≡ by_check x (λ v n. n) 0
-  by_len (Bad v n) = refl
-  by_len (Good c v) = room_len needs room p (parts_of (state_after p.lexing s) c v false)
+  by_len : (x : Result Checked Faulty) → len (feed_checked x p s room) ≡ by_check x (λ v n. n) 0
+  by_len (Err f) = refl
+  by_len (Ok g) = room_len needs room p (parts_of (state_after p.lexing s) g.character g.valid false)
 
   -- what is read off the answer, where it is read off what the characters come to
   told_by : (f : Fed → ℕ) (n : ℕ) → f (feed_checked (checked_from p s) p s room) ≡ n
@@ -82,9 +82,9 @@ pub fed_numbers : (p : Parts) (s : List ℕ) (old : List (List ℕ)) (r : Fed) (
     → record { answer : r ≡ feed_of p s (length old); memory : new ≡ feed_memory p s old }
     → record {
       answer : r ≡ feed_of p s (length old);
-      number : lexed_number r.answer ≡ feed_refusal p s (length old);
-      value : lexed_value r.answer ≡ feed_returned p s;
-      length : lexed_length r.answer ≡ feed_fault p s;
+      number : told_number r.answer ≡ feed_refusal p s (length old);
+      value : told_count r.answer ≡ feed_returned p s;
+      length : told_length r.answer ≡ feed_fault p s;
       memory : new ≡ feed_memory p s old;
     }
 fed_numbers p s old r new h =
@@ -130,9 +130,9 @@ pub closed_numbers : (p : Parts) (old : List (List ℕ)) (r : Fed) (new : List (
     → record { answer : r ≡ close_of p (length old); memory : new ≡ close_memory p old }
     → record {
       answer : r ≡ close_of p (length old);
-      number : lexed_number r.answer ≡ close_refusal p (length old);
-      value : lexed_value r.answer ≡ close_returned p;
-      length : lexed_length r.answer ≡ 0;
+      number : told_number r.answer ≡ close_refusal p (length old);
+      value : told_count r.answer ≡ close_returned p;
+      length : told_length r.answer ≡ 0;
       memory : new ≡ close_memory p old;
     }
 closed_numbers p old r new h =

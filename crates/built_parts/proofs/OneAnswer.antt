@@ -6,6 +6,9 @@ use mathlib.Core.Path.{sym, ◌∙◌}
 use Rattle.text_classes.proofs.OneAnswer.{OneAnswer, OneOutcome, ◌and◌, both}
 use Rattle.built_parts.proofs as promised
 
+pub faulty : OneAnswer promised.checks.RefusalFromFaulty.from.Reads.Learnt
+faulty κs a x y s t p q = p ∙ sym q
+
 pub start : OneAnswer promised.Parts.start.Reads.Learnt
 start κs a x y s t p q = p ∙ sym q
 

@@ -1,41 +1,36 @@
 -- What the bytes of a part come to is what the check of whole documents says of them: whole characters pass, and a faulty
 -- sequence is found with its two numbers, whatever bytes follow it.
 -- Assumes nothing.
-use Prim.Native.Nat.{ℕ, zero, suc, ◌+◌, ◌-◌, ◌≤◌, ◌<◌}
+use Prim.Native.Nat.{ℕ, suc, ◌+◌, ◌-◌, ◌≤◌, ◌<◌}
 use mathlib.Core.Path.{◌≡◌, refl, sym, ap, ◌∙◌, subst}
 use mathlib.Core.Bool.{Bool, true, false, cond}
 use mathlib.Core.List.{List, [], ◌∷◌, ◌++◌, append_assoc, append-nil}
 use native.Mathlib.Omega.{arith}
+use Rattle.std.specs.Prelude.{Option, Some, None, Result, Ok, Err}
 use native.Mathlib.Nat.{add-zero}
 use native.Mathlib.Numerals.{add-one}
 use lib.ListN.{length, get_or, take, drop, length-append, length-drop, take-append-drop, drop_of_length-le}
-use lib.Seq.{drop-length, drop-cons, drop-drop, drop_at, length-take-le}
+use lib.Seq.{take_all, drop-length, drop-cons, drop-drop, drop_at, length-take-le}
 use lib.Dec.{ltb, eqb}
 use borrow.Author.Tests.{lt-ltb, le-ltb, eqb-true, eqb-false}
-use Rattle.text_classes.proofs.Conds.{cond_case, by_eq, not_both}
+use Rattle.text_classes.proofs.Conds.{by_eq, not_both}
 use Rattle.text_refusals.specs.declared.Refusal.{Refusal}
 use Rattle.text_refusals.specs.declared.Refusal.TheVariants.{NotUtf8, TooLong}
 use Rattle.text_refusals.specs.Refusals.{limit, refusal_value, refusal_length}
-use Rattle.text_scalars.specs.Utf8.{Scalar, encode_scalar, All, Utf8}
+use Rattle.text_scalars.specs.Utf8.{encode_scalar, Utf8}
 use Rattle.text_scalars.specs.Utf8Read.{guess, char_len, valid_prefix}
 use Rattle.text_scalars.proofs.ReadLaws.{char_sound, valid_append, valid_none, valid_le, valid_is, utf8_iff}
 use Rattle.text_scalars.proofs.CutLaws.{utf8_append}
 use Rattle.text_characters.specs.Lead.{fault_len}
 use Rattle.text.specs.CheckMeans.{check_of}
-use Rattle.text.specs.declared.utf8.Utf8Check.{Utf8Check}
-use Rattle.text.specs.declared.utf8.Utf8Check.TheVariants.{Valid, Refused}
 use Rattle.built_characters.specs.declared.Character.{Character}
 use Rattle.built_characters.specs.declared.Character.TheVariants.{Whole, Begun}
-use Rattle.built_characters.specs.declared.CharacterTurn.{CharacterTurn}
-use Rattle.built_characters.specs.declared.CharacterTurn.TheVariants.{Sound, Broken}
 use Rattle.built_characters.specs.Characters.{character_turn}
 use Rattle.built_parts.specs.declared.checks.Checked.{Checked}
-use Rattle.built_parts.specs.declared.checks.Checked.TheVariants.{Good, Bad}
-use Rattle.built_parts.specs.declared.checks.CharsPassed.{CharsPassed}
-use Rattle.built_parts.specs.declared.checks.CharsPassed.TheVariants.{UpTo, Fault}
-use Rattle.built_parts.specs.Checking.{faulty_len, valid_at, checked_by, on_good, checked}
+use Rattle.built_parts.specs.declared.checks.Faulty.{Faulty as Fault}
+use Rattle.built_parts.specs.Checking.{faulty_len, valid_at, good, bad, checked_by, on_good, checked}
 use Rattle.built_parts.specs.Passing.{stopped_at, PassedMeans}
-use Rattle.built_parts.proofs.CharacterLaws.{Read, none, fault_of, Makes, breaks, goes, whole, makes, read_none, read_fault, read_some, read_all}
+use Rattle.built_parts.proofs.CharacterLaws.{Read, none, fault_of, Makes, breaks, goes, whole, makes, read_none, read_fault, read_some}
 
 -- ---- the state of a walk, and a fault
 
@@ -56,9 +51,9 @@ pub record Faulty (base : ℕ) (s : List ℕ) (valid n : ℕ) : Type 0 where
   pub longest : (e : List ℕ) → valid_prefix (s ++ e) ≡ k
   pub fault : (e : List ℕ) → fault_len (drop k (s ++ e)) ≡ n
 
-abbrev pub CheckTold : ℕ → List ℕ → Checked → Type 0
-CheckTold base s (Good c valid) = Walking base s c valid
-CheckTold base s (Bad valid n) = Faulty base s valid n
+abbrev pub CheckTold : ℕ → List ℕ → Result Checked Fault → Type 0
+CheckTold base s (Ok g) = Walking base s g.character g.valid
+CheckTold base s (Err f) = Faulty base s f.valid f.length
 
 one_char : (x : List ℕ) (n : ℕ) → char_len x ≡ suc n → length x ≡ suc n → Utf8 x
 one_char x n e l =
@@ -82,7 +77,7 @@ module _ (base : ℕ) (s : List ℕ) (b : ℕ) (u r : List ℕ) (sp : u ++ r ≡
   one_more : u ++ (r ++ (b ∷ [])) ≡ s ++ (b ∷ [])
   one_more = sym (append_assoc u r (b ∷ [])) ∙ ap (λ (z : List ℕ). z ++ (b ∷ [])) sp
 
-  step_told : (w : ℕ) → w ≡ base + length u → (t : CharacterTurn) → Makes r b t
+  step_told : (w : ℕ) → w ≡ base + length u → (t : Option Character) → Makes r b t
       → CheckTold base (s ++ (b ∷ [])) (checked_by t w (base + length s))
   step_told w p t (breaks f g) = record {
     k = length u;
@@ -128,10 +123,10 @@ faulty_more base s t valid n h = record {
   fault = λ e. ap (λ (z : List ℕ). fault_len (drop h.k z)) (append_assoc s t e) ∙ h.fault (t ++ e);
 }
 
-on_told : (base : ℕ) (s t : List ℕ) (x : Checked) (f : Character → ℕ → Checked) → CheckTold base s x
+on_told : (base : ℕ) (s t : List ℕ) (x : Result Checked Fault) (f : Character → ℕ → Result Checked Fault) → CheckTold base s x
     → ((d : Character) (v : ℕ) → Walking base s d v → CheckTold base (s ++ t) (f d v)) → CheckTold base (s ++ t) (on_good x f)
-on_told base s t (Good c v) f h g = g c v h
-on_told base s t (Bad v n) f h g = faulty_more base s t v n h
+on_told base s t (Ok x) f h g = g x.character x.valid h
+on_told base s t (Err x) f h g = faulty_more base s t x.valid x.length h
 
 -- told once more: the place is said where no character is in progress
 told_again : (c : Character) (valid at : ℕ) → valid_at c (valid_at c valid at) at ≡ valid_at c valid at
@@ -188,14 +183,14 @@ whole_valid at valid (b ∷ s) = refl
 
 told_on : (c : Character) (valid at : ℕ) (s : List ℕ) → checked c (valid_at c valid at) at s ≡ checked c valid at s
 unfolding checked
-told_on c valid at [] = ap (Good c) (told_again c valid at)
+told_on c valid at [] = ap (good c) (told_again c valid at)
 told_on c valid at (b ∷ s) =
     ap (λ (v : ℕ). on_good (checked_by (character_turn c b) v at) (λ d w. checked d w (at + 1) s)) (told_again c valid at)
 
-join_by : (x : Checked) (f g : Character → ℕ → Checked) (h : Character → ℕ → Checked)
+join_by : (x : Result Checked Fault) (f g : Character → ℕ → Result Checked Fault) (h : Character → ℕ → Result Checked Fault)
     → ((d : Character) (v : ℕ) → f d v ≡ on_good (g d v) h) → on_good x f ≡ on_good (on_good x g) h
-join_by (Good c v) f g h e = e c v
-join_by (Bad v n) f g h e = refl
+join_by (Ok x) f g h e = e x.character x.valid
+join_by (Err x) f g h e = refl
 
 -- the bytes of two parts, one after the other
 pub checked_join : (c : Character) (valid at : ℕ) (p e : List ℕ)
@@ -209,17 +204,25 @@ checked_join c valid at (b ∷ p) e =
 
 -- ---- whole characters pass
 
-good_place : (s : List ℕ) (c : Character) (valid at v : ℕ) → checked c valid at s ≡ Good Whole v → v ≡ at + length s
+abbrev place : Result Checked Fault → ℕ
+place (Ok g) = g.valid
+place (Err f) = f.valid
+
+abbrev state : Result Checked Fault → Character
+state (Ok g) = g.character
+state (Err f) = Whole
+
+good_place : (s : List ℕ) (c : Character) (valid at v : ℕ) → checked c valid at s ≡ good Whole v → v ≡ at + length s
 unfolding checked
-good_place [] Whole valid at v e = let f : at ≡ v = cc in sym f ∙ sym (add-zero at)
-good_place [] (Begun left low high) valid at v e = let z : ◌≡◌ {A = ℕ} 0 1 = cc in absurd (omega arith)
+good_place [] Whole valid at v e = sym (ap place e) ∙ sym (add-zero at)
+good_place [] (Begun left low high) valid at v e = let w : Begun left low high ≡ Whole = ap state e in cc
 good_place (b ∷ s) c valid at v e =
     go (checked_by (character_turn c b) (valid_at c valid at) at) (λ d w. good_place s d w (at + 1) v) e
   where
-    go : (x : Checked) → ((d : Character) (w : ℕ) → checked d w (at + 1) s ≡ Good Whole v → v ≡ at + 1 + length s)
-        → on_good x (λ d w. checked d w (at + 1) s) ≡ Good Whole v → v ≡ at + suc (length s)
-    go (Good d w) f e = f d w e ∙ omega arith
-    go (Bad w n) f e = let z : ◌≡◌ {A = ℕ} 0 1 = cc in absurd (omega arith)
+    go : (x : Result Checked Fault) → ((d : Character) (w : ℕ) → checked d w (at + 1) s ≡ good Whole v → v ≡ at + 1 + length s)
+        → on_good x (λ d w. checked d w (at + 1) s) ≡ good Whole v → v ≡ at + suc (length s)
+    go (Ok x) f e = f x.character x.valid e ∙ omega arith
+    go (Err x) f e = let z : ◌≡◌ {A = ℕ} 0 1 = cc in absurd (omega arith)
 
 walking_whole : (base : ℕ) (s : List ℕ) (c : Character) (valid : ℕ) → Walking base s c valid → Utf8 s → c ≡ Whole
 walking_whole base s Whole valid i w = refl
@@ -236,44 +239,47 @@ faulty_not : {P : Type 0} (base : ℕ) (s : List ℕ) (valid n : ℕ) → Faulty
 faulty_not base s valid n h w =
     absurd (omega (arith, h.within, ap valid_prefix (sym (append-nil s)) ∙ h.longest [], (utf8_iff s).1 w))
 
-pub chars_pass : (valid at : ℕ) (s : List ℕ) → Utf8 s → checked Whole valid at s ≡ Good Whole (at + length s)
+pub chars_pass : (valid at : ℕ) (s : List ℕ) → Utf8 s → checked Whole valid at s ≡ good Whole (at + length s)
 chars_pass valid at s w = go (checked Whole valid at s) refl (told at valid s)
   where
-    go : (x : Checked) → checked Whole valid at s ≡ x → CheckTold at s x → checked Whole valid at s ≡ Good Whole (at + length s)
-    go (Good c v) e i =
-        let is : c ≡ Whole = walking_whole at s c v i w in
-        let f : checked Whole valid at s ≡ Good Whole v = e ∙ ap (λ (d : Character). Good d v) is in
-        f ∙ ap (Good Whole) (good_place s Whole valid at v f)
-    go (Bad v n) e h = faulty_not at s v n h w
+    go : (x : Result Checked Fault) → checked Whole valid at s ≡ x → CheckTold at s x → checked Whole valid at s ≡ good Whole (at + length s)
+    go (Ok g) e i =
+        let v = g.valid in
+        let is : g.character ≡ Whole = walking_whole at s g.character v i w in
+        let f : checked Whole valid at s ≡ good Whole v = e ∙ ap (λ (d : Character). good d v) is in
+        f ∙ ap (good Whole) (good_place s Whole valid at v f)
+    go (Err f) e h = faulty_not at s f.valid f.length h w
 
 pub pass_on : (valid at : ℕ) (p e : List ℕ) → Utf8 p → checked Whole valid at (p ++ e) ≡ checked Whole valid (at + length p) e
 pass_on valid at p e w =
     checked_join Whole valid at p e
-    ∙ ap (λ (x : Checked). on_good x (λ d v. checked d v (at + length p) e)) (chars_pass valid at p w)
+    ∙ ap (λ (x : Result Checked Fault). on_good x (λ d v. checked d v (at + length p) e)) (chars_pass valid at p w)
     ∙ sym (whole_valid (at + length p) valid e)
 
 -- ---- a fault
 
 pub fault_found : (valid at : ℕ) (s : List ℕ) → (valid_prefix s ≡ length s → ⊥) → (fault_len (drop (valid_prefix s) s) ≡ 0 → ⊥)
-    → checked Whole valid at s ≡ Bad (at + valid_prefix s) (fault_len (drop (valid_prefix s) s))
+    → checked Whole valid at s ≡ bad (at + valid_prefix s) (fault_len (drop (valid_prefix s) s))
 fault_found valid at s short some = go (checked Whole valid at s) refl (told at valid s)
   where
-    go : (x : Checked) → checked Whole valid at s ≡ x → CheckTold at s x
-        → checked Whole valid at s ≡ Bad (at + valid_prefix s) (fault_len (drop (valid_prefix s) s))
-    go (Good c v) e i =
-        let n = walking_prefix at s c v i in
+    go : (x : Result Checked Fault) → checked Whole valid at s ≡ x → CheckTold at s x
+        → checked Whole valid at s ≡ bad (at + valid_prefix s) (fault_len (drop (valid_prefix s) s))
+    go (Ok g) e i =
+        let c = g.character in
+        let n = walking_prefix at s c g.valid i in
         let left : drop (valid_prefix s) s ≡ i.r = rw n (ap (drop (length i.u)) (sym i.split) ∙ drop_at i.u i.r (length i.u) refl) in
         let more : 0 < length i.r = omega (arith, short, n, ap length (sym i.split) ∙ length-append i.u i.r, valid_le s) in
         absurd (some (ap fault_len left ∙ read_fault i.r c i.reads more))
-    go (Bad v n) e h =
+    go (Err f) e h =
+        let n = f.length in
         let k : valid_prefix s ≡ h.k = ap valid_prefix (sym (append-nil s)) ∙ h.longest [] in
         let m : fault_len (drop h.k s) ≡ n = ap (λ (z : List ℕ). fault_len (drop h.k z)) (sym (append-nil s)) ∙ h.fault [] in
-        e ∙ rw (k, m, h.is)
+        e ∙ ap (λ (x : ℕ). bad x n) h.is ∙ rw (k, m)
 
 -- ---- the check of the bytes from a place on
 
 module _ (s : List ℕ) (i : ℕ) (inside : i ≤ length s) where
-  pub pass_none : (c : Character) → PassedMeans c s i (UpTo i)
+  pub pass_none : (c : Character) → PassedMeans c s i (Ok i)
   pass_none c = (
     omega arith,
     inside,
@@ -282,7 +288,7 @@ module _ (s : List ℕ) (i : ℕ) (inside : i ≤ length s) where
         ap (λ (k : ℕ). checked c valid k (drop i s)) n,
   )
 
-  pass_to : (n : ℕ) → n ≤ length (drop i s) → Utf8 (take n (drop i s)) → PassedMeans Whole s i (UpTo (i + n))
+  pass_to : (n : ℕ) → n ≤ length (drop i s) → Utf8 (take n (drop i s)) → PassedMeans Whole s i (Ok (i + n))
   pass_to n h w = (
     omega arith,
     omega (arith, length-drop i s),
@@ -294,19 +300,23 @@ module _ (s : List ℕ) (i : ℕ) (inside : i ≤ length s) where
         ∙ ap (λ (k : ℕ). checked Whole valid (at + k) (drop (i + n) s)) len,
   )
 
-  pub pass_valid : check_of (drop i s) ≡ Valid → PassedMeans Whole s i (UpTo (length s))
+  -- the part that is checked
+  part : take (length s - i) (drop i s) ≡ drop i s
+  part = take_all (length s - i) (drop i s) (omega (arith, length-drop i s))
+
+  pub pass_valid : check_of (take (length s - i) (drop i s)) ≡ Ok (tt {0}) → PassedMeans Whole s i (Ok (length s))
   unfolding check_of
-  pass_valid e = go (ltb limit (length (drop i s))) (eqb (valid_prefix (drop i s)) (length (drop i s))) refl refl e
+  pass_valid h = go (ltb limit (length (drop i s))) (eqb (valid_prefix (drop i s)) (length (drop i s))) refl refl (rw part at h)
     where
       go : (x y : Bool) → ltb limit (length (drop i s)) ≡ x → eqb (valid_prefix (drop i s)) (length (drop i s)) ≡ y
-          → cond x (Refused TooLong) (cond y Valid (Refused (NotUtf8 (valid_prefix (drop i s)) (fault_len (drop (valid_prefix (drop i s)) (drop i s)))))) ≡ Valid
-          → PassedMeans Whole s i (UpTo (length s))
+          → cond x (Err TooLong) (cond y (Ok (tt {0})) (Err (NotUtf8 (valid_prefix (drop i s)) (fault_len (drop (valid_prefix (drop i s)) (drop i s)))))) ≡ Ok (tt {0})
+          → PassedMeans Whole s i (Ok (length s))
       go true y p q e = let z : ◌≡◌ {A = ℕ} 0 1 = cc in absurd (omega arith)
       go false false p q e = let z : ◌≡◌ {A = ℕ} 0 1 = cc in absurd (omega arith)
       go false true p q e =
           let n : length (drop i s) ≡ valid_prefix (drop i s) = sym (eqb-true _ _ q) in
           let all : i + length (drop i s) ≡ length s = omega (arith, length-drop i s) in
-          subst (λ (k : ℕ). PassedMeans Whole s i (UpTo k)) all
+          subst (λ (k : ℕ). PassedMeans Whole s i (Ok k)) all
           (pass_to (length (drop i s)) (omega arith) (rw n (valid_is (drop i s))))
 
   stopped_by : (v : ℕ) → v ≡ valid_prefix (drop i s) → (valid_prefix (drop i s) ≡ length (drop i s) → ⊥) → (n : ℕ)
@@ -323,17 +333,17 @@ module _ (s : List ℕ) (i : ℕ) (inside : i ≤ length s) where
             rw (k, f) (fault_found valid at rest short (λ y. z (f ∙ y))),
       ))
 
-  pub pass_stopped : (r : Refusal) → length s ≤ limit → check_of (drop i s) ≡ Refused r
+  pub pass_stopped : (r : Refusal) → length s ≤ limit → check_of (take (length s - i) (drop i s)) ≡ Err r
       → (i + refusal_value r ≤ length s) × PassedMeans Whole s i (stopped_at (i + refusal_value r) (refusal_length r))
   unfolding check_of
-  pass_stopped r fits e =
-      go (ltb limit (length (drop i s))) (eqb (valid_prefix (drop i s)) (length (drop i s))) refl refl e
+  pass_stopped r fits h =
+      go (ltb limit (length (drop i s))) (eqb (valid_prefix (drop i s)) (length (drop i s))) refl refl (rw part at h)
     where
       fine : ltb limit (length (drop i s)) ≡ false
       fine = le-ltb limit (length (drop i s)) (omega (arith, length-drop i s))
 
       go : (x y : Bool) → ltb limit (length (drop i s)) ≡ x → eqb (valid_prefix (drop i s)) (length (drop i s)) ≡ y
-          → cond x (Refused TooLong) (cond y Valid (Refused (NotUtf8 (valid_prefix (drop i s)) (fault_len (drop (valid_prefix (drop i s)) (drop i s)))))) ≡ Refused r
+          → cond x (Err TooLong) (cond y (Ok (tt {0})) (Err (NotUtf8 (valid_prefix (drop i s)) (fault_len (drop (valid_prefix (drop i s)) (drop i s)))))) ≡ Err r
           → (i + refusal_value r ≤ length s) × PassedMeans Whole s i (stopped_at (i + refusal_value r) (refusal_length r))
       go true y p q e = not_both p fine
       go false true p q e = let z : ◌≡◌ {A = ℕ} 0 1 = cc in absurd (omega arith)
@@ -345,47 +355,47 @@ module _ (s : List ℕ) (i : ℕ) (inside : i ≤ length s) where
 
 -- ---- the turns of the loop, of which `end` is what all the bytes s come to
 
-module _ (s : List ℕ) (c : Character) (v at : ℕ) (end : Checked) where
+module _ (s : List ℕ) (c : Character) (v at : ℕ) (end : Result Checked Fault) where
   -- the bytes from the place i on
   abbrev From : ℕ → Type 0
   From i = checked c v (at + i) (drop i s) ≡ end
 
-  passed_is : (i : ℕ) (x y : CharsPassed) → x ≡ y → PassedMeans c s i x → PassedMeans c s i y
+  passed_is : (i : ℕ) (x y : Result ℕ Fault) → x ≡ y → PassedMeans c s i x → PassedMeans c s i y
   passed_is i x y e = subst (PassedMeans c s i) e
 
-  pub check_fault : (i w n : ℕ) (x : CharsPassed) → x ≡ Fault w n → PassedMeans c s i x → From i
-      → (w ≤ length s) × (Bad (at + w) n ≡ end)
-  check_fault i w n x e m f =
-      let h = passed_is i x (Fault w n) e m in
-      let k : at + w ≡ at + i + (w - i) = omega (arith, h.0) in
-      (h.1, ap (λ (j : ℕ). Bad j n) k ∙ sym (h.2 v (at + i)) ∙ f)
+  pub check_fault : (i : ℕ) (w : Fault) (x : Result ℕ Fault) → x ≡ Err w → PassedMeans c s i x → From i
+      → (w.valid ≤ length s) × (bad (at + w.valid) w.length ≡ end)
+  check_fault i w x e m f =
+      let h = passed_is i x (Err w) e m in
+      let k : at + w.valid ≡ at + i + (w.valid - i) = omega (arith, h.0) in
+      (h.1, ap (λ (j : ℕ). bad j w.length) k ∙ sym (h.2 v (at + i)) ∙ f)
 
-  pub check_passed : (i e : ℕ) (x : CharsPassed) → x ≡ UpTo e → PassedMeans c s i x → From i → (i ≤ e) × (e ≤ length s) × From e
+  pub check_passed : (i e : ℕ) (x : Result ℕ Fault) → x ≡ Ok e → PassedMeans c s i x → From i → (i ≤ e) × (e ≤ length s) × From e
   check_passed i e x y m f =
-      let h = passed_is i x (UpTo e) y m in
+      let h = passed_is i x (Ok e) y m in
       let k : at + i + (e - i) ≡ at + e = omega (arith, h.0) in
       (h.0, h.1, ap (λ (j : ℕ). checked c v j (drop e s)) (sym k) ∙ sym (h.2 v (at + i)) ∙ f)
 
-  pub check_done : (e w : ℕ) → length s ≤ e → w ≡ valid_at c v (at + e) → From e → Good c w ≡ end
+  pub check_done : (e w : ℕ) → length s ≤ e → w ≡ valid_at c v (at + e) → From e → good c w ≡ end
   unfolding checked
-  check_done e w h is f = ap (Good c) is ∙ sym (rw (drop_of_length-le s h)) ∙ f
+  check_done e w h is f = ap (good c) is ∙ sym (rw (drop_of_length-le s h)) ∙ f
 
-  turn_is : (e w : ℕ) → e < length s → w ≡ valid_at c v (at + e) → (t : CharacterTurn) → t ≡ character_turn c (get_or s e 0) → From e
+  turn_is : (e w : ℕ) → e < length s → w ≡ valid_at c v (at + e) → (t : Option Character) → t ≡ character_turn c (get_or s e 0) → From e
       → on_good (checked_by t w (at + e)) (λ d u. checked d u (at + (e + 1)) (drop (e + 1) s)) ≡ end
   unfolding checked
   turn_is e w h is t y f =
       let k : at + (e + 1) ≡ at + e + 1 = omega arith in
       rw (y, is, k) (sym (rw (add-one e, drop-cons s e 0)) ∙ f)
 
-  pub check_broken : (e w n : ℕ) → e < length s → w ≡ valid_at c v (at + e) → (t : CharacterTurn) → t ≡ character_turn c (get_or s e 0) → t ≡ Broken
-      → n ≡ faulty_len w (at + e) → From e → Bad w n ≡ end
+  pub check_broken : (e w n : ℕ) → e < length s → w ≡ valid_at c v (at + e) → (t : Option Character) → t ≡ character_turn c (get_or s e 0) → t ≡ None
+      → n ≡ faulty_len w (at + e) → From e → bad w n ≡ end
   check_broken e w n h is t y b m f =
-      ap (Bad w) m
-      ∙ ap (λ (x : CharacterTurn). on_good (checked_by x w (at + e)) (λ d u. checked d u (at + (e + 1)) (drop (e + 1) s))) (sym b)
+      ap (bad w) m
+      ∙ ap (λ (x : Option Character). on_good (checked_by x w (at + e)) (λ d u. checked d u (at + (e + 1)) (drop (e + 1) s))) (sym b)
       ∙ turn_is e w h is t y f
 
-  pub check_sound : (e w : ℕ) → e < length s → w ≡ valid_at c v (at + e) → (t : CharacterTurn) → t ≡ character_turn c (get_or s e 0)
-      → (d : Character) → t ≡ Sound d → From e → checked d w (at + (e + 1)) (drop (e + 1) s) ≡ end
+  pub check_sound : (e w : ℕ) → e < length s → w ≡ valid_at c v (at + e) → (t : Option Character) → t ≡ character_turn c (get_or s e 0)
+      → (d : Character) → t ≡ Some d → From e → checked d w (at + (e + 1)) (drop (e + 1) s) ≡ end
   check_sound e w h is t y d b f =
-      ap (λ (x : CharacterTurn). on_good (checked_by x w (at + e)) (λ d u. checked d u (at + (e + 1)) (drop (e + 1) s))) (sym b)
+      ap (λ (x : Option Character). on_good (checked_by x w (at + e)) (λ d u. checked d u (at + (e + 1)) (drop (e + 1) s))) (sym b)
       ∙ turn_is e w h is t y f

@@ -1,13 +1,13 @@
 -- FOLLOWS. The numbers in which a part's answer and the closing word's are told: each follows from the answer, by the definitions
--- of whole lexing (`lexed_number`, `lexed_value`, `lexed_length` in crate `lexer`), and promises say besides what they come to for
+-- of all answers (`told_number`, `told_count`, `told_length` in crate `text_refusals`), and promises say besides what they come to for
 -- the arguments. Proved by `fed_numbers` and `closed_numbers` in proofs/NumberLaws.antt.
 -- Assumes nothing.
-use Rattle.std.specs.Prelude.{ℕ, ◌+◌}
+use Rattle.std.specs.Prelude.{ℕ, ◌+◌, Result, Ok, Err}
 use mathlib.Core.{Bool.cond, List.List}
 use lib.{ListN.length, Dec.ltb}
 use Rattle.text_refusals.specs.{Refusals.limit}
 use Rattle.built_characters.specs.declared.{Character.Character, Character.TheVariants.Whole, Character.TheVariants.Begun}
-use Rattle.built_parts.specs.declared.{checks.Checked.Checked, checks.Checked.TheVariants.Good, checks.Checked.TheVariants.Bad, Parts.Parts}
+use Rattle.built_parts.specs.declared.{checks.Checked.Checked, checks.Faulty.Faulty, Parts.Parts}
 use Rattle.built_lexing.specs.{States.given_by, States.last_tokens}
 use Rattle.built_parts.specs.{Feeding.is_over, Feeding.checked_from}
 
@@ -17,9 +17,9 @@ unless_over p n over long else = cond (is_over p) over (cond (ltb limit (p.lexin
 
 -- ---- a part: 8 with 0, 2 with the limit, 1 with its two numbers, 3 with the records needed, else 0 with the tokens
 
-abbrev pub by_check : {A : Type 0} → Checked → (ℕ → ℕ → A) → A → A
-by_check (Bad valid len) bad good = bad valid len
-by_check (Good c valid) bad good = good
+abbrev pub by_check : {A : Type 0} → Result Checked Faulty → (ℕ → ℕ → A) → A → A
+by_check (Err b) bad good = bad b.valid b.length
+by_check (Ok g) bad good = good
 
 abbrev pub feed_refusal : Parts → List ℕ → ℕ → ℕ
 feed_refusal p s room =

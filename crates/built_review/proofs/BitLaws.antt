@@ -1,13 +1,14 @@
 -- The bits of a byte: a bit that is put stands there, and no other bit changes; and how the code sets, clears and reads one.
 -- Assumes nothing.
-use Prim.Native.Nat.{ℕ, zero, suc, ◌-◌, ◌*◌, ◌/◌, ◌%◌, ◌^◌, ◌≤◌, ◌<◌}
+use Prim.Native.Nat.{ℕ, zero, suc, ◌-◌, ◌/◌, ◌%◌, ◌^◌, ◌≤◌, ◌<◌}
 use mathlib.Core.Path.{◌≡◌, refl, sym, ap, ◌∙◌}
+use mathlib.Core.Bool.{not}
 use native.Mathlib.Omega.{arith}
-use native.Mathlib.Nat.{zero-mul, pow-succ', div-div-eq-div-mul}
+use native.Mathlib.Nat.{pow-succ', div-div-eq-div-mul}
 use lib.Bits.{bit_and, bit_or}
 use lib.Dec.{T, eqb, eqb→eq}
-use Rattle.text_classes.proofs.ByteTable.{all_from, at_each}
-use Rattle.built_review.specs.Review.{bit, put_bit}
+use Rattle.text_classes.proofs.ByteTable.{all_from, at_each, classes_agree}
+use Rattle.built_review.specs.Review.{bit, is_set, put_bit}
 
 -- ---- the higher bits of a byte are those of its half
 
@@ -58,20 +59,9 @@ and_not_bit zero b h l = bytes_agree (λ b. bit_and b 254) (put_bit 0 0) tt b l
 and_not_bit (suc zero) b h l = bytes_agree (λ b. bit_and b 253) (put_bit 1 0) tt b l
 and_not_bit (suc (suc k)) b h l = absurd (omega arith)
 
-pub and_bit : (k b : ℕ) → k ≤ 1 → b < 256 → bit_and b (2 ^ k) ≡ bit k b * 2 ^ k
-unfolding bit
-and_bit zero b h l = bytes_agree (λ b. bit_and b 1) (λ b. bit 0 b * 1) tt b l
-and_bit (suc zero) b h l = bytes_agree (λ b. bit_and b 2) (λ b. bit 1 b * 2) tt b l
-and_bit (suc (suc k)) b h l = absurd (omega arith)
-
 -- so the code's test tells the bit
-pub bit_clear : (k b : ℕ) → k ≤ 1 → b < 256 → bit_and b (2 ^ k) ≡ 0 → bit k b ≡ 0
-bit_clear zero b h l e = omega (arith, and_bit 0 b h l)
-bit_clear (suc zero) b h l e = omega (arith, and_bit 1 b h l)
-bit_clear (suc (suc k)) b h l e = absurd (omega arith)
-
-pub bit_set : (k b : ℕ) → k ≤ 1 → b < 256 → (bit_and b (2 ^ k) ≡ 0 → ⊥) → bit k b ≡ 1
+pub bit_told : (k b : ℕ) → k ≤ 1 → b < 256 → not (eqb (bit_and b (2 ^ k)) 0) ≡ is_set k b
 unfolding bit
-bit_set k b h l n =
-    let some : bit k b ≡ 0 → ⊥ = λ e. n (and_bit k b h l ∙ rw (e, zero-mul)) in
-    omega arith
+bit_told zero b h l = classes_agree (λ b. not (eqb (bit_and b 1) 0)) (is_set 0) 0 256 tt b (omega arith) l
+bit_told (suc zero) b h l = classes_agree (λ b. not (eqb (bit_and b 2) 0)) (is_set 1) 0 256 tt b (omega arith) l
+bit_told (suc (suc k)) b h l = absurd (omega arith)

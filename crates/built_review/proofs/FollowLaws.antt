@@ -2,6 +2,7 @@
 -- differs by just that bit.
 -- Assumes nothing.
 use Prim.Native.Nat.{ℕ, zero, suc, ◌+◌, ◌-◌, ◌≤◌, ◌<◌}
+use Rattle.std.specs.Prelude.{Ok}
 use mathlib.Core.Path.{◌≡◌, refl, sym, ap, ◌∙◌}
 use mathlib.Core.Bool.{Bool, cond}
 use mathlib.Core.List.{List, [], ◌∷◌}
@@ -15,10 +16,8 @@ use Rattle.text_classes.proofs.Conds.{by_eq}
 use Rattle.text_classes.proofs.FirstLaws.{first_there}
 use Rattle.built_review.specs.Review.{bit, is_set, put_bit, changed, ticks_in, mark_answer, marks_with, ticked_marks, unticked_marks, count_answer}
 use Rattle.built_review.specs.Apart.{Follows, CallsFollow}
-use Rattle.built_review.specs.declared.Marking.TheVariants.{Done}
-use Rattle.built_review.specs.declared.TickCount.TheVariants.{Ticks}
 use Rattle.built_review.proofs.BitLaws.{bit_le, put_own}
-use Rattle.built_review.proofs.TableLaws.{take_changed, Serves, serves, marks_changed, read_clear, read_set}
+use Rattle.built_review.proofs.TableLaws.{take_changed, Serves, serves, marks_changed, read_bit}
 use Rattle.built_review.proofs.StepLaws.{with_length}
 
 -- ---- one byte changed
@@ -44,12 +43,12 @@ less_by x n m h e = by_eq (λ (y : ℕ). m ≡ y) x 1 (λ one. omega arith) (λ 
 
 -- ---- a call that is served
 
-module _ (records : ℕ) (marks : List ℕ) (reviewer token : ℕ) (e : mark_answer records (length marks) reviewer token ≡ Done) where
+module _ (records : ℕ) (marks : List ℕ) (reviewer token : ℕ) (e : mark_answer records (length marks) reviewer token ≡ Ok tt) where
   is : Serves records (length marks) reviewer token
   is = serves records (length marks) reviewer token e
 
   count_served : (table : List ℕ) → length table ≡ length marks
-      → count_answer records table reviewer ≡ Ticks (ticks_in reviewer (take records table))
+      → count_answer records table reviewer ≡ Ok (ticks_in reviewer (take records table))
   unfolding count_answer
   count_served table same =
       let h = is in
@@ -58,7 +57,7 @@ module _ (records : ℕ) (marks : List ℕ) (reviewer token : ℕ) (e : mark_ans
       simp (le-ltb 1 reviewer known, le-ltb (length table) records long)
 
   module _ (d : ℕ) (small : d ≤ 1) where
-    answered : mark_answer records (length (marks_with d records marks reviewer token)) reviewer token ≡ Done
+    answered : mark_answer records (length (marks_with d records marks reviewer token)) reviewer token ≡ Ok tt
     answered = ap (λ (n : ℕ). mark_answer records n reviewer token) (with_length d records marks reviewer token small) ∙ e
 
     bit_there : bit reviewer (get_or (marks_with d records marks reviewer token) token 0) ≡ d
@@ -87,10 +86,10 @@ module _ (records : ℕ) (marks : List ℕ) (reviewer token : ℕ) (e : mark_ans
       → ((m : ℕ) → m + bit reviewer (get_or marks token 0) ≡ ticks_in reviewer (take records marks) + d
       → m ≡ f (eqb (bit reviewer (get_or marks token 0)) 1))
       → count_answer records (marks_with d records marks reviewer token) reviewer
-      ≡ Ticks (f (first_is (is_set reviewer) (drop token marks)))
+      ≡ Ok (f (first_is (is_set reviewer) (drop token marks)))
   count_after d small f law =
       count_served (marks_with d records marks reviewer token) (with_length d records marks reviewer token small)
-      ∙ ap Ticks (law _ (count_with d small) ∙ sym (ap f was_set))
+      ∙ ap Ok (law _ (count_with d small) ∙ sym (ap f was_set))
 
   follows : Follows records marks reviewer token
   unfolding ticked_marks unticked_marks
@@ -101,8 +100,8 @@ module _ (records : ℕ) (marks : List ℕ) (reviewer token : ℕ) (e : mark_ans
       let set : 1 ≤ 1 = omega arith in
       let clear : 0 ≤ 1 = omega arith in
       record {
-        ticked = read_set records (marks_with 1 records marks reviewer token) reviewer token (answered 1 set) (bit_there 1 set);
-        unticked = read_clear records (marks_with 0 records marks reviewer token) reviewer token (answered 0 clear) (bit_there 0 clear);
+        ticked = read_bit records (marks_with 1 records marks reviewer token) reviewer token (answered 1 set) 1 (bit_there 1 set);
+        unticked = read_bit records (marks_with 0 records marks reviewer token) reviewer token (answered 0 clear) 0 (bit_there 0 clear);
         count = count;
         before = count_served marks refl;
         more = count_after 1 set (λ t. cond t count (count + 1)) (λ m e. more_by (bit reviewer mark) count m low e);

@@ -2,6 +2,7 @@
 -- depends only on these bits, the number of records and the table's length.
 -- Assumes nothing.
 use Prim.Native.Nat.{ℕ, zero, suc, ◌+◌, ◌≤◌}
+use Rattle.std.specs.Prelude.{Result, Ok, Err, ⊤}
 use mathlib.Core.Path.{◌≡◌, refl, sym, ap, ◌∙◌}
 use mathlib.Core.Bool.{Bool, cond}
 use mathlib.Core.List.{List, [], ◌∷◌, map}
@@ -10,15 +11,10 @@ use lib.ListN.{length, take, drop}
 use lib.Dec.{ltb, eqb}
 use Rattle.text_classes.specs.Runs.{first_is}
 use Rattle.text_classes.proofs.FirstLaws.{first_take}
+use Rattle.text_refusals.specs.declared.Refusal.{Refusal}
 use Rattle.text_refusals.specs.declared.Refusal.TheVariants.{NoReviewer, FewMarks}
 use Rattle.built_review.specs.Review.{bit, is_set, put_bit, changed, ticks_in, mark_answer, marks_by, marks_with, ticked_marks, unticked_marks, read_by, read_answer, count_answer}
 use Rattle.built_review.specs.Apart.{ReviewCall, tick, untick, is_ticked, ticks, caller, marked, read, counted, tells, leaves, own_bits, Alike}
-use Rattle.built_review.specs.declared.Marking.{Marking}
-use Rattle.built_review.specs.declared.Marking.TheVariants.{Done, Refused}
-use Rattle.built_review.specs.declared.TickRead.{TickRead}
-use Rattle.built_review.specs.declared.TickRead.TheVariants.{Ticked, Unticked, Refused as Unread}
-use Rattle.built_review.specs.declared.TickCount.{TickCount}
-use Rattle.built_review.specs.declared.TickCount.TheVariants.{Ticks, Refused as Uncounted}
 use Rattle.built_review.proofs.BitLaws.{put_own, put_other}
 use Rattle.built_review.proofs.TableLaws.{length_changed, take_changed, drop_changed, read_kept, read_changed, Serves, serves}
 
@@ -31,9 +27,9 @@ module _ (d records : ℕ) (marks : List ℕ) (reviewer token : ℕ) (small : d 
       → P (marks_with d records marks reviewer token)
   by_answer P kept done = go (mark_answer records (length marks) reviewer token) refl
     where
-      go : (a : Marking) → mark_answer records (length marks) reviewer token ≡ a → P (marks_by a (put_bit reviewer d) token marks)
-      go Done e = done (serves records (length marks) reviewer token e)
-      go (Refused r) e = kept
+      go : (a : Result ⊤ Refusal) → mark_answer records (length marks) reviewer token ≡ a → P (marks_by a (put_bit reviewer d) token marks)
+      go (Ok _) e = done (serves records (length marks) reviewer token e)
+      go (Err r) e = kept
 
   pub with_length : length (marks_with d records marks reviewer token) ≡ length marks
   with_length = by_answer (λ s. length s ≡ length marks) refl (λ h. length_changed (put_bit reviewer d) marks token)
@@ -55,18 +51,18 @@ module _ (d records : ℕ) (marks : List ℕ) (reviewer token : ℕ) (small : d 
       ≡ marks_by (mark_answer records (length marks) reviewer token) (λ _. d) token (map (bit reviewer) marks)
   with_own = go (mark_answer records (length marks) reviewer token) refl
     where
-      go : (a : Marking) → mark_answer records (length marks) reviewer token ≡ a
+      go : (a : Result ⊤ Refusal) → mark_answer records (length marks) reviewer token ≡ a
           → map (bit reviewer) (marks_by a (put_bit reviewer d) token marks)
           ≡ marks_by a (λ _. d) token (map (bit reviewer) marks)
-      go Done e =
+      go (Ok _) e =
           let h = serves records (length marks) reviewer token e in
           read_changed (put_bit reviewer d) (bit reviewer) (λ _. d) (λ b. put_own reviewer d b h.known small) marks token
-      go (Refused r) e = refl
+      go (Err r) e = refl
 
-take_by : (n : ℕ) (a : Marking) (f : ℕ → ℕ) (token : ℕ) (bits : List ℕ)
+take_by : (n : ℕ) (a : Result ⊤ Refusal) (f : ℕ → ℕ) (token : ℕ) (bits : List ℕ)
     → take n (marks_by a f token bits) ≡ marks_by a f token (take n bits)
-take_by n Done f token bits = take_changed f n bits token
-take_by n (Refused r) f token bits = refl
+take_by n (Ok _) f token bits = take_changed f n bits token
+take_by n (Err r) f token bits = refl
 
 module _ (d records : ℕ) (small : d ≤ 1) (reviewer token : ℕ) where
   own_with : (table : List ℕ) → own_bits reviewer records (marks_with d records table reviewer token)
@@ -125,23 +121,23 @@ first_bits k [] (suc i) = refl
 first_bits k (b ∷ s) zero = refl
 first_bits k (b ∷ s) (suc i) = first_bits k s i
 
-abbrev read_bits : Marking → List ℕ → TickRead
-read_bits Done bits = cond (first_is (λ d. eqb d 1) bits) Ticked Unticked
-read_bits (Refused r) bits = Unread r
+abbrev read_bits : Result ⊤ Refusal → List ℕ → Result Bool Refusal
+read_bits (Ok _) bits = Ok (first_is (λ d. eqb d 1) bits)
+read_bits (Err r) bits = Err r
 
 read_bits_lem : (records : ℕ) (marks : List ℕ) (reviewer token : ℕ) → read_answer records marks reviewer token
     ≡ read_bits (mark_answer records (length marks) reviewer token) (drop token (own_bits reviewer records marks))
 unfolding read_answer
 read_bits_lem records marks reviewer token = go (mark_answer records (length marks) reviewer token) refl
   where
-    go : (a : Marking) → mark_answer records (length marks) reviewer token ≡ a
+    go : (a : Result ⊤ Refusal) → mark_answer records (length marks) reviewer token ≡ a
         → read_by a reviewer (drop token marks) ≡ read_bits a (drop token (own_bits reviewer records marks))
-    go Done e =
+    go (Ok _) e =
         let h = serves records (length marks) reviewer token e in
-        ap (λ (t : Bool). cond t Ticked Unticked)
+        ap Ok
         (first_bits reviewer marks token
         ∙ sym (first_take (λ d. eqb d 1) (map (bit reviewer) marks) records token h.there))
-    go (Refused r) e = refl
+    go (Err r) e = refl
 
 abbrev total : List ℕ → ℕ
 total [] = 0
@@ -154,10 +150,10 @@ ticks_total k (suc n) [] = refl
 ticks_total k (suc n) (b ∷ s) = ap (λ (m : ℕ). bit k b + m) (ticks_total k n s)
 
 -- the answer by the number of entries and that of ticks
-abbrev count_with : ℕ → ℕ → ℕ → ℕ → TickCount
+abbrev count_with : ℕ → ℕ → ℕ → ℕ → Result ℕ Refusal
 count_with records entries reviewer n =
-    cond (ltb 1 reviewer) (Uncounted (NoReviewer reviewer))
-    (cond (ltb entries records) (Uncounted (FewMarks records)) (Ticks n))
+    cond (ltb 1 reviewer) (Err (NoReviewer reviewer))
+    (cond (ltb entries records) (Err (FewMarks records)) (Ok n))
 
 count_bits : (records : ℕ) (marks : List ℕ) (reviewer : ℕ)
     → count_answer records marks reviewer ≡ count_with records (length marks) reviewer (total (own_bits reviewer records marks))

@@ -1,8 +1,8 @@
 -- The table of marks: what a changed byte leaves as it was, which calls are served, and what they leave in the table.
 -- Assumes nothing.
 use Prim.Native.Nat.{ℕ, zero, suc, ◌≤◌, ◌<◌}
+use Rattle.std.specs.Prelude.{Result, Ok, Err, ⊤}
 use mathlib.Core.Path.{◌≡◌, refl, sym, ap, ◌∙◌}
-use mathlib.Core.Bool.{Bool, cond}
 use mathlib.Core.List.{List, [], ◌∷◌, map}
 use native.Mathlib.Omega.{arith}
 use borrow.Author.Tests.{leb-false}
@@ -12,9 +12,6 @@ use Rattle.text_refusals.specs.declared.Refusal.{Refusal}
 use Rattle.text_classes.proofs.FirstLaws.{first_there}
 use Rattle.text_classes.proofs.Conds.{cond_case, by_lt}
 use Rattle.built_review.specs.Review.{bit, is_set, put_bit, changed, mark_answer, marks_by, marks_with, read_by, read_answer}
-use Rattle.built_review.specs.declared.Marking.{Marking}
-use Rattle.built_review.specs.declared.Marking.TheVariants.{Done, Refused}
-use Rattle.built_review.specs.declared.TickRead.TheVariants.{Ticked, Unticked, Refused as Unread}
 
 -- ---- one byte changed
 
@@ -62,14 +59,14 @@ pub record Serves (records entries reviewer token : ℕ) : Type 0 where
   pub there : token < records
   pub long : records ≤ entries
 
-refused_not_done : (r : Refusal) → Refused r ≡ Done → ⊥
+refused_not_done : (r : Refusal) → ◌≡◌ {A = Result ⊤ Refusal} (Err r) (Ok tt) → ⊥
 refused_not_done r e = let z : ◌≡◌ {A = ℕ} 0 1 = cc in omega arith
 
 module _ (records entries reviewer token : ℕ) where
-  pub serves : mark_answer records entries reviewer token ≡ Done → Serves records entries reviewer token
+  pub serves : mark_answer records entries reviewer token ≡ Ok tt → Serves records entries reviewer token
   unfolding mark_answer
   serves =
-      let P : Marking → Type 0 = λ r. r ≡ Done → Serves records entries reviewer token in
+      let P : Result ⊤ Refusal → Type 0 = λ r. r ≡ Ok tt → Serves records entries reviewer token in
       by_lt P 1 reviewer (λ h e. absurd (refused_not_done _ e))
       λ known. cond_case P (leb records token) (λ t e. absurd (refused_not_done _ e))
       λ t. by_lt P entries records (λ h e. absurd (refused_not_done _ e))
@@ -78,16 +75,16 @@ module _ (records entries reviewer token : ℕ) where
 -- ---- the table afterwards, by the answer
 
 module _ (d records : ℕ) (marks : List ℕ) (reviewer token : ℕ) where
-  pub marks_kept : (r : Refusal) → mark_answer records (length marks) reviewer token ≡ Refused r
+  pub marks_kept : (r : Refusal) → mark_answer records (length marks) reviewer token ≡ Err r
       → marks_with d records marks reviewer token ≡ marks
-  marks_kept r e = ap (λ (a : Marking). marks_by a (put_bit reviewer d) token marks) e
+  marks_kept r e = ap (λ (a : Result ⊤ Refusal). marks_by a (put_bit reviewer d) token marks) e
 
-  pub marks_changed : mark_answer records (length marks) reviewer token ≡ Done
+  pub marks_changed : mark_answer records (length marks) reviewer token ≡ Ok tt
       → marks_with d records marks reviewer token ≡ changed (put_bit reviewer d) token marks
-  marks_changed e = ap (λ (a : Marking). marks_by a (put_bit reviewer d) token marks) e
+  marks_changed e = ap (λ (a : Result ⊤ Refusal). marks_by a (put_bit reviewer d) token marks) e
 
   -- stored as the code does
-  pub marks_stored : (byte : ℕ) → mark_answer records (length marks) reviewer token ≡ Done
+  pub marks_stored : (byte : ℕ) → mark_answer records (length marks) reviewer token ≡ Ok tt
       → byte ≡ put_bit reviewer d (get_or marks token 0) → set marks token byte ≡ marks_with d records marks reviewer token
   marks_stored byte e p =
       let h = serves records (length marks) reviewer token e in
@@ -96,24 +93,18 @@ module _ (d records : ℕ) (marks : List ℕ) (reviewer token : ℕ) where
 -- ---- what is asked, by the answer
 
 module _ (records : ℕ) (marks : List ℕ) (reviewer token : ℕ) where
-  pub read_refused : (r : Refusal) → mark_answer records (length marks) reviewer token ≡ Refused r
-      → read_answer records marks reviewer token ≡ Unread r
+  pub read_refused : (r : Refusal) → mark_answer records (length marks) reviewer token ≡ Err r
+      → read_answer records marks reviewer token ≡ Err r
   unfolding read_answer
-  read_refused r e = ap (λ (a : Marking). read_by a reviewer (drop token marks)) e
+  read_refused r e = ap (λ (a : Result ⊤ Refusal). read_by a reviewer (drop token marks)) e
 
   -- where the call is served, by the bit of the token's byte
-  module _ (e : mark_answer records (length marks) reviewer token ≡ Done) where
-    read_bit : (d : ℕ) → bit reviewer (get_or marks token 0) ≡ d
-        → read_answer records marks reviewer token ≡ cond (eqb d 1) Ticked Unticked
+  module _ (e : mark_answer records (length marks) reviewer token ≡ Ok tt) where
+    pub read_bit : (d : ℕ) → bit reviewer (get_or marks token 0) ≡ d
+        → read_answer records marks reviewer token ≡ Ok (eqb d 1)
     unfolding read_answer
     read_bit d f =
         let h = serves records (length marks) reviewer token e in
-        ap (λ (a : Marking). read_by a reviewer (drop token marks)) e
-        ∙ ap (λ (t : Bool). cond t Ticked Unticked)
+        ap (λ (a : Result ⊤ Refusal). read_by a reviewer (drop token marks)) e
+        ∙ ap Ok
         (first_there (is_set reviewer) marks token (omega arith) ∙ ap (λ (n : ℕ). eqb n 1) f)
-
-    pub read_clear : bit reviewer (get_or marks token 0) ≡ 0 → read_answer records marks reviewer token ≡ Unticked
-    read_clear f = read_bit 0 f
-
-    pub read_set : bit reviewer (get_or marks token 0) ≡ 1 → read_answer records marks reviewer token ≡ Ticked
-    read_set f = read_bit 1 f

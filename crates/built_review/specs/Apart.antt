@@ -2,12 +2,12 @@
 -- any order. Proved in proofs/ApartLaws.antt, and what an answered tick does in proofs/FollowLaws.antt. That the functions tell
 -- and leave what the calls here do is proved of their promises, in proofs/CallLaws.antt.
 -- Assumes nothing.
-use Rattle.std.specs.Prelude.{ℕ, ◌+◌, ◌-◌, ◌<◌}
-use mathlib.Core.{Path.◌≡◌, Bool.cond, List.List, List.[], List.◌∷◌, List.map}
+use Rattle.std.specs.Prelude.{ℕ, ◌+◌, ◌-◌, ◌<◌, Result, Ok, ⊤}
+use mathlib.Core.{Path.◌≡◌, Bool.Bool, Bool.true, Bool.false, Bool.cond, List.List, List.[], List.◌∷◌, List.map}
 use lib.{ListN.length, ListN.take, ListN.drop, Dec.eqb}
 use Rattle.text_classes.specs.{Runs.first_is}
 use Rattle.built_review.specs.{Review.bit, Review.is_set, Review.mark_answer, Review.ticked_marks, Review.unticked_marks, Review.read_answer, Review.count_answer}
-use Rattle.built_review.specs.declared.{Marking.Marking, Marking.TheVariants.Done, TickRead.TickRead, TickRead.TheVariants.Ticked, TickRead.TheVariants.Unticked, TickCount.TickCount, TickCount.TheVariants.Ticks}
+use Rattle.text_refusals.specs.declared.Refusal.{Refusal}
 
 -- ---- calls, one after another on one table
 
@@ -27,9 +27,9 @@ caller (ticks reviewer) = reviewer
 
 -- what a reviewer is told by a call
 pub data CallAnswer : Type 0 where
-  marked : Marking → CallAnswer
-  read : TickRead → CallAnswer
-  counted : TickCount → CallAnswer
+  marked : Result ⊤ Refusal → CallAnswer
+  read : Result Bool Refusal → CallAnswer
+  counted : Result ℕ Refusal → CallAnswer
 
 -- what a call tells, for so many records and a table
 abbrev pub tells : ℕ → List ℕ → ReviewCall → CallAnswer
@@ -112,16 +112,16 @@ RestStays =
 -- the token is then ticked or not; and the count is one more after a tick where the bit was clear, one less after an untick
 -- where it was set, else the same
 pub record Follows (records : ℕ) (marks : List ℕ) (reviewer token : ℕ) : Type 0 where
-  pub ticked : read_answer records (ticked_marks records marks reviewer token) reviewer token ≡ Ticked
-  pub unticked : read_answer records (unticked_marks records marks reviewer token) reviewer token ≡ Unticked
+  pub ticked : read_answer records (ticked_marks records marks reviewer token) reviewer token ≡ Ok true
+  pub unticked : read_answer records (unticked_marks records marks reviewer token) reviewer token ≡ Ok false
   pub count : ℕ
-  pub before : count_answer records marks reviewer ≡ Ticks count
+  pub before : count_answer records marks reviewer ≡ Ok count
   pub more : count_answer records (ticked_marks records marks reviewer token) reviewer
-      ≡ Ticks (cond (first_is (is_set reviewer) (drop token marks)) count (count + 1))
+      ≡ Ok (cond (first_is (is_set reviewer) (drop token marks)) count (count + 1))
   pub less : count_answer records (unticked_marks records marks reviewer token) reviewer
-      ≡ Ticks (cond (first_is (is_set reviewer) (drop token marks)) (count - 1) count)
+      ≡ Ok (cond (first_is (is_set reviewer) (drop token marks)) (count - 1) count)
 
 abbrev pub CallsFollow : Type 0
 CallsFollow =
-    (records : ℕ) (marks : List ℕ) (reviewer token : ℕ) → mark_answer records (length marks) reviewer token ≡ Done
+    (records : ℕ) (marks : List ℕ) (reviewer token : ℕ) → mark_answer records (length marks) reviewer token ≡ Ok tt
     → Follows records marks reviewer token

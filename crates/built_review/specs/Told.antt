@@ -1,28 +1,16 @@
--- FOLLOWS. The numbers in which the answers on marks are told: each follows from the answer, and promises say besides what
--- they come to for the arguments. Proved by `marked`, `asked` and `counted` in
--- proofs/NumberLaws.antt.
+-- FOLLOWS. What the numbers in which the answers on marks are told come to for the arguments. Proved by `marked`, `asked` and
+-- `counted` in proofs/NumberLaws.antt.
 -- Assumes nothing.
 use Rattle.std.specs.Prelude.{ℕ}
 use mathlib.Core.{Bool.cond, List.List}
 use lib.{ListN.length, ListN.take, ListN.drop, Dec.ltb, Dec.leb}
 use Rattle.text_classes.specs.{Runs.first_is}
-use Rattle.text_refusals.specs.{Refusals.refusal_number, Refusals.refusal_value}
 use Rattle.built_review.specs.{Review.is_set, Review.ticks_in}
-use Rattle.built_review.specs.declared.{Marking.Marking, Marking.TheVariants.Done, Marking.TheVariants.Refused, TickRead.TickRead, TickRead.TheVariants.Ticked, TickRead.TheVariants.Unticked, TickRead.TheVariants.Refused as Unread, TickCount.TickCount, TickCount.TheVariants.Ticks, TickCount.TheVariants.Refused as Uncounted}
 
 -- ---- setting and clearing
 
--- the answer's number, and the number returned
-abbrev pub mark_number : Marking → ℕ
-mark_number Done = 0
-mark_number (Refused r) = refusal_number r
-
-abbrev pub mark_value : Marking → ℕ
-mark_value Done = 0
-mark_value (Refused r) = refusal_value r
-
--- what they come to for the numbers of records and entries, a reviewer and a token: 11 with the reviewer's number, 6 and 12
--- with the number of records, else 0
+-- for the numbers of records and entries, a reviewer and a token: 11 with the reviewer's number, 6 and 12 with the number of
+-- records, else 0
 abbrev pub mark_refusal : ℕ → ℕ → ℕ → ℕ → ℕ
 mark_refusal records entries reviewer token =
     cond (ltb 1 reviewer) 11 (cond (leb records token) 6 (cond (ltb entries records) 12 0))
@@ -37,30 +25,12 @@ mark_returned = returned_or 0
 
 -- ---- asking: its number is that of setting and clearing
 
-abbrev pub read_number : TickRead → ℕ
-read_number Ticked = 0
-read_number Unticked = 0
-read_number (Unread r) = refusal_number r
-
 -- 1 for a token that is ticked
-abbrev pub read_value : TickRead → ℕ
-read_value Ticked = 1
-read_value Unticked = 0
-read_value (Unread r) = refusal_value r
-
 abbrev pub read_returned : ℕ → List ℕ → ℕ → ℕ → ℕ
 read_returned records marks reviewer token =
     returned_or (cond (first_is (is_set reviewer) (drop token marks)) 1 0) records (length marks) reviewer token
 
 -- ---- counting
-
-abbrev pub count_number : TickCount → ℕ
-count_number (Ticks n) = 0
-count_number (Uncounted r) = refusal_number r
-
-abbrev pub count_value : TickCount → ℕ
-count_value (Ticks n) = n
-count_value (Uncounted r) = refusal_value r
 
 abbrev pub count_refusal : ℕ → ℕ → ℕ → ℕ
 count_refusal records entries reviewer = cond (ltb 1 reviewer) 11 (cond (ltb entries records) 12 0)

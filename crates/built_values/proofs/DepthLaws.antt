@@ -4,6 +4,7 @@ use Prim.Native.Nat.{ℕ, zero, suc, ◌+◌, ◌≤◌, ◌<◌}
 use mathlib.Core.Path.{◌≡◌, refl, ap, ◌∙◌}
 use mathlib.Core.Bool.{Bool, true, false, cond}
 use mathlib.Core.List.{List, [], ◌∷◌}
+use mir.Val.{bool_byte}
 use native.Mathlib.Omega.{arith}
 use borrow.Author.Tests.{ltb-true, ltb-false}
 use lib.Dec.{ltb}
@@ -24,9 +25,9 @@ same_test a b c d f g = go (ltb a b) (ltb c d) refl refl
     go false true p q = let h = g (ltb-true c d q) in absurd (omega (arith, ltb-false a b p))
     go false false p q = refl
 
-pub counted : (x : Bool) (n : ℕ) → n ≡ cond x 1 0 → n ≤ 1
-counted true n e = omega arith
-counted false n e = omega arith
+pub counted : (x y : Bool) (n : ℕ) → n ≡ bool_byte x → x ≡ y → (n ≡ cond y 1 0) × (n ≤ 1)
+counted x true n e f = let one : n ≡ 1 = e ∙ ap bool_byte f in (one, omega arith)
+counted x false n e f = let none : n ≡ 0 = e ∙ ap bool_byte f in (none, omega arith)
 
 -- ---- a turn of the loop: o and k are what it adds to the opening and to the closing brackets
 

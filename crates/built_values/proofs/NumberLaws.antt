@@ -6,19 +6,22 @@ use mathlib.Core.Bool.{Bool, true, false, cond}
 use mathlib.Core.Logic.{◌⊎◌, inl, inr}
 use mathlib.Core.List.{List}
 use native.Mathlib.Omega.{arith}
-use borrow.Author.Tests.{lt-ltb, le-ltb, eq-eqb, ne_eqb}
-use lib.Dec.{ltb, eqb}
+use borrow.Author.Tests.{lt-ltb, le-ltb}
+use lib.Dec.{ltb}
 use lib.ListN.{length}
 use Rattle.text_classes.proofs.Conds.{or_left, or_right}
+use Rattle.std.specs.Prelude.{Result, Err}
 use Rattle.text_refusals.specs.Refusals.{depth}
+use Rattle.text_refusals.specs.Told.{told_number, told_value}
+use Rattle.text_refusals.specs.declared.Refusal.{Refusal}
 use Rattle.decoder_rules.specs.declared.Edition.{Edition}
 use Rattle.decoder_rules.specs.declared.Edition.TheVariants.{Toml10, Toml11}
-use Rattle.decoder_rules.specs.Encodings.{edition_number, is_edition}
+use Rattle.decoder_rules.specs.Encodings.{edition_number, is_edition, edition_of}
+use Rattle.decoder_rules.proofs.EditionNumbers.{OfNumber, as_read, edition_is, not_edition}
 use Rattle.built_values.specs.Depth.{Deep}
 use Rattle.built_values.specs.Answers.{Judged, Named, ValueAnswer}
-use Rattle.built_values.specs.Told.{value_number, value_value, is_outside, value_refusal, value_returned}
+use Rattle.built_values.specs.Told.{is_outside, value_refusal, value_returned}
 use Rattle.built_values.specs.Told.{deep_from}
-use Rattle.built_values.specs.declared.ValueCheck.{ValueCheck}
 use Rattle.built_values.proofs.DepthLaws.{is_deep, deep_is}
 
 -- ---- the tests that the numbers go by
@@ -30,16 +33,11 @@ out n start end (inr h) = or_right (ltb n end) _ (lt-ltb end start h)
 not_out : (n start end : ℕ) → end ≤ n → start ≤ end → is_outside n start end ≡ false
 not_out n start end h k = rw (le-ltb n end h, le-ltb end start k) refl
 
-edition_is : (v : Edition) (n : ℕ) → edition_number v ≡ n → is_edition n ≡ true
-edition_is Toml10 n e = or_left _ _ (eq-eqb n 10 (sym e))
-edition_is Toml11 n e = or_right (eqb n 10) _ (eq-eqb n 11 (sym e))
-
-not_edition : (n : ℕ) → ((v : Edition) → edition_number v ≡ n → ⊥) → is_edition n ≡ false
-not_edition n h = rw (ne_eqb n 10 (λ e. h Toml10 (sym e)), ne_eqb n 11 (λ e. h Toml11 (sym e))) refl
-
-pub none_has : (n : ℕ) → (n ≡ 10 → ⊥) → (n ≡ 11 → ⊥) → (v : Edition) → edition_number v ≡ n → ⊥
-none_has n a b Toml10 e = a (sym e)
-none_has n a b Toml11 e = b (sym e)
+pub unnamed_by : (n : ℕ) (run : List ℕ) (r : Refusal) → Err r ≡ edition_of n → Named n run (Err r)
+unnamed_by n run r e = go (as_read n (Err r) e)
+  where
+    go : {x : Refusal} → OfNumber n (Err x) → Named n run (Err x)
+    go (OfNumber.unknown f) = Named.no_edition f
 
 shallow : (run : List ℕ) → (Deep run → ⊥) → deep_from 0 0 run ≡ false
 shallow run calm = go (deep_from 0 0 run) refl
@@ -50,27 +48,27 @@ shallow run calm = go (deep_from 0 0 run) refl
 
 -- ---- the numbers
 
-abbrev Told : ValueCheck → ℕ → ℕ → Type 0
-Told answer number value = (value_number answer ≡ number) × (value_value answer ≡ value)
+abbrev Told : Result Bool Refusal → ℕ → ℕ → Type 0
+Told answer number value = (told_number answer ≡ number) × (told_value answer ≡ value)
 
-judged_told : {v : Edition} {run : List ℕ} {answer : ValueCheck} → Judged v run answer
+judged_told : {v : Edition} {run : List ℕ} {answer : Result Bool Refusal} → Judged v run answer
     → Told answer (cond (deep_from 0 0 run) 10 0) (cond (deep_from 0 0 run) depth 0)
 judged_told {run = run} (Judged.too_deep d) = (rw (is_deep run d) refl, rw (is_deep run d) refl)
 judged_told {run = run} (Judged.value n d) = (rw (shallow run n) refl, rw (shallow run n) refl)
 judged_told {run = run} (Judged.no_value n d) = (rw (shallow run n) refl, rw (shallow run n) refl)
 
-named_told : {edition : ℕ} {run : List ℕ} {answer : ValueCheck} → Named edition run answer
+named_told : {edition : ℕ} {run : List ℕ} {answer : Result Bool Refusal} → Named edition run answer
     → Told answer (cond (is_edition edition) (cond (deep_from 0 0 run) 10 0) 9)
     (cond (is_edition edition) (cond (deep_from 0 0 run) depth 0) edition)
 named_told {edition} (Named.no_edition n) = let e = not_edition edition n in (rw e refl, rw e refl)
 named_told {edition} (Named.named v e d) = let f = edition_is v edition e in let t = judged_told d in (rw f t.0, rw f t.1)
 
 -- beside the answer, as a promise says them
-pub told : {records : List (List ℕ)} {edition start end : ℕ} {r : ValueCheck} → ValueAnswer records edition start end r
+pub told : {records : List (List ℕ)} {edition start end : ℕ} {r : Result Bool Refusal} → ValueAnswer records edition start end r
     → record {
       answer : ValueAnswer records edition start end r;
-      number : value_number r ≡ value_refusal records edition start end;
-      value : value_value r ≡ value_returned records edition start end;
+      number : told_number r ≡ value_refusal records edition start end;
+      value : told_value r ≡ value_returned records edition start end;
     }
 told {records} {edition} {start} {end} (ValueAnswer.outside h) =
     let e = out (length records) start end h in
@@ -82,7 +80,7 @@ told {records} {edition} {start} {end} (ValueAnswer.within h k d) =
 
 -- ---- one answer
 
-judged_one : {v : Edition} {run : List ℕ} {x y : ValueCheck} → Judged v run x → Judged v run y → x ≡ y
+judged_one : {v : Edition} {run : List ℕ} {x y : Result Bool Refusal} → Judged v run x → Judged v run y → x ≡ y
 judged_one (Judged.too_deep d) (Judged.too_deep e) = refl
 judged_one (Judged.too_deep d) (Judged.value n e) = absurd (n d)
 judged_one (Judged.too_deep d) (Judged.no_value n e) = absurd (n d)
@@ -100,7 +98,7 @@ same_edition Toml10 Toml11 e = absurd (omega arith)
 same_edition Toml11 Toml10 e = absurd (omega arith)
 same_edition Toml11 Toml11 e = refl
 
-pub named_one : {edition : ℕ} {run : List ℕ} {x y : ValueCheck} → Named edition run x → Named edition run y → x ≡ y
+pub named_one : {edition : ℕ} {run : List ℕ} {x y : Result Bool Refusal} → Named edition run x → Named edition run y → x ≡ y
 named_one (Named.no_edition n) (Named.no_edition m) = refl
 named_one (Named.no_edition n) (Named.named v e d) = absurd (n v e)
 named_one (Named.named v e d) (Named.no_edition n) = absurd (n v e)
@@ -111,7 +109,7 @@ pub away : (n : ℕ) {start end : ℕ} → (n < end) ⊎ (end < start) → end �
 away n (inl h) a b = omega arith
 away n (inr h) a b = omega arith
 
-pub one_answer : {records : List (List ℕ)} {edition start end : ℕ} {x y : ValueCheck}
+pub one_answer : {records : List (List ℕ)} {edition start end : ℕ} {x y : Result Bool Refusal}
     → ValueAnswer records edition start end x → ValueAnswer records edition start end y → x ≡ y
 one_answer (ValueAnswer.outside h) (ValueAnswer.outside k) = refl
 one_answer {records} (ValueAnswer.outside h) (ValueAnswer.within a b d) = absurd (away (length records) h a b)

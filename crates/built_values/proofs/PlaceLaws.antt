@@ -12,8 +12,7 @@ use Rattle.text_classes.proofs.FirstLaws.{stands_there}
 use Rattle.decoder_rules.specs.declared.Edition.{Edition}
 use Rattle.built_values.specs.Values.{Spaced, Key, Val, Keyval}
 use Rattle.built_values.specs.Checkers.{is_simple_key, past, NoPart, NoDot, NoBlank, Takes, Found, Finds, Marked}
-use Rattle.built_values.specs.declared.check.Taken.{Taken}
-use Rattle.built_values.specs.declared.check.Taken.TheVariants.{UpTo, Nothing}
+use Rattle.std.specs.Prelude.{Option, Some, None}
 use Rattle.built_values.specs.declared.kinds.Run.{Run}
 use Rattle.built_values.specs.declared.kinds.Run.TheVariants.{Blanks}
 use Rattle.built_values.proofs.KindLaws.{at_cons, stands_cons}
@@ -72,7 +71,7 @@ module _ (ks : List ℕ) (at p : ℕ) (g : KeyGoing ks at p) where
     key_at_none e r n d = key_not (drop p ks) _ _ here e r (g.back r n (key_tail d))
 
     module _ (e : is_simple_key (get_or ks p 0) ≡ true) where
-      pub key_found : Finds (Spaced 46) NoBlank ks (p + 1) Nothing → Found Key NoDot ks at (p + 1)
+      pub key_found : Finds (Spaced 46) NoBlank ks (p + 1) None → Found Key NoDot ks at (p + 1)
       key_found m = record {
         takes = tail_key (g.on _ (ends_key (drop p ks) _ _ here e));
         only = λ r n d. key_ends_lem (drop p ks) _ _ here m r (g.back r n (key_tail d));
@@ -93,7 +92,7 @@ module _ (ks : List ℕ) (at p : ℕ) (g : KeyGoing ks at p) where
 -- ---- keyvals
 
 module _ (v : Edition) (ks : List ℕ) (at : ℕ) where
-  pub keyval_no_key : Finds Key NoDot ks at Nothing → (r : List ℕ) → NoPart r → Takes (Keyval v) (drop at ks) r → ⊥
+  pub keyval_no_key : Finds Key NoDot ks at None → (r : List ℕ) → NoPart r → Takes (Keyval v) (drop at ks) r → ⊥
   keyval_no_key m r n d = let t = three d in m t.first (before_mark (λ s. refl) 46 refl t.sep) t.key
 
   module _ (k : ℕ) (f : Found Key NoDot ks at k) where
@@ -104,7 +103,7 @@ module _ (v : Edition) (ks : List ℕ) (at : ℕ) where
         let ends = f.only t.first (before_mark (λ s. refl) 46 refl t.sep) t.key in
         subst (λ (s : List ℕ). Takes (Spaced 61) s t.second) ends t.sep
 
-    pub keyval_no_sep : Finds (Spaced 61) NoBlank ks k Nothing → (r : List ℕ) → NoPart r → Takes (Keyval v) (drop at ks) r → ⊥
+    pub keyval_no_sep : Finds (Spaced 61) NoBlank ks k None → (r : List ℕ) → NoPart r → Takes (Keyval v) (drop at ks) r → ⊥
     keyval_no_sep m r n d = m (three d).second (val_no_blank (three d).val) (sep_at d)
 
     module _ (b : ℕ) (g : Found (Spaced 61) NoBlank ks k b) where
@@ -113,11 +112,11 @@ module _ (v : Edition) (ks : List ℕ) (at : ℕ) where
           let t = three d in
           subst (λ (s : List ℕ). Takes (Val v) s r) (g.only t.second (val_no_blank t.val) (sep_at d)) t.val
 
-      pub keyval_found : (t : Taken) → Finds (Val v) NoPart ks b t → Finds (Keyval v) NoPart ks at t
-      keyval_found (UpTo end) h = record {
+      pub keyval_found : (t : Option ℕ) → Finds (Val v) NoPart ks b t → Finds (Keyval v) NoPart ks at t
+      keyval_found (Some end) h = record {
         takes = of_three f.takes g.takes h.takes;
         only = λ r n d. h.only r n (val_at d);
         after = omega (arith, f.after, g.after, h.after);
         within = h.within;
       }
-      keyval_found Nothing h = λ r n d. h r n (val_at d)
+      keyval_found None h = λ r n d. h r n (val_at d)

@@ -2,15 +2,18 @@
 -- Assumes nothing.
 use Prim.Native.Nat.{ℕ, ◌+◌, ◌≤◌, ◌<◌}
 use mathlib.Core.Path.{◌≡◌, refl, sym, ap, subst, ◌∙◌}
-use mathlib.Core.Bool.{true, false}
+use mathlib.Core.Bool.{Bool, true, false}
 use mathlib.Core.List.{List, [], ◌∷◌, ◌++◌, append-nil}
 use native.Mathlib.Omega.{arith}
 use lib.ListN.{length, drop, get_or, drop_of_length-le, length-drop}
 use Rattle.decoder_rules.specs.declared.Edition.{Edition}
 use Rattle.built_values.specs.Values.{Val, Array, InlineTable}
 use Rattle.built_values.specs.Checkers.{is_string, is_scalar_part, past, NoPart, Takes, Found, Finds}
-use Rattle.built_values.specs.declared.check.Taken.{Taken}
-use Rattle.built_values.specs.declared.check.Taken.TheVariants.{UpTo, Nothing}
+use Rattle.std.specs.Prelude.{Option, Some, None, Ok}
+use lib.Dec.{eqb}
+use borrow.Author.Tests.{eqb-true, eqb-false}
+use Rattle.built_values.specs.Depth.{Deep}
+use Rattle.built_values.specs.Answers.{Judged}
 use Rattle.built_values.specs.declared.kinds.Run.TheVariants.{Parts}
 use Rattle.built_values.proofs.KindLaws.{at_cons, not_nil, is_string_lem, is_part}
 use Rattle.built_values.proofs.RunLaws.{parts_run, run_parts}
@@ -61,19 +64,19 @@ module _ (v : Edition) (ks : List ℕ) (at : ℕ) (h : at < length ks) where
   -- a bracket leaves the answer to its own checker
   by_bracket : {G : List ℕ → Type 0} → ((t : List ℕ) → G t → Val v t)
       → ((r : List ℕ) → Takes (Val v) (drop at ks) r → Takes G (drop at ks) r)
-      → (t : Taken) → Finds G NoPart ks at t → Finds (Val v) NoPart ks at t
-  by_bracket is back (UpTo end) f = record {
+      → (t : Option ℕ) → Finds G NoPart ks at t → Finds (Val v) NoPart ks at t
+  by_bracket is back (Some end) f = record {
     takes = record { text = f.takes.text; whole = f.takes.whole; derives = is f.takes.text f.takes.derives };
     only = λ r n d. f.only r n (back r d);
     after = f.after;
     within = f.within;
   }
-  by_bracket is back Nothing f = λ r n d. f r n (back r d)
+  by_bracket is back None f = λ r n d. f r n (back r d)
 
-  pub value_array : get_or ks at 0 ≡ 91 → (t : Taken) → Finds (Array v) NoPart ks at t → Finds (Val v) NoPart ks at t
+  pub value_array : get_or ks at 0 ≡ 91 → (t : Option ℕ) → Finds (Array v) NoPart ks at t → Finds (Val v) NoPart ks at t
   value_array e = by_bracket (λ t. Val.array) (λ r d. let o = goes d in whole o (way_array o.is e))
 
-  pub value_table : get_or ks at 0 ≡ 123 → (t : Taken) → Finds (InlineTable v) NoPart ks at t → Finds (Val v) NoPart ks at t
+  pub value_table : get_or ks at 0 ≡ 123 → (t : Option ℕ) → Finds (InlineTable v) NoPart ks at t → Finds (Val v) NoPart ks at t
   value_table e = by_bracket (λ t. Val.inline_table) (λ r d. let o = goes d in whole o (way_table o.is e))
 
   pub value_none : is_string (get_or ks at 0) ≡ false → is_scalar_part (get_or ks at 0) ≡ false
@@ -89,7 +92,7 @@ value_end v ks at h r n d =
 -- ---- the whole run
 
 -- a value that ends where the run does is the run
-pub whole_value : (v : Edition) (ks : List ℕ) (end : ℕ) → Found (Val v) NoPart ks 0 end → end ≡ length ks → Val v ks
+whole_value : (v : Edition) (ks : List ℕ) (end : ℕ) → Found (Val v) NoPart ks 0 end → end ≡ length ks → Val v ks
 whole_value v ks end f e =
     let left : drop end ks ≡ [] = drop_of_length-le ks {i = end} (omega arith) in
     let all : ks ≡ f.takes.text = f.takes.whole ∙ ap (λ (x : List ℕ). f.takes.text ++ x) left ∙ append-nil f.takes.text in
@@ -99,10 +102,19 @@ all_of : (v : Edition) (ks : List ℕ) → Val v ks → Takes (Val v) ks []
 all_of v ks d = record { text = ks; whole = sym (append-nil ks); derives = d }
 
 -- and one that ends before is not
-pub part_value : (v : Edition) (ks : List ℕ) (end : ℕ) → Found (Val v) NoPart ks 0 end → (end ≡ length ks → ⊥) → Val v ks → ⊥
+part_value : (v : Edition) (ks : List ℕ) (end : ℕ) → Found (Val v) NoPart ks 0 end → (end ≡ length ks → ⊥) → Val v ks → ⊥
 part_value v ks end f n d =
     let left : 0 ≡ length (drop end ks) = ap length (f.only [] refl (all_of v ks d)) in
     n (omega (arith, left, length-drop end ks, f.within))
+
+-- so the answer is whether they are the same
+pub judged_whole : (v : Edition) (ks : List ℕ) (end n : ℕ) → (Deep ks → ⊥) → Found (Val v) NoPart ks 0 end → n ≡ length ks
+    → Judged v ks (Ok (eqb end n))
+judged_whole v ks end n calm f e = go (eqb end n) refl
+  where
+    go : (t : Bool) → eqb end n ≡ t → Judged v ks (Ok t)
+    go true h = Judged.value calm (whole_value v ks end f (eqb-true _ _ h ∙ e))
+    go false h = Judged.no_value calm (part_value v ks end f (λ k. eqb-false _ _ h (k ∙ sym e)))
 
 pub no_value_found : (v : Edition) (ks : List ℕ) → ((r : List ℕ) → NoPart r → Takes (Val v) ks r → ⊥) → Val v ks → ⊥
 no_value_found v ks n d = n [] refl (all_of v ks d)

@@ -2,7 +2,7 @@
 -- kinds, or that none begins there; and how many brackets are open at the place. Not to be believed: no promise of a
 -- public function cites it.
 -- Assumes nothing.
-use Rattle.std.specs.Prelude.{ℕ, ◌+◌, ◌≤◌, ◌<◌}
+use Rattle.std.specs.Prelude.{ℕ, ◌+◌, ◌≤◌, ◌<◌, Option, Some, None}
 use mathlib.Core.{Path.◌≡◌, Bool.Bool, Bool.true, Bool.false, Bool.cond, Bool.◌&&◌, Bool.◌||◌, List.List, List.[], List.◌∷◌, List.◌++◌}
 use lib.{ListN.length, ListN.drop, Dec.eqb}
 use Rattle.text_classes.specs.Runs.{first_is, stands}
@@ -11,10 +11,8 @@ use Rattle.lexer_token.specs.KindNumbers.{kind_number}
 use Rattle.lexer_token.specs.declared.TokenKind.TheVariants.{Dot, Comma, Whitespace, Comment, Newline, LiteralString, BasicString, MlLiteralString, MlBasicString, Atom}
 use Rattle.text_refusals.specs.Refusals.{depth}
 use Rattle.built_values.specs.Depth.{is_opening, is_closing, count_if, Deep}
-use Rattle.built_values.specs.declared.check.Taken.{Taken}
-use Rattle.built_values.specs.declared.check.Taken.TheVariants.{UpTo, Nothing}
 use Rattle.built_values.specs.declared.check.After.{After}
-use Rattle.built_values.specs.declared.check.After.TheVariants.{Closed, Separated, Neither}
+use Rattle.built_values.specs.declared.check.After.TheVariants.{Closed, Separated}
 use Rattle.built_values.specs.declared.kinds.Run.{Run}
 use Rattle.built_values.specs.declared.kinds.Run.TheVariants.{Blanks, Lines, Parts}
 
@@ -68,9 +66,9 @@ pub record Found (G E : List ℕ → Type 0) (ks : List ℕ) (at end : ℕ) : Ty
   pub after : at < end
   pub within : end ≤ length ks
 
-abbrev pub Finds : (G E : List ℕ → Type 0) → List ℕ → ℕ → Taken → Type 0
-Finds G E ks at (UpTo end) = Found G E ks at end
-Finds G E ks at Nothing = (r : List ℕ) → E r → Takes G (drop at ks) r → ⊥
+abbrev pub Finds : (G E : List ℕ → Type 0) → List ℕ → ℕ → Option ℕ → Type 0
+Finds G E ks at (Some end) = Found G E ks at end
+Finds G E ks at None = (r : List ℕ) → E r → Takes G (drop at ks) r → ⊥
 
 -- what follows a value: no part of a scalar, which else were longer
 abbrev pub NoPart : List ℕ → Type 0
@@ -92,10 +90,10 @@ pub record Marked (run : Run) (mark : ℕ) (ks : List ℕ) (at end : ℕ) : Type
   pub after : at < end
   pub within : end ≤ length ks
 
-abbrev pub Follows : Run → ℕ → List ℕ → ℕ → After → Type 0
-Follows run close ks at (Closed end) = Marked run close ks at end
-Follows run close ks at (Separated end) = Marked run (kind_number Comma) ks at end
-Follows run close ks at Neither =
+abbrev pub Follows : Run → ℕ → List ℕ → ℕ → Option After → Type 0
+Follows run close ks at (Some (Closed end)) = Marked run close ks at end
+Follows run close ks at (Some (Separated end)) = Marked run (kind_number Comma) ks at end
+Follows run close ks at None =
     (stands close (past run (drop at ks)) ≡ false) × (stands (kind_number Comma) (past run (drop at ks)) ≡ false)
 
 -- ---- depth

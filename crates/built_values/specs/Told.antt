@@ -1,32 +1,20 @@
--- FOLLOWS. The answer in numbers, first by the answer and then by the arguments. Promises say that both are the same;
--- `told` in proofs/NumberLaws.antt proves it. For that `Deep` is computed; `deep_is` and `is_deep` in
+-- FOLLOWS. The answer in numbers, by the arguments: what `told_number` and `told_value` of crate text_refusals come to, as
+-- `told` in proofs/NumberLaws.antt proves. For that `Deep` is computed; `deep_is` and `is_deep` in
 -- proofs/DepthLaws.antt prove that it is.
 -- Assumes nothing.
-use Rattle.std.specs.Prelude.{ℕ, ◌+◌}
+use Rattle.std.specs.Prelude.{ℕ, ◌+◌, Result, Ok, Err}
 use mathlib.Core.{Bool.Bool, Bool.true, Bool.false, Bool.cond, Bool.◌||◌, List.List, List.[], List.◌∷◌}
 use lib.{ListN.length, Dec.ltb}
-use Rattle.text_refusals.specs.{Refusals.depth, Refusals.refusal_number, Refusals.refusal_value}
+use Rattle.text_refusals.specs.{Refusals.depth, declared.Refusal.Refusal}
 use Rattle.decoder_rules.specs.Encodings.{is_edition}
 use Rattle.built_values.specs.Answers.{run_of}
 use Rattle.built_values.specs.Depth.{is_opening, is_closing}
-use Rattle.built_values.specs.declared.ValueCheck.{ValueCheck}
-use Rattle.built_values.specs.declared.ValueCheck.TheVariants.{Value, NoValue, Refused}
 
--- by the answer: the refusal's number, 0 for none; the number returned; and 1 for a value, else 0
-abbrev pub value_number : ValueCheck → ℕ
-value_number Value = 0
-value_number NoValue = 0
-value_number (Refused r) = refusal_number r
-
-abbrev pub value_value : ValueCheck → ℕ
-value_value Value = 0
-value_value NoValue = 0
-value_value (Refused r) = refusal_value r
-
-abbrev pub value_yes : ValueCheck → ℕ
-value_yes Value = 1
-value_yes NoValue = 0
-value_yes (Refused r) = 0
+-- by the answer: 1 for a value, else 0
+abbrev pub value_yes : Result Bool Refusal → ℕ
+value_yes (Ok true) = 1
+value_yes (Ok false) = 0
+value_yes (Err r) = 0
 
 -- so many opening and closing brackets pass the depth
 abbrev pub passes : ℕ → ℕ → Bool

@@ -1,4 +1,4 @@
-// Is there a value, and where does it end? A function for each rule of TOML's grammar: `value`, `array`, `inline_table`
+// Is there a value, and where does it end? Each answers the place after the text of its rule, where there is one. A function for each rule of TOML's grammar: `value`, `array`, `inline_table`
 // and `keyval` call one another. `level` is how many brackets are open: each array and inline table adds one for its
 // items, and it never passes 64, so that the stack is bounded. Commas are steps of a loop, and cost no stack.
 ghost use Rattle.std.specs.Prelude.{◌≡◌, true, false, ◌&&◌, eqb, ◌+◌, ◌<◌, ◌≤◌, length, drop};
@@ -9,70 +9,64 @@ ghost use Rattle.built_values.specs.Values.{Val, Keyval, Key, Spaced, Array, Inl
 ghost use Rattle.built_values.specs.Answers.{kinds_of};
 ghost use Rattle.built_values.specs.Checkers.{table_run, last_comma, Finds, Follows, NoPart, NoDot, NoBlank, Inside};
 
-use crate::kinds::{Run, count, is_at, is_scalar_part, is_simple_key, is_string, kind_at, skip};
+// A place is an index of the whole run, and not what is left of it, since `Inside` counts the brackets of all of it.
+
+use crate::kinds::{Run, is_at, is_scalar_part, is_simple_key, is_string, kind_at, skip};
 use decoder_rules::Edition;
 use lexer_token::{Record, TokenKind};
 
-// How far a rule reaches: up to a place, which is not included.
-#[derive(Clone, Copy)]
-pub enum Taken {
-    UpTo(usize),
-    Nothing,
-}
-
 // What follows an item of an array or an inline table, with the place after it.
+// Two ways to go on: no Result, since neither is a failure.
 #[derive(Clone, Copy)]
 pub enum After {
     Closed(usize),
     Separated(usize),
-    Neither,
 }
 
 // ws mark ws
-fn spaced(mark: usize, records: &[Record], at: usize) -> Taken
+fn spaced(mark: usize, records: &[Record], at: usize) -> Option<usize>
     requires { (at ≤ length (kinds_of records.now)) × (eqb mark (kind_number Whitespace) ≡ false) }
     ensures { Finds (Spaced mark) NoBlank (kinds_of records.now) at result }
 {
     let a = skip(Run::Blanks, records, at);
     if is_at(records, a, mark) {
-        return Taken::UpTo(skip(Run::Blanks, records, a + 1));
+        return Some(skip(Run::Blanks, records, a + 1));
     }
-    Taken::Nothing
+    None
 }
 
 // key = simple-key / dotted-key
-fn key(records: &[Record], at: usize) -> Taken
+fn key(records: &[Record], at: usize) -> Option<usize>
     requires { at ≤ length (kinds_of records.now) }
     ensures { Finds Key NoDot (kinds_of records.now) at result }
 {
-    let n = count(records);
     let mut p = at;
-    while p < n {
-        if is_simple_key(kind_at(records, p)) {
-            let Taken::UpTo(next) = spaced(TokenKind::DOT, records, p + 1) else {
-                return Taken::UpTo(p + 1);
-            };
-            p = next;
-        } else {
-            return Taken::Nothing;
+    // no iterator: a turn goes over an item of several records
+    while p < records.len() {
+        if !is_simple_key(kind_at(records, p)) {
+            return None;
         }
+        let Some(next) = spaced(TokenKind::DOT, records, p + 1) else {
+            return Some(p + 1);
+        };
+        p = next;
     }
-    Taken::Nothing
+    None
 }
 
 // What stands after the run that follows an item.
-fn after_item(run: Run, close: usize, records: &[Record], at: usize) -> After
+fn after_item(run: Run, close: usize, records: &[Record], at: usize) -> Option<After>
     requires { at ≤ length (kinds_of records.now) }
     ensures { Follows run close (kinds_of records.now) at result }
 {
     let a = skip(run, records, at);
     if is_at(records, a, close) {
-        return After::Closed(a + 1);
+        return Some(After::Closed(a + 1));
     }
     if is_at(records, a, TokenKind::COMMA) {
-        return After::Separated(a + 1);
+        return Some(After::Separated(a + 1));
     }
-    After::Neither
+    None
 }
 
 // What may stand between the tokens of an inline table.
@@ -89,13 +83,11 @@ fn table_run(v: Edition) -> Run
 fn is_shut(shuts: bool, records: &[Record], i: usize) -> bool
     ensures { result ≡ (shuts && stands (kind_number RightCurlyBracket) (drop i (kinds_of records.now))) }
 {
-    if shuts {
-        return is_at(records, i, TokenKind::RIGHT_CURLY_BRACKET);
-    }
-    false
+    shuts && is_at(records, i, TokenKind::RIGHT_CURLY_BRACKET)
 }
 
 // May a comma be the last in an inline table?
+// By the edition: edit last_comma_in_ten changes an arm.
 fn last_comma(v: Edition) -> bool
     ensures { result ≡ last_comma v }
 {
@@ -107,19 +99,19 @@ fn last_comma(v: Edition) -> bool
 
 // val = string / scalar / array / inline-table
 #[cycle(array_inline_table_keyval_value)]
-pub(crate) fn value(v: Edition, records: &[Record], at: usize, level: usize) -> Taken
+pub(crate) fn value(v: Edition, records: &[Record], at: usize, level: usize) -> Option<usize>
     requires { Inside (kinds_of records.now) at level }
     ensures { Finds (Val v) NoPart (kinds_of records.now) at result }
 {
-    if count(records) <= at {
-        return Taken::Nothing;
+    if records.len() <= at {
+        return None;
     }
     let kind = kind_at(records, at);
     if is_string(kind) {
-        return Taken::UpTo(at + 1);
+        return Some(at + 1);
     }
     if is_scalar_part(kind) {
-        return Taken::UpTo(skip(Run::Parts, records, at + 1));
+        return Some(skip(Run::Parts, records, at + 1));
     }
     if kind == TokenKind::LEFT_SQUARE_BRACKET {
         return array(v, records, at, level);
@@ -127,75 +119,67 @@ pub(crate) fn value(v: Edition, records: &[Record], at: usize, level: usize) -> 
     if kind == TokenKind::LEFT_CURLY_BRACKET {
         return inline_table(v, records, at, level);
     }
-    Taken::Nothing
+    None
 }
 
 // keyval = key keyval-sep val
 #[cycle(array_inline_table_keyval_value)]
-fn keyval(v: Edition, records: &[Record], at: usize, level: usize) -> Taken
+fn keyval(v: Edition, records: &[Record], at: usize, level: usize) -> Option<usize>
     requires { Inside (kinds_of records.now) at level }
     ensures { Finds (Keyval v) NoPart (kinds_of records.now) at result }
 {
-    let Taken::UpTo(after_key) = key(records, at) else {
-        return Taken::Nothing;
-    };
-    let Taken::UpTo(after_sep) = spaced(TokenKind::EQUALS, records, after_key) else {
-        return Taken::Nothing;
-    };
+    let after_key = key(records, at)?;
+    let after_sep = spaced(TokenKind::EQUALS, records, after_key)?;
     value(v, records, after_sep, level)
 }
 
 // array = array-open [ array-values ] ws-comment-newline array-close
 #[cycle(array_inline_table_keyval_value)]
-fn array(v: Edition, records: &[Record], at: usize, level: usize) -> Taken
+fn array(v: Edition, records: &[Record], at: usize, level: usize) -> Option<usize>
     requires { Inside (kinds_of records.now) at level
         × (stands (kind_number LeftSquareBracket) (drop at (kinds_of records.now)) ≡ true) }
     ensures { Finds (Array v) NoPart (kinds_of records.now) at result }
 {
-    let n = count(records);
     let mut p = at + 1;
-    while p < n {
+    // no iterator: a turn goes over an item of several records
+    while p < records.len() {
         let a = skip(Run::Lines, records, p);
         if is_at(records, a, TokenKind::RIGHT_SQUARE_BRACKET) {
-            return Taken::UpTo(a + 1);
+            return Some(a + 1);
         }
-        let Taken::UpTo(b) = value(v, records, a, level + 1) else {
-            return Taken::Nothing;
-        };
-        match after_item(Run::Lines, TokenKind::RIGHT_SQUARE_BRACKET, records, b) {
-            After::Closed(end) => return Taken::UpTo(end),
+        let b = value(v, records, a, level + 1)?;
+        let after = after_item(Run::Lines, TokenKind::RIGHT_SQUARE_BRACKET, records, b)?;
+        match after {
+            After::Closed(end) => return Some(end),
             After::Separated(next) => p = next,
-            After::Neither => return Taken::Nothing,
         }
     }
-    Taken::Nothing
+    None
 }
 
 // inline-table = inline-table-open [ inline-table-keyvals ] inline-table-close
 #[cycle(array_inline_table_keyval_value)]
-fn inline_table(v: Edition, records: &[Record], at: usize, level: usize) -> Taken
+fn inline_table(v: Edition, records: &[Record], at: usize, level: usize) -> Option<usize>
     requires { Inside (kinds_of records.now) at level
         × (stands (kind_number LeftCurlyBracket) (drop at (kinds_of records.now)) ≡ true) }
     ensures { Finds (InlineTable v) NoPart (kinds_of records.now) at result }
 {
-    let n = count(records);
     let run = table_run(v);
     let mut shuts = true;
     let mut p = at + 1;
-    while p < n {
+    // no iterator: a turn goes over an item of several records
+    while p < records.len() {
         let a = skip(run, records, p);
         if is_shut(shuts, records, a) {
-            return Taken::UpTo(a + 1);
+            return Some(a + 1);
         }
-        let Taken::UpTo(b) = keyval(v, records, a, level + 1) else {
-            return Taken::Nothing;
-        };
-        match after_item(run, TokenKind::RIGHT_CURLY_BRACKET, records, b) {
-            After::Closed(end) => return Taken::UpTo(end),
+        let b = keyval(v, records, a, level + 1)?;
+        let after = after_item(run, TokenKind::RIGHT_CURLY_BRACKET, records, b)?;
+        match after {
+            After::Closed(end) => return Some(end),
             After::Separated(next) => p = next,
-            After::Neither => return Taken::Nothing,
         }
         shuts = last_comma(v);
     }
-    Taken::Nothing
+    None
 }

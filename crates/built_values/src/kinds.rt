@@ -28,79 +28,49 @@ pub(crate) fn kind_at(records: &[Record], i: usize) -> usize
     records[i][0]
 }
 
-pub(crate) fn count(records: &[Record]) -> usize
-    ensures { result ≡ length (kinds_of records.now) }
-{
-    records.len()
-}
-
 // Does a token of a kind stand at place i?
 pub(crate) fn is_at(records: &[Record], i: usize, kind: usize) -> bool
     ensures { result ≡ stands kind (drop i (kinds_of records.now)) }
 {
-    if i < count(records) {
-        kind_at(records, i) == kind
-    } else {
-        false
-    }
+    i < records.len() && kind_at(records, i) == kind
 }
 
 // `[` or `{`
 pub(crate) fn is_opening(kind: usize) -> bool
     ensures { result ≡ is_opening kind }
 {
-    match kind {
-        TokenKind::LEFT_SQUARE_BRACKET => true,
-        TokenKind::LEFT_CURLY_BRACKET => true,
-        _ => false,
-    }
+    kind == TokenKind::LEFT_SQUARE_BRACKET || kind == TokenKind::LEFT_CURLY_BRACKET
 }
 
 // `]` or `}`
 pub(crate) fn is_closing(kind: usize) -> bool
     ensures { result ≡ is_closing kind }
 {
-    match kind {
-        TokenKind::RIGHT_SQUARE_BRACKET => true,
-        TokenKind::RIGHT_CURLY_BRACKET => true,
-        _ => false,
-    }
+    kind == TokenKind::RIGHT_SQUARE_BRACKET || kind == TokenKind::RIGHT_CURLY_BRACKET
 }
 
 // string
 pub(crate) fn is_string(kind: usize) -> bool
     ensures { result ≡ is_string kind }
 {
-    match kind {
-        TokenKind::ML_LITERAL_STRING => true,
-        TokenKind::ML_BASIC_STRING => true,
-        TokenKind::BASIC_STRING => true,
-        TokenKind::LITERAL_STRING => true,
-        _ => false,
-    }
+    kind == TokenKind::ML_LITERAL_STRING
+        || kind == TokenKind::ML_BASIC_STRING
+        || kind == TokenKind::BASIC_STRING
+        || kind == TokenKind::LITERAL_STRING
 }
 
 // a part of a scalar
 pub(crate) fn is_scalar_part(kind: usize) -> bool
     ensures { result ≡ is_scalar_part kind }
 {
-    match kind {
-        TokenKind::ATOM => true,
-        TokenKind::DOT => true,
-        _ => false,
-    }
+    kind == TokenKind::ATOM || kind == TokenKind::DOT
 }
 
 // simple-key
 pub(crate) fn is_simple_key(kind: usize) -> bool
     ensures { result ≡ is_simple_key kind }
 {
-    match kind {
-        TokenKind::ATOM => true,
-        TokenKind::BASIC_STRING => true,
-        TokenKind::LITERAL_STRING => true,
-        _ => false,
-    }
+    kind == TokenKind::ATOM || kind == TokenKind::BASIC_STRING || kind == TokenKind::LITERAL_STRING
 }
 
 // Does the token at place i belong to the run? A comment does only with its newline after it.
@@ -121,12 +91,9 @@ fn is_line_part(kind: usize, ended: bool) -> bool
     ensures { result
         ≡ (eqb kind (kind_number Whitespace) || (eqb kind (kind_number Newline) || eqb kind (kind_number Comment) && ended)) }
 {
-    match kind {
-        TokenKind::WHITESPACE => true,
-        TokenKind::NEWLINE => true,
-        TokenKind::COMMENT => ended,
-        _ => false,
-    }
+    kind == TokenKind::WHITESPACE
+        || kind == TokenKind::NEWLINE
+        || kind == TokenKind::COMMENT && ended
 }
 
 // The first place from `at` on that does not belong to the run.
@@ -135,14 +102,10 @@ pub(crate) fn skip(run: Run, records: &[Record], at: usize) -> usize
     ensures left { drop result (kinds_of records.now) ≡ past run (drop at (kinds_of records.now)) }
     ensures place { (at ≤ result) × (result ≤ length (kinds_of records.now)) }
 {
-    let n = count(records);
-    let mut i = at;
-    while i < n {
-        if is_in(run, records, i) {
-            i += 1;
-        } else {
+    for i in at..records.len() {
+        if !is_in(run, records, i) {
             return i;
         }
     }
-    i
+    records.len()
 }

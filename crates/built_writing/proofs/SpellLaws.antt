@@ -1,26 +1,18 @@
--- The spelling of a value, byte by byte and a run at a time: what the loops that count and write it show.
+-- The spelling of a value, byte by byte and a run at a time: what the loops that count and write it show of what is left.
 -- Assumes nothing.
-use Rattle.std.proofs.Common.{◌≡◌, ℕ, ◌+◌, ◌*◌, ◌<◌, ◌≤◌, Bool, true, false, List, [], ◌∷◌, ◌++◌, length, get_or, take, drop, sym, refl, ap, ◌∙◌, add-one, arith, length-append, length-drop, drop_of_length-le, drop-cons, drop-drop}
+use Rattle.std.proofs.Common.{◌≡◌, ℕ, ◌+◌, ◌*◌, ◌<◌, ◌≤◌, Bool, true, false, Option, Some, None, List, [], ◌∷◌, ◌++◌, length, take, drop, sym, refl, ap, ◌∙◌, arith, length-append, append_assoc}
 use lib.Seq.{sets}
 use Rattle.text_classes.specs.Classes.{basic_unescaped}
 use Rattle.text_classes.specs.Runs.{run}
 use Rattle.text_classes.proofs.Conds.{cond_case}
-use Rattle.text_classes.proofs.RunLaws.{run_le, run_step}
-use Rattle.decoder_rules.proofs.Fine.{rest, rest_is}
 use Rattle.decoder_rules.proofs.StoreLaws.{Stored, sets_append}
-use Rattle.built_writing.specs.declared.spell.Spelling.{Spelling}
-use Rattle.built_writing.specs.declared.spell.Spelling.TheVariants.{Short, Coded}
 use Rattle.built_writing.specs.Writing.{spelling_of, spelling, escape_of, spell, spelt}
-use Rattle.built_writing.specs.Measured.{Counting}
 
--- ---- one byte
+-- ---- how many bytes a byte has
 
-pub escape_by : (b : ℕ) (r x : Spelling) → r ≡ spelling_of b → r ≡ x → escape_of b ≡ spelling x b
-escape_by b r x e f = rw (← e, f)
-
-spelling_six : (r : Spelling) (b : ℕ) → length (spelling r b) ≤ 6
-spelling_six (Short x) b = omega arith
-spelling_six Coded b = omega arith
+spelling_six : (r : Option ℕ) (b : ℕ) → length (spelling r b) ≤ 6
+spelling_six (Some x) b = omega arith
+spelling_six None b = omega arith
 
 spell_six : (b : ℕ) → length (spell b) ≤ 6
 unfolding spell
@@ -32,91 +24,70 @@ unfolding spelt
 spelt_six [] = omega arith
 spelt_six (b ∷ s) = omega (arith, length-append (spell b) (spelt s), spell_six b, spelt_six s)
 
--- ---- at a place
+-- ---- in parts
 
--- what is left to be spelt from place i on is w, and then what is left from place j on
-pub record Spells (s : List ℕ) (i j : ℕ) (w : List ℕ) : Type 0 where
-  pub forward : i < j
-  pub within : j ≤ length s
-  pub said : spelt (drop i s) ≡ w ++ spelt (drop j s)
+pub spelt_append : (a b : List ℕ) → spelt (a ++ b) ≡ spelt a ++ spelt b
+unfolding spelt
+spelt_append [] b = refl
+spelt_append (x ∷ a) b = rw (spelt_append a b) (sym (append_assoc (spell x) (spelt a) (spelt b)))
 
-spelt_run : (s : List ℕ) → spelt s ≡ take (run basic_unescaped s) s ++ spelt (drop (run basic_unescaped s) s)
+-- a run of bytes that stand for themselves, at the front
+run_said : (s : List ℕ) → spelt s ≡ take (run basic_unescaped s) s ++ spelt (drop (run basic_unescaped s) s)
 unfolding spelt spell run
-spelt_run [] = refl
-spelt_run (b ∷ s) = go (basic_unescaped b) refl (spelt_run s)
+run_said [] = refl
+run_said (b ∷ s) = go (basic_unescaped b) refl (run_said s)
   where
     go : (t : Bool) → basic_unescaped b ≡ t → spelt s ≡ take (run basic_unescaped s) s ++ spelt (drop (run basic_unescaped s) s)
         → spelt (b ∷ s) ≡ take (run basic_unescaped (b ∷ s)) (b ∷ s) ++ spelt (drop (run basic_unescaped (b ∷ s)) (b ∷ s))
     go true e more = rw e (ap (b ∷◌) more)
     go false e more = simp e
 
-module _ (s : List ℕ) (i : ℕ) (h : i < length s) where
-  -- a run of k bytes that stand for themselves
-  module _ (k : ℕ) (t : basic_unescaped (get_or s i 0) ≡ true) (e : k ≡ run basic_unescaped (rest s i)) where
-    run_is : k ≡ run basic_unescaped (drop i s)
-    run_is = e ∙ ap (run basic_unescaped) (rest_is s i)
+module _ (rest : List ℕ) where
+  pub spelt_run : (front back : List ℕ) (k : ℕ) → k ≡ run basic_unescaped rest → front ≡ take k rest → back ≡ drop k rest
+      → spelt rest ≡ front ++ spelt back
+  spelt_run front back k is ahead behind = rw (ahead, behind, is) (run_said rest)
 
-    pub run_fits : k ≤ length (rest s i)
-    run_fits = omega (arith, run_is, run_le basic_unescaped (drop i s), ap length (rest_is s i))
+  module _ (b : ℕ) (after : List ℕ) (parts : rest ≡ b ∷ after) where
+    pub run_some : basic_unescaped b ≡ true → 0 < run basic_unescaped rest
+    unfolding run
+    run_some plain = rw (parts, plain) (omega arith)
 
-    pub run_turn : Spells s i (i + k) (take k (rest s i))
-    run_turn =
-        record {
-          forward = omega (arith, run_is, run_step basic_unescaped s i h t);
-          within = omega (arith, run_is, run_le basic_unescaped (drop i s), length-drop i s);
-          said = rw (rest_is s i, ← drop-drop, run_is) (spelt_run (drop i s));
-        }
+    -- a byte that does not stand for itself, at the front
+    pub spelt_byte : basic_unescaped b ≡ false → spelt rest ≡ escape_of b ++ spelt after
+    unfolding spelt spell
+    spelt_byte other = rw (parts, other)
 
-  -- a byte that does not
-  pub byte_turn : basic_unescaped (get_or s i 0) ≡ false → Spells s i (i + 1) (escape_of (get_or s i 0))
-  unfolding spelt spell
-  byte_turn t =
-      let said : spelt (drop i s) ≡ escape_of (get_or s i 0) ++ spelt (drop (i + 1) s) = rw (add-one, drop-cons s i 0, t) in
-      record { forward = omega arith; within = omega arith; said = said }
+-- ---- the loop that writes s from place o₀ on of memory that held `old`: `rest` is left, and it has come to place o
 
--- ---- the loop that counts: n bytes are counted up to place i
-
-pub counting_turn : {s w : List ℕ} {i j n m : ℕ} → Spells s i j w → m ≡ n + length w → Counting s i n → Counting s j m
-counting_turn {s} {w} {i} {j} t e c =
-    record {
-      within = t.within;
-      left = omega (arith, c.left, ap length t.said, length-append w (spelt (drop j s)));
-    }
-
-nothing_left : (s : List ℕ) (i : ℕ) → length s ≤ i → spelt (drop i s) ≡ []
-unfolding spelt
-nothing_left s i h = rw (drop_of_length-le s h)
-
-pub counting_end : {s : List ℕ} {i n : ℕ} → length s ≤ i → Counting s i n → n ≡ length (spelt s)
-counting_end {s} {i} h c = omega (arith, c.left, ap length (nothing_left s i h))
-
--- ---- the loop that writes, from place o₀ on of memory that held `old`: up to place i of s it has come to place o
-
-pub record Putting (s old : List ℕ) (o₀ : ℕ) (out : List ℕ) (i o : ℕ) : Type 0 where
-  pub within : i ≤ length s
+pub record Putting (s old : List ℕ) (o₀ : ℕ) (out rest : List ℕ) (o : ℕ) : Type 0 where
   pub long : length out ≡ length old
-  pub left : o + length (spelt (drop i s)) ≡ o₀ + length (spelt s)
-  pub holds : sets out o (spelt (drop i s)) ≡ sets old o₀ (spelt s)
+  pub left : o + length (spelt rest) ≡ o₀ + length (spelt s)
+  pub holds : sets out o (spelt rest) ≡ sets old o₀ (spelt s)
 
--- there is room for what a turn writes
-pub putting_room : {s old out w : List ℕ} {o₀ i j o : ℕ} → o₀ + length (spelt s) ≤ length old → Spells s i j w
-    → Putting s old o₀ out i o → o + length w ≤ length out
-putting_room {s} {w = w} {j = j} room t p =
-    omega (arith, p.left, p.long, ap length t.said, length-append w (spelt (drop j s)))
+module _ {s old out : List ℕ} {o₀ o : ℕ} (rest w rest' : List ℕ) (said : spelt rest ≡ w ++ spelt rest') (p : Putting s old o₀ out rest o) where
+  -- there is room for what a turn writes
+  pub putting_room : o₀ + length (spelt s) ≤ length old → o + length w ≤ length out
+  putting_room room = omega (arith, p.left, p.long, ap length said, length-append w (spelt rest'))
 
-pub putting_turn : {s old out out₁ w : List ℕ} {o₀ i j o o₁ : ℕ} → Spells s i j w → length out₁ ≡ length out
-    → Stored out o w o₁ out₁ → Putting s old o₀ out i o → Putting s old o₀ out₁ j o₁
-putting_turn {s} {out = out} {w = w} {j = j} {o = o} t same stored p =
-    record {
-      within = t.within;
-      long = same ∙ p.long;
-      left = omega (arith, p.left, stored.place, ap length t.said, length-append w (spelt (drop j s)));
-      holds =
-          rw (stored.place, stored.holds) (sym (sets_append out o w (spelt (drop j s))))
-          ∙ ap (sets out o) (sym t.said) ∙ p.holds;
-    }
+  pub putting_turn : (out₁ : List ℕ) (o₁ : ℕ) → length out₁ ≡ length out → Stored out o w o₁ out₁ → Putting s old o₀ out₁ rest' o₁
+  putting_turn out₁ o₁ same stored =
+      record {
+        long = same ∙ p.long;
+        left = omega (arith, p.left, stored.place, ap length said, length-append w (spelt rest'));
+        holds =
+            rw (stored.place, stored.holds) (sym (sets_append out o w (spelt rest')))
+            ∙ ap (sets out o) (sym said) ∙ p.holds;
+      }
 
-pub putting_end : {s old out : List ℕ} {o₀ i o : ℕ} → length s ≤ i → Putting s old o₀ out i o → Stored old o₀ (spelt s) o out
-putting_end {s} {out = out} {i = i} {o = o} h p =
-    let none = nothing_left s i h in
-    record { place = omega (arith, p.left, ap length none); holds = sym (ap (sets out o) none) ∙ p.holds }
+nothing_spelt : (rest : List ℕ) → length rest ≡ 0 → spelt rest ≡ []
+unfolding spelt
+nothing_spelt [] none = refl
+nothing_spelt (b ∷ rest) none = absurd (omega (arith, none))
+
+pub spelt_none : (rest : List ℕ) → length rest ≡ 0 → length (spelt rest) ≡ 0
+spelt_none rest none = rw (nothing_spelt rest none)
+
+pub putting_end : {s old out : List ℕ} {o₀ o : ℕ} (rest : List ℕ) → length rest ≡ 0 → Putting s old o₀ out rest o → Stored old o₀ (spelt s) o out
+putting_end {out = out} {o = o} rest none p =
+    let nothing = nothing_spelt rest none in
+    record { place = omega (arith, p.left, ap length nothing); holds = sym (ap (sets out o) nothing) ∙ p.holds }

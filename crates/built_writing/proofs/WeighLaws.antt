@@ -1,14 +1,16 @@
--- What a byte, a block and a front come to in a basic string: what the loops that measure a value show.
+-- What a byte, a block and what is passed over come to in a basic string: what the loops that measure a value show.
 -- Assumes nothing.
-use Rattle.std.proofs.Common.{◌≡◌, ℕ, ◌+◌, ◌%◌, ◌<◌, ◌≤◌, true, false, not, ◌||◌, T, eqb, ltb, List, [], ◌∷◌, ◌++◌, length, get_or, drop, sym, ap, ⊎_elim, add-one, arith, length-append, drop-cons, eqb-true}
+use Rattle.std.proofs.Common.{◌≡◌, ℕ, ◌+◌, ◌%◌, ◌<◌, Bool, true, false, not, ◌||◌, T, eqb, ltb, List, [], ◌∷◌, ◌++◌, length, get_or, take, sym, refl, ap, ⊎_elim, zero-add, add-one, arith, length-append, length-take-le, eqb-true}
+use Rattle.std.proofs.Math.Seq.{take-suc}
+use Rattle.text_classes.specs.Runs.{run}
+use Rattle.built_writing.proofs.SpellLaws.{spelt_append}
 use types.Run.{OneOf}
-use native.Mathlib.Decide.{dec_lt}
 use lib.Bits.{bit_xor}
 use Rattle.text_classes.specs.Classes.{literal_char, basic_unescaped}
 use Rattle.text_classes.proofs.ByteTable.{same, all_of, classes_agree, keys_are, rest_is}
 use Rattle.text_classes.proofs.Conds.{or_inv, not_both}
 use Rattle.built_writing.specs.Writing.{spelling_of, spell, spelt}
-use Rattle.built_writing.specs.Measured.{control, Weighs, Counting}
+use Rattle.built_writing.specs.Measured.{control, Passed}
 
 -- ---- a byte
 
@@ -60,42 +62,72 @@ pub arm : (n : ℕ) (ks : List ℕ) → T (all_of (λ b. same true (eqb (length 
     → (b : ℕ) → OneOf ks b → length (spell b) ≡ n
 arm n ks t b o = eqb-true _ _ (sym (keys_are true (λ b. eqb (length (spell b)) n) ks t o))
 
--- ---- a block
+-- ---- a block, up to place i
 
--- nothing is between a place and itself
-pub weighs_none : (s : List ℕ) (i : ℕ) → Weighs s i (i + 0) 0
-weighs_none s i =
-    let same : i ≡ i + 0 = omega arith in
-    omega (arith, ap (λ (k : ℕ). length (spelt (drop k s))) same)
-
--- where the bytes up to place i + j have w bytes, and the next has m, those up to the next place have w + m
-pub weighs_more : (s : List ℕ) (i j w m : ℕ) → i + j < length s → length (spell (get_or s (i + j) 0)) ≡ m → Weighs s i (i + j) w
-    → Weighs s i (i + (j + 1)) (w + m)
+-- one byte more
+pub weighs_more : (s : List ℕ) (i m : ℕ) → i < length s → length (spell (get_or s i 0)) ≡ m
+    → length (spelt (take (i + 1) s)) ≡ length (spelt (take i s)) + m
 unfolding spelt
-weighs_more s i j w m h e t =
-    let b = get_or s (i + j) 0 in
-    let same : i + j + 1 ≡ i + (j + 1) = omega arith in
-    let next : spelt (drop (i + j) s) ≡ spell b ++ spelt (drop (i + j + 1) s) = rw (add-one, drop-cons s (i + j) 0) in
-    let on = ap (λ (k : ℕ). length (spelt (drop k s))) same in
-    omega (arith, ap length next, length-append (spell b) (spelt (drop (i + j + 1) s)), on)
-
--- ---- the loops that count
-
--- what is not the bound is below it
-pub below : {r n : ℕ} → r ≤ n → (r ≡ n → ⊥) → r < n
-below {r} {n} h d = elim (dec_lt r n) [ yes l ↦ l | no l ↦ absurd (d (omega arith)) ]
-
--- as many bytes more as the bytes up to place j have
-pub counting_weighed : {s : List ℕ} {i j n : ℕ} (w : ℕ) → j ≤ length s → Weighs s i j w → Counting s i n → Counting s j (n + w)
-counting_weighed w h t c = record { within = h; left = omega (arith, c.left) }
-
--- one byte more, of so many
-pub counting_byte : {s : List ℕ} {i n : ℕ} (m : ℕ) → i < length s → length (spell (get_or s i 0)) ≡ m → Counting s i n
-    → Counting s (i + 1) (n + m)
-unfolding spelt
-counting_byte {s} {i} {n} m h e c =
+weighs_more s i m h e =
     let b = get_or s i 0 in
-    let next : spelt (drop i s) ≡ spell b ++ spelt (drop (i + 1) s) = rw (add-one, drop-cons s i 0) in
-    let left : n + m + length (spelt (drop (i + 1) s)) ≡ length (spelt s) =
-    omega (arith, c.left, ap length next, length-append (spell b) (spelt (drop (i + 1) s))) in
-    record { within = omega arith; left = left }
+    let more : take (i + 1) s ≡ take i s ++ (b ∷ []) = rw add-one (take-suc s i 0 h) in
+    let said = spelt_append (take i s) (b ∷ []) in
+    omega (arith, ap (λ (t : List ℕ). length (spelt t)) more, ap length said, length-append (spelt (take i s)) (spelt (b ∷ [])), length-append (spell b) [], e)
+
+pub run_append : (p : ℕ → Bool) (a b : List ℕ) → run p a ≡ length a → run p (a ++ b) ≡ length a + run p b
+unfolding run
+run_append p [] b all = rw zero-add
+run_append p (x ∷ a) b all = go (p x) refl (run_append p a b)
+  where
+    go : (t : Bool) → p x ≡ t → (run p a ≡ length a → run p (a ++ b) ≡ length a + run p b)
+        → run p ((x ∷ a) ++ b) ≡ length (x ∷ a) + run p b
+    go true e more =
+        let one = rw e at all in
+        let rest : run p a ≡ length a = omega (arith, one) in
+        rw e (omega (arith, more rest))
+    go false e more = let one = rw e at all in absurd (omega (arith, one))
+
+pub run_more : (p : ℕ → Bool) (s : List ℕ) (i : ℕ) → i < length s → p (get_or s i 0) ≡ true → run p (take i s) ≡ i → run p (take (i + 1) s) ≡ i + 1
+unfolding run
+run_more p s i h t all =
+    let b = get_or s i 0 in
+    let more : take (i + 1) s ≡ take i s ++ (b ∷ []) = rw add-one (take-suc s i 0 h) in
+    let size = length-take-le i s (omega arith) in
+    let whole = run_append p (take i s) (b ∷ []) (omega (arith, all, size)) in
+    rw (more, whole, size, t)
+
+-- ---- what is passed over
+
+pub passed_none : (rest : List ℕ) (n : ℕ) → Passed rest n rest n
+passed_none rest n = record { left = refl; same = omega arith }
+
+pub passed_on : {a b c : List ℕ} {n m k : ℕ} → Passed a n b m → Passed b m c k → Passed a n c k
+passed_on p q = record { left = omega (arith, p.left, q.left); same = omega (arith, p.same, q.same) }
+
+pub passed_block : (rest block after : List ℕ) (n m : ℕ) → rest ≡ block ++ after → run literal_char block ≡ length block
+    → length (spelt block) ≡ m → Passed rest n after (n + m)
+passed_block rest block after n m parts all weighs =
+    let said = ap length (spelt_append block after) in
+    let runs = run_append literal_char block after all in
+    record {
+      left = rw parts (omega (arith, said, length-append (spelt block) (spelt after), weighs));
+      same = rw parts (omega (arith, runs, length-append block after));
+    }
+
+pub passed_byte : (rest : List ℕ) (b : ℕ) (after : List ℕ) (n m : ℕ) → rest ≡ b ∷ after → literal_char b ≡ true → length (spell b) ≡ m
+    → Passed rest n after (n + m)
+unfolding spelt run
+passed_byte rest b after n m parts plain weighs =
+    let said = length-append (spell b) (spelt after) in
+    record { left = rw parts (omega (arith, said, weighs)); same = rw (parts, plain) (omega arith) }
+
+-- ---- where a run ends
+
+pub run_ended : (p : ℕ → Bool) (s : List ℕ) → length s ≡ 0 → run p s ≡ 0
+unfolding run
+run_ended p [] none = refl
+run_ended p (b ∷ s) none = absurd (omega (arith, none))
+
+pub run_stopped : (p : ℕ → Bool) (s : List ℕ) (b : ℕ) (after : List ℕ) → s ≡ b ∷ after → p b ≡ false → run p s ≡ 0
+unfolding run
+run_stopped p s b after parts stop = rw (parts, stop)

@@ -1,35 +1,30 @@
 // The body of a basic string: counted and written, a run of bytes that stand for themselves at a time, and the others one
 // by one. A function that stores answers the place after what it stored. Rule: specs/Writing.antt.
-ghost use Rattle.std.specs.Prelude.{◌≡◌, ◌+◌, ◌*◌, ◌<◌, ◌≤◌, length, take};
+ghost use Rattle.std.specs.Prelude.{◌≡◌, ◌+◌, ◌*◌, ◌<◌, ◌≤◌, length};
 ghost use Rattle.text_classes.specs.Classes.{basic_unescaped};
 ghost use Rattle.text_classes.specs.Runs.{run};
 ghost use Rattle.text_refusals.specs.Refusals.{limit};
 ghost use Rattle.decoder_rules.proofs.StoreLaws.{Stored};
-ghost use Rattle.built_writing.specs.Writing.{hex_digit, spelling_of, spelling, escape_of, spelt};
-ghost use Rattle.built_writing.specs.declared.spell.Spelling.TheVariants.{Short, Coded};
+ghost use Rattle.built_writing.specs.Writing.{hex_digit, spelling_of, escape_of, spelt};
 
 use decoder_rules::{Edition, Encoding};
 use decoder_scans::plain_run;
 use text_classes::is_basic_unescaped;
 
-// How a byte that does not stand for itself is spelt: by a letter after a backslash, or by the digits of its code.
-#[derive(Clone, Copy)]
-pub enum Spelling {
-    Short(u8),
-    Coded,
-}
-
-fn spelling_of(b: u8) -> Spelling
+// How a byte that does not stand for itself is spelt: by a letter after a backslash, or, where TOML has none for it, by the
+// digits of its code.
+#[tactic(auto, unfolding(crate::specs::Writing::spelling_of))]
+fn spelling_of(b: u8) -> Option<u8>
     ensures { result ≡ spelling_of b }
 {
     match b {
-        b'"' => Spelling::Short(b'"'),
-        b'\\' => Spelling::Short(b'\\'),
-        0x08 => Spelling::Short(b'b'),
-        0x0C => Spelling::Short(b'f'),
-        b'\n' => Spelling::Short(b'n'),
-        b'\r' => Spelling::Short(b'r'),
-        _ => Spelling::Coded,
+        b'"' => Some(b'"'),
+        b'\\' => Some(b'\\'),
+        0x08 => Some(b'b'),
+        0x0C => Some(b'f'),
+        b'\n' => Some(b'n'),
+        b'\r' => Some(b'r'),
+        _ => None,
     }
 }
 
@@ -45,59 +40,43 @@ fn hex_digit(d: u8) -> u8
 fn width(b: u8) -> usize
     ensures { result ≡ length (escape_of b) }
 {
-    let spelling = spelling_of(b);
-    match spelling {
-        Spelling::Short(_) => 2,
-        Spelling::Coded => 6,
+    match spelling_of(b) {
+        Some(_) => 2,
+        None => 6,
     }
 }
 
+// A backslash and the letter; or a backslash, `u00` and the two digits of the byte's code.
 fn put_escape(b: u8, output: &mut [u8], o: usize) -> usize
     requires { o + length (escape_of b) ≤ length output.old }
     ensures { Stored output.old o (escape_of b) result output.new }
 {
-    let spelling = spelling_of(b);
-    match spelling {
-        Spelling::Short(letter) => put_short(letter, output, o),
-        Spelling::Coded => put_coded(b, output, o),
+    match spelling_of(b) {
+        Some(letter) => put(&[b'\\', letter], output, o),
+        None => put(
+            &[
+                b'\\',
+                b'u',
+                b'0',
+                b'0',
+                hex_digit(b / 16),
+                hex_digit(b % 16),
+            ],
+            output,
+            o,
+        ),
     }
 }
 
-// A backslash and the letter.
-fn put_short(letter: u8, output: &mut [u8], o: usize) -> usize
-    requires { o + 2 ≤ length output.old }
-    ensures { Stored output.old o (spelling (Short letter) 0) result output.new }
+// Copies the bytes to place o.
+// In each crate that stores: a public one, which may ask nothing of its caller, would test for room at each run of bytes.
+pub(crate) fn put(bytes: &[u8], output: &mut [u8], o: usize) -> usize
+    requires { o + length bytes.now ≤ length output.old }
+    ensures { Stored output.old o bytes.now result output.new }
 {
-    output[o] = b'\\';
-    output[o + 1] = letter;
-    o + 2
-}
-
-// A backslash, `u00` and the two digits of the byte's code.
-fn put_coded(b: u8, output: &mut [u8], o: usize) -> usize
-    requires { o + 6 ≤ length output.old }
-    ensures { Stored output.old o (spelling Coded b) result output.new }
-{
-    output[o] = b'\\';
-    output[o + 1] = b'u';
-    output[o + 2] = b'0';
-    output[o + 3] = b'0';
-    output[o + 4] = hex_digit(b / 16);
-    output[o + 5] = hex_digit(b % 16);
-    o + 6
-}
-
-// Copies the first n bytes of s to place o.
-pub(crate) fn copy_in(s: &[u8], n: usize, output: &mut [u8], o: usize) -> usize
-    requires { (n ≤ length s.now) × (o + n ≤ length output.old) }
-    ensures { Stored output.old o (take n s.now) result output.new }
-{
-    let mut j = 0;
-    while j < n {
-        output[o + j] = s[j];
-        j += 1;
-    }
-    o + n
+    let end = o + bytes.len();
+    output[o..end].copy_from_slice(bytes);
+    end
 }
 
 // How many bytes in front of s stand for themselves in a basic string.
@@ -110,18 +89,18 @@ fn basic_run(s: &[u8]) -> usize
 // How many bytes the body of s has, run by run.
 pub(crate) fn count_rest(s: &[u8]) -> usize
     requires { length s.now ≤ limit }
-    ensures { (result ≡ length (spelt s.now)) × (result ≤ 6 * length s.now) }
+    ensures { result ≡ length (spelt s.now) }
 {
-    let mut i = 0;
+    let mut rest = s;
     let mut n = 0;
-    while i < s.len() {
-        if is_basic_unescaped(s[i]) {
-            let k = basic_run(&s[i..]);
-            n += k;
-            i += k;
+    while let Some((b, after)) = rest.split_first() {
+        if is_basic_unescaped(*b) {
+            let (run, behind) = rest.split_at(basic_run(rest));
+            n += run.len();
+            rest = behind;
         } else {
-            n += width(s[i]);
-            i += 1;
+            n += width(*b);
+            rest = after;
         }
     }
     n
@@ -132,17 +111,16 @@ pub(crate) fn put_body(s: &[u8], output: &mut [u8], o0: usize) -> usize
     requires { o0 + length (spelt s.now) ≤ length output.old }
     ensures { Stored output.old o0 (spelt s.now) result output.new }
 {
-    let mut i = 0;
+    let mut rest = s;
     let mut o = o0;
-    while i < s.len() {
-        if is_basic_unescaped(s[i]) {
-            let t = &s[i..];
-            let k = basic_run(t);
-            o = copy_in(t, k, output, o);
-            i += k;
+    while let Some((b, after)) = rest.split_first() {
+        if is_basic_unescaped(*b) {
+            let (run, behind) = rest.split_at(basic_run(rest));
+            o = put(run, output, o);
+            rest = behind;
         } else {
-            o = put_escape(s[i], output, o);
-            i += 1;
+            o = put_escape(*b, output, o);
+            rest = after;
         }
     }
     o

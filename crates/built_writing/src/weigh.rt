@@ -1,13 +1,12 @@
 // How long a text is, told in one pass over the value: first the bytes that a literal string could hold, with how many
 // bytes they have in a basic string, and from the first byte that it could not hold the rest. Bytes are weighed in blocks,
 // without a branch among them, so that the compiler takes sixteen at once. Rule: specs/Writing.antt.
-ghost use Rattle.std.specs.Prelude.{◌≡◌, ◌+◌, ◌*◌, ◌<◌, ◌≤◌, true, length, drop};
+ghost use Rattle.std.specs.Prelude.{◌≡◌, ◌+◌, ◌*◌, ◌<◌, ◌≤◌, true, length, IfSome};
 ghost use Rattle.text_classes.specs.Classes.{literal_char};
 ghost use Rattle.text_classes.specs.Runs.{run};
-ghost use Rattle.text_classes.proofs.RunLaws.{Block};
 ghost use Rattle.text_refusals.specs.Refusals.{limit};
 ghost use Rattle.built_writing.specs.Writing.{spell, spelt};
-ghost use Rattle.built_writing.specs.Measured.{control, Weighs, Fronted};
+ghost use Rattle.built_writing.specs.Measured.{control, Onward};
 
 use crate::spell::count_rest;
 use decoder_rules::Encoding;
@@ -15,15 +14,12 @@ use decoder_scans::is_plain;
 use std::num::wrapping_sub_u8;
 use text_classes::{APOSTROPHE, ESCAPE, QUOTATION_MARK};
 
-// The bytes up to place `end`, all of which a literal string could hold, have so many bytes in a basic string.
+// The bytes in front of `rest`, all of which a literal string could hold, have so many bytes in a basic string.
 #[derive(Clone, Copy)]
-pub(crate) struct Front {
-    pub end: usize,
+pub(crate) struct Front<'a> {
     pub bytes: usize,
+    pub rest: &'a [u8],
 }
-
-// What `marks_in` answers where a literal string could not hold the block.
-const NO_LITERAL: usize = 0xFF;
 
 // A control character but the tab: with the tab's bits turned the tab is 0, and the others are 1 to 1F.
 fn is_control(b: u8) -> bool
@@ -55,83 +51,65 @@ fn mark(b: u8) -> u8
     }
 }
 
-// How many bytes more than themselves the n bytes from i on have in a basic string, where a literal string could hold them.
-fn marks_in(s: &[u8], i: usize, n: usize) -> usize
-    requires { (i + n ≤ length s.now) × (n < 0xFF) }
-    ensures { (result ≤ 0xFF) × (result < 0xFF → Block literal_char s.now i n × Weighs s.now i (i + n) (n + result)) }
+// How many bytes more than themselves a block's have in a basic string; none where a literal string could not hold them all.
+fn marks_in(block: &[u8]) -> Option<usize>
+    requires { length block.now < 0xFF }
+    ensures { IfSome result (λ n. (run literal_char block.now ≡ length block.now) × (length (spelt block.now) ≡ length block.now + n)) }
 {
     let mut bits: u8 = 0;
     let mut marks: u8 = 0;
-    let mut j = 0;
-    while j < n {
-        let b = s[i + j];
-        bits = bits | no_literal(b);
-        marks += mark(b);
-        j += 1;
+    for b in block {
+        bits |= no_literal(*b);
+        marks += mark(*b);
     }
     if bits < 0x80 {
-        marks as usize
+        Some(marks as usize)
     } else {
-        NO_LITERAL
+        None
     }
 }
 
-// Blocks of n bytes that a literal string could hold, passed over.
-fn front_blocks(s: &[u8], start: Front, n: usize) -> Front
-    requires { Fronted s.now start × (length s.now ≤ limit) × (0 < n) × (n < 0xFF) }
-    ensures { Fronted s.now result }
+// Blocks of N bytes that a literal string could hold, passed over.
+fn front_blocks<const N: usize>(front: Front) -> Front
+    requires { (front.bytes + length (spelt front.rest.now) ≤ 6 * limit) × (0 < N) × (N < 0xFF) }
+    ensures { Onward front.entry result }
 {
-    let mut i = start.end;
-    let mut bytes = start.bytes;
-    while n <= s.len() - i {
-        let marks = marks_in(s, i, n);
-        if marks == NO_LITERAL {
-            return Front {
-                end: i,
-                bytes: bytes,
-            };
+    let mut bytes = front.bytes;
+    let mut rest = front.rest;
+    while let Some((block, after)) = rest.split_first_chunk::<N>() {
+        match marks_in(block) {
+            Some(marks) => bytes += N + marks,
+            None => break,
         }
-        bytes += n + marks;
-        i += n;
+        rest = after;
     }
-    Front {
-        end: i,
-        bytes: bytes,
-    }
+    Front { bytes, rest }
 }
 
 // The rest of them, one by one.
-fn front_rest(s: &[u8], start: Front) -> Front
-    requires { Fronted s.now start × (length s.now ≤ limit) }
-    ensures { Fronted s.now result × (run literal_char (drop result.end s.now) ≡ 0) }
+fn front_rest(front: Front) -> Front
+    requires { front.bytes + length (spelt front.rest.now) ≤ 6 * limit }
+    ensures { Onward front.entry result × (run literal_char result.rest.now ≡ 0) }
 {
-    let mut i = start.end;
-    let mut bytes = start.bytes;
-    while i < s.len() {
-        let b = s[i];
-        if !is_plain(Encoding::LiteralString, b) {
-            return Front {
-                end: i,
-                bytes: bytes,
-            };
+    let mut bytes = front.bytes;
+    let mut rest = front.rest;
+    while let Some((b, after)) = rest.split_first() {
+        if !is_plain(Encoding::LiteralString, *b) {
+            break;
         }
-        bytes += 1 + mark(b) as usize;
-        i += 1;
+        bytes += 1 + mark(*b) as usize;
+        rest = after;
     }
-    Front {
-        end: i,
-        bytes: bytes,
-    }
+    Front { bytes, rest }
 }
 
 // All of them.
 pub(crate) fn measure_front(s: &[u8]) -> Front
     requires { length s.now ≤ limit }
-    ensures { Fronted s.now result × (result.end ≡ run literal_char s.now) }
+    ensures { (result.bytes + length (spelt result.rest.now) ≡ length (spelt s.now)) × (run literal_char s.now + length result.rest.now ≡ length s.now) }
 {
-    let wide = front_blocks(s, Front { end: 0, bytes: 0 }, 32);
-    let narrow = front_blocks(s, wide, 8);
-    front_rest(s, narrow)
+    let wide = front_blocks::<32>(Front { bytes: 0, rest: s });
+    front_rest(front_blocks::<8>(wide))
 }
 
 // How many bytes more than itself a byte has in a basic string.
@@ -146,16 +124,14 @@ fn extra(b: u8) -> u8
     }
 }
 
-// How many bytes more than themselves the 32 bytes from i on have in a basic string.
-fn extra_in(s: &[u8], i: usize) -> usize
-    requires { i + 32 ≤ length s.now }
-    ensures { Weighs s.now i (i + 32) (32 + result) }
+// How many bytes more than themselves a block's have in a basic string.
+fn extra_in(block: &[u8]) -> usize
+    requires { length block.now ≤ 32 }
+    ensures { length (spelt block.now) ≡ length block.now + result }
 {
     let mut n: u8 = 0;
-    let mut j = 0;
-    while j < 32 {
-        n += extra(s[i + j]);
-        j += 1;
+    for b in block {
+        n += extra(*b);
     }
     n as usize
 }
@@ -163,13 +139,13 @@ fn extra_in(s: &[u8], i: usize) -> usize
 // How many bytes the body of s has.
 pub(crate) fn count(s: &[u8]) -> usize
     requires { length s.now ≤ limit }
-    ensures { (result ≡ length (spelt s.now)) × (result ≤ 6 * length s.now) }
+    ensures { result ≡ length (spelt s.now) }
 {
-    let mut i = 0;
+    let mut rest = s;
     let mut n = 0;
-    while 32 <= s.len() - i {
-        n += 32 + extra_in(s, i);
-        i += 32;
+    while let Some((block, after)) = rest.split_first_chunk::<32>() {
+        n += 32 + extra_in(block);
+        rest = after;
     }
-    n + count_rest(&s[i..])
+    n + count_rest(rest)
 }

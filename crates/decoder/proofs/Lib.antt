@@ -1,2 +1,2 @@
-pub mod KeyCopies
+pub mod AtOnceLaws
 pub mod OneAnswer

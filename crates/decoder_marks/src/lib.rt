@@ -7,25 +7,26 @@ ghost use Rattle.std.specs.Prelude.{◌≡◌, true, ◌+◌, ◌≤◌, length}
 ghost use Rattle.decoder_rules.specs.Encodings.{mark_error};
 ghost use Rattle.decoder_rules.specs.Decoding.{missing};
 ghost use Rattle.decoder_marks.specs.Opening.{opened_of};
-ghost use Rattle.decoder_rules.specs.Marks.{line_opened, line_start, line_closed, line_end, line_ends, ml_start, ml_closed, trimmed, ml_end, ml_ends, key_ends, ends_of};
+ghost use Rattle.decoder_rules.specs.Marks.{line_ends, ml_start, ml_closed, trimmed, ml_end, ml_ends, key_ends, ends_of};
 
 mod choice;
 
 pub use crate::choice::choice_by;
 use decoder_pieces::{Body, strip_start_newline};
-use decoder_rules::{DecodeError, Encoding, Ends, Verdict};
+use decoder_rules::{DecodeError, Encoding, Ends, Wrong};
 use lexer_token::Span;
 use text_classes::{APOSTROPHE, QUOTATION_MARK, is_triple};
 
 // A text that is opened: what is wrong with its opening mark, and with its closing one, and the body between them.
-#[derive(Clone, Copy)]
+#[derive(Clone, Copy, Debug, PartialEq, Eq)]
 pub struct Opened {
-    pub opening: Verdict,
-    pub closing: Verdict,
+    pub opening: Option<Wrong>,
+    pub closing: Option<Wrong>,
     pub body: Body,
 }
 
 // Opens a text to be read by an encoding. A key has no marks; its opening says whether it is empty.
+#[tactic(auto, unfolding(crate::specs::Opening::opened_of))]
 pub fn open_text(e: Encoding, t: &[u8]) -> Opened
     ensures { result ≡ opened_of e t.now }
 {
@@ -46,16 +47,17 @@ pub fn open_text(e: Encoding, t: &[u8]) -> Opened
 }
 
 // A mark that is missing is an error at its place.
-fn missing(there: bool, error: DecodeError, place: usize) -> Verdict
+fn missing(there: bool, error: DecodeError, place: usize) -> Option<Wrong>
     ensures { result ≡ missing there error place }
 {
     if there {
-        return Verdict::Clean;
-    }
-    Verdict::Wrong {
-        error,
-        start: place,
-        end: place,
+        None
+    } else {
+        Some(Wrong {
+            error,
+            start: place,
+            end: place,
+        })
     }
 }
 
@@ -72,60 +74,46 @@ pub fn mark_error(e: Encoding) -> DecodeError
     }
 }
 
-// A mark q at the front?
-fn has_one(q: u8, t: &[u8]) -> bool
-    ensures { result ≡ line_opened q t.now }
-{
-    if t.len() == 0 {
-        return false;
-    }
-    t[0] == q
-}
-
-fn line_start(opened: bool) -> usize
-    ensures { result ≡ line_start opened }
-{
-    if opened { Span::MARK } else { 0 }
-}
-
-// A mark q at the end, after the body's start?
-fn line_closed(q: u8, start: usize, t: &[u8]) -> bool
-    ensures { result ≡ line_closed start q t.now }
-{
-    let n = t.len();
-    if n <= start {
-        return false;
-    }
-    t[n - 1] == q
-}
-
-fn line_end(closed: bool, t: &[u8]) -> usize
-    requires { closed ≡ true → 1 ≤ length t.now }
-    ensures { result ≡ line_end closed t.now }
-{
-    if closed {
-        return t.len() - Span::MARK;
-    }
-    t.len()
-}
-
-// One mark q at each end.
+// One mark q at each end; the closing one not before the body's start.
+#[tactic(auto, unfolding(decoder_rules::specs::Marks::line_ends))]
 fn line_ends(q: u8, t: &[u8]) -> Ends
     ensures { result ≡ line_ends q t.now }
 {
-    let opened = has_one(q, t);
-    let start = line_start(opened);
-    let closed = line_closed(q, start, t);
-    let end = line_end(closed, t);
+    let opened = t.first() == Some(&q);
+    let start = if opened { Span::MARK } else { 0 };
+    let closed = start < t.len() && t.last() == Some(&q);
+    let end = if closed {
+        t.len() - Span::MARK
+    } else {
+        t.len()
+    };
     Ends {
-        opened: opened,
-        closed: closed,
-        start: start,
-        end: end,
+        opened,
+        closed,
+        start,
+        end,
+    }
+}
+
+// Three marks q at each end; where the closing is missing, are those that are there dropped?
+#[tactic(auto, using(text_classes::proofs::TripleLaws::triple_fits, decoder_rules::proofs::MarkLaws::start_le, decoder_rules::proofs::MarkLaws::closed_long), unfolding(decoder_rules::specs::Marks::ml_ends))]
+fn ml_ends(trims: bool, q: u8, t: &[u8]) -> Ends
+    ensures { result ≡ ml_ends trims q t.now }
+{
+    let opened = is_triple(t, 0, q);
+    let start = ml_start(opened, t);
+    let closed = ml_closed(q, start, t);
+    let end = ml_end(trims, q, start, t, closed);
+    Ends {
+        opened,
+        closed,
+        start,
+        end,
     }
 }
 
 // Where the body starts, after the opening if it is there, and a newline.
+#[tactic(auto, using(decoder_rules::proofs::MarkLaws::newline_le), unfolding(decoder_rules::specs::Marks::ml_start))]
 fn ml_start(opened: bool, t: &[u8]) -> usize
     requires { opened ≡ true → 3 ≤ length t.now }
     ensures { result ≡ ml_start opened t.now }
@@ -138,64 +126,47 @@ fn ml_start(opened: bool, t: &[u8]) -> usize
 }
 
 // Three marks at the end, after the body's start?
+#[tactic(auto, unfolding(decoder_rules::specs::Marks::ml_closed))]
 fn ml_closed(q: u8, start: usize, t: &[u8]) -> bool
     ensures { result ≡ ml_closed q start t.now }
 {
-    let n = t.len();
-    if n < Span::ML_MARK {
+    if t.len() < Span::ML_MARK {
         return false;
     }
-    let z = n - Span::ML_MARK;
-    if z < start {
-        return false;
-    }
-    is_triple(t, z, q)
+    let z = t.len() - Span::ML_MARK;
+    start <= z && is_triple(t, z, q)
 }
 
-// The length without the marks at the end.
-fn trimmed_len(q: u8, s: &[u8]) -> usize
-    ensures { result ≡ trimmed q s.now }
-{
-    let mut e = s.len();
-    while 0 < e {
-        if s[e - 1] == q {
-            e -= 1;
-        } else {
-            return e;
-        }
-    }
-    0
-}
-
+#[tactic(auto, using(decoder_rules::proofs::MarkLaws::trimmed_le), unfolding(decoder_rules::specs::Marks::ml_end))]
 fn ml_end(trims: bool, q: u8, start: usize, t: &[u8], closed: bool) -> usize
     requires { (start ≤ length t.now) × (closed ≡ true → start + 3 ≤ length t.now) }
     ensures { result ≡ ml_end trims q start t.now closed }
 {
     if closed {
-        return t.len() - Span::ML_MARK;
+        t.len() - Span::ML_MARK
+    } else if trims {
+        start + trimmed_len(q, &t[start..])
+    } else {
+        t.len()
     }
-    if trims {
-        return start + trimmed_len(q, &t[start..]);
-    }
-    t.len()
 }
 
-// Three marks q at each end; where the closing is missing, are those that are there dropped?
-fn ml_ends(trims: bool, q: u8, t: &[u8]) -> Ends
-    ensures { result ≡ ml_ends trims q t.now }
+// The length without the marks at the end.
+#[tactic(auto, using(decoder_rules::proofs::MarkLaws::trimmed_mark, decoder_rules::proofs::MarkLaws::trimmed_other), unfolding(decoder_rules::specs::Marks::trimmed))]
+fn trimmed_len(q: u8, s: &[u8]) -> usize
+    ensures { result ≡ trimmed q s.now }
 {
-    let opened = is_triple(t, 0, q);
-    let start = ml_start(opened, t);
-    let closed = ml_closed(q, start, t);
-    let end = ml_end(trims, q, start, t, closed);
-    Ends {
-        opened: opened,
-        closed: closed,
-        start: start,
-        end: end,
+    let mut left = s;
+    while let Some((last, before)) = left.split_last() {
+        if *last != q {
+            return left.len();
+        }
+        left = before;
     }
+    0
 }
 
+#[tactic(auto, unfolding(decoder_rules::specs::Marks::key_ends))]
 fn key_ends(t: &[u8]) -> Ends
     ensures { result ≡ key_ends t.now }
 {

@@ -1,4 +1,5 @@
 pub mod HexLaws
+pub mod FrontLaws
 pub mod EscapeAtLaws
 pub mod StepLaws
 pub mod OneAnswer

@@ -14,5 +14,19 @@ escape_at κs a x y s t p q = p ∙ sym q
 pub step : OneAnswer promised.body.Body.step.Reads.Learnt
 step κs a x y s t p q = p ∙ sym q
 
+pub past : OneAnswer promised.body.Body.past.Reads.Learnt
+past κs a x y s t p q = p ∙ sym q
+
 pub bytes : OneOutcome promised.body.Body.bytes.Reads.Learnt (λ κs r s. r.now)
 bytes κs a x y s t p q = p ∙ sym q
+
+-- the shortcuts of the engine that tests ranges
+pub few : OneAnswer promised.ranges.RangesEngine.few.Reads.Learnt
+few κs a x y s t p q = p ∙ sym q
+
+pub escape : OneAnswer promised.ranges.RangesEngine.escape.Reads.Learnt
+escape κs a x y s t p q = p ∙ sym q
+
+-- by any engine
+pub step_by : (g : _) (l : _) (m : _) (d : _) → OneAnswer (promised.body.Body.step_by.Reads.Learnt g l m d)
+step_by g l m d κs a x y s t p q = p ∙ sym q

@@ -1,7 +1,7 @@
 -- A step's two answers, and what is left to be read after it: so a walk over a body says what `collect` says; and what is left after
 -- a run of bytes that stand for themselves.
 -- Assumes nothing.
-use Rattle.std.proofs.Common.{◌≡◌, ℕ, zero, suc, ◌+◌, ◌-◌, ◌<◌, ◌≤◌, false, List, [], ◌∷◌, ◌++◌, length, take, drop, sym, refl, ◌∙◌, arith, length-drop, drop_of_length-le, length-take, take_all}
+use Rattle.std.proofs.Common.{Option, Some, None, ◌≡◌, ℕ, zero, suc, ◌+◌, ◌-◌, ◌^◌, ◌<◌, ◌≤◌, min, false, List, [], ◌∷◌, ◌++◌, length, take, drop, sym, refl, ap, ◌∙◌, arith, length-drop, length-take, take_all}
 use Rattle.text_classes.specs.Runs.{run}
 use Rattle.text_classes.proofs.RunLaws.{run_le}
 use Rattle.decoder_rules.specs.declared.Encoding.{Encoding}
@@ -13,52 +13,61 @@ use Rattle.decoder_rules.proofs.Fine.{rest, rest_is, Turn, turn_fine, turn_said}
 use Rattle.decoder_rules.proofs.BodyLaws.{piece_fine}
 use Rattle.decoder_rules.proofs.FrontLaws.{front_bytes, front_errors, part_rest}
 use Rattle.decoder_pieces.specs.declared.body.Body.{Body}
-use Rattle.decoder_pieces.specs.declared.body.BodyStep.{BodyStep}
-use Rattle.decoder_pieces.specs.declared.body.BodyStep.TheVariants.{Piece as Taken, End}
-use Rattle.decoder_pieces.specs.Steps.{body_bytes, body_after, step_over, body_step, bytes_left, errors_left}
+use Rattle.decoder_pieces.specs.Steps.{body_bytes, body_after, body_past, step_over, body_step, bytes_left, errors_left}
 use Rattle.decoder_pieces.specs.Walks.{AtPiece, AtEnd, Walk, ended, stepped, Walked}
+
+-- bytes that stand for themselves are a piece that copies
+pub past_fits : (b : Body) (n : ℕ) → b.at + n < 2 ^ 64 → body_past b n ≡ body_after b (copy_piece n)
+past_fits b n h =
+    let at : min (b.at + n) 0xFFFF_FFFF_FFFF_FFFF ≡ b.at + n = omega arith in
+    rw at
 
 -- ---- the two answers, by the bytes s of the body
 
+-- what is in an answer, or d
+abbrev or_else : {A : Type 0} → A → Option A → A
+or_else d None = d
+or_else d (Some x) = x
+
 module _ (e : Encoding) (b : Body) where
-  over_none : (s : List ℕ) → length s ≤ 0 → End ≡ step_over e b s
+  over_none : (s : List ℕ) → length s ≤ 0 → None ≡ step_over e b s
   over_none [] h = refl
   over_none (x ∷ s) h = absurd (omega arith)
 
   over_some : (s : List ℕ) → 0 < length s → (p : Piece) → p ≡ piece_of e b.dropping b.at s
-      → Taken p (body_after b p) ≡ step_over e b s
+      → Some (p, body_after b p) ≡ step_over e b s
   over_some [] h p f = absurd (omega arith)
   over_some (x ∷ s) h p f = rw f
 
-  none_over : (s : List ℕ) → step_over e b s ≡ End → s ≡ []
+  none_over : (s : List ℕ) → step_over e b s ≡ None → s ≡ []
   none_over [] h = refl
   none_over (x ∷ s) h = absurd (let z : ◌≡◌ {A = ℕ} 0 1 = cc in omega arith)
 
-  some_over : (s : List ℕ) (p : Piece) (n : Body) → step_over e b s ≡ Taken p n
+  some_over : (s : List ℕ) (p : Piece) (n : Body) → step_over e b s ≡ Some (p, n)
       → Turn (piece_of e) b.dropping b.at s p × (n ≡ body_after b p)
   some_over [] p n h = absurd (let z : ◌≡◌ {A = ℕ} 0 1 = cc in omega arith)
   some_over (x ∷ s) p n h =
-      let is : p ≡ piece_of e b.dropping b.at (x ∷ s) = cc in
-      let next : n ≡ body_after b (piece_of e b.dropping b.at (x ∷ s)) = cc in
+      let is : p ≡ piece_of e b.dropping b.at (x ∷ s) = sym (ap (λ (o : Option (Piece × Body)). (or_else (p, n) o).0) h) in
+      let next : n ≡ body_after b (piece_of e b.dropping b.at (x ∷ s)) = sym (ap (λ (o : Option (Piece × Body)). (or_else (p, n) o).1) h) in
       (record { more = omega arith; reads = is }, rw is next)
 
 module _ (e : Encoding) (t : List ℕ) (b : Body) where
-  pub step_none : length (body_bytes b t) ≤ 0 → End ≡ body_step e t b
+  pub step_none : length (body_bytes b t) ≤ 0 → None ≡ body_step e t b
   unfolding body_step
   step_none h = over_none e b (body_bytes b t) h
 
   pub step_some : 0 < length (body_bytes b t) → (p : Piece) → p ≡ piece_of e b.dropping b.at (body_bytes b t)
-      → Taken p (body_after b p) ≡ body_step e t b
+      → Some (p, body_after b p) ≡ body_step e t b
   unfolding body_step
   step_some h p f = over_some e b (body_bytes b t) h p f
 
   -- and back: at the end no byte is left
-  pub none_left : body_step e t b ≡ End → body_bytes b t ≡ []
+  pub none_left : body_step e t b ≡ None → body_bytes b t ≡ []
   unfolding body_step
   none_left h = none_over e b (body_bytes b t) h
 
   -- else the piece is the rule's, and the next body is what follows it
-  pub step_turn : (p : Piece) (n : Body) → body_step e t b ≡ Taken p n
+  pub step_turn : (p : Piece) (n : Body) → body_step e t b ≡ Some (p, n)
       → Turn (piece_of e) b.dropping b.at (body_bytes b t) p × (n ≡ body_after b p)
   unfolding body_step
   step_turn p n h = some_over e b (body_bytes b t) p n h
@@ -68,10 +77,6 @@ module _ (e : Encoding) (t : List ℕ) (b : Body) where
 module _ (b : Body) (t : List ℕ) where
   pub ended_none : b.end ≤ b.at → body_bytes b t ≡ []
   ended_none h = let none : b.end - b.at ≡ 0 = omega arith in rw none
-
-  pub beyond_none : length t ≤ b.at → body_bytes b t ≡ []
-  beyond_none h =
-      take_all (b.end - b.at) (drop b.at t) (omega (arith, length-drop b.at t)) ∙ drop_of_length-le t h
 
   pub to_the_end : length t ≤ b.end → body_bytes b t ≡ rest t b.at
   to_the_end h = take_all (b.end - b.at) (drop b.at t) (omega (arith, length-drop b.at t)) ∙ sym (rest_is t b.at)
@@ -96,7 +101,7 @@ module _ (e : Encoding) (t : List ℕ) (b : Body) (p : Piece) (turn : Turn (piec
 -- ---- a walk
 
 module _ (e : Encoding) (t : List ℕ) where
-  pub at_piece : (b : Body) (p : Piece) (n : Body) → body_step e t b ≡ Taken p n → AtPiece e t b p n
+  pub at_piece : (b : Body) (p : Piece) (n : Body) → body_step e t b ≡ Some (p, n) → AtPiece e t b p n
   at_piece b p n h =
       let turn = (step_turn e t b p n h).0 in
       let next = (step_turn e t b p n h).1 in
@@ -109,7 +114,7 @@ module _ (e : Encoding) (t : List ℕ) where
         fewer = rw (next, left) (omega (arith, fits.1, length-drop p.take (body_bytes b t)));
       }
 
-  pub at_end : (b : Body) → body_step e t b ≡ End → AtEnd e t b
+  pub at_end : (b : Body) → body_step e t b ≡ None → AtEnd e t b
   at_end b h = let none = none_left e t b h in record { bytes = rw none; errors = rw none }
 
   -- whatever walk is taken, it says what was left, in at most as many pieces as there are bytes
@@ -122,9 +127,9 @@ module _ (e : Encoding) (t : List ℕ) where
       (rw rest.0 (sym step.bytes), rw rest.1 (sym step.errors), omega (arith, rest.2, step.some, step.fewer))
 
   walk_by : (b : Body) → ((n : Body) → length (body_bytes n t) < length (body_bytes b t) → Walked e t n)
-      → (r : BodyStep) → body_step e t b ≡ r → Walked e t b
-  walk_by b on End h = record { bytes = []; errors = []; count = 0; walk = ended h }
-  walk_by b on (Taken p n) h =
+      → (r : Option (Piece × Body)) → body_step e t b ≡ r → Walked e t b
+  walk_by b on None h = record { bytes = []; errors = []; count = 0; walk = ended h }
+  walk_by b on (Some (p, n)) h =
       let step = at_piece b p n h in
       let rest = on n (omega (arith, step.some, step.fewer)) in
       record {

@@ -1,34 +1,39 @@
-// The string decoders, under the Rust's names and in its order. Each says the first piece of its body; body.rt goes from
-// piece to piece. Rules: Bodies.antt and Escapes.antt of crate `decoder_rules`.
-// In every function `s` begins with the piece's first byte and goes to the end of the body, and `at` is the place of that
-// byte in the text; that the place where `s` ends fits a usize is all that is asked of `at`. `rest` is what follows a
-// backslash, an escape's letter, or a text's opening.
-ghost use Rattle.std.specs.Prelude.{◌≡◌, ◌+◌, ◌^◌, ◌<◌, ◌≤◌, length, drop, if◌then◌else◌};
-ghost use Rattle.text_classes.specs.Classes.{hexdig};
-ghost use Rattle.decoder_rules.specs.Escapes.{new_letter, letter_of, letter_at, hex_value, hex_piece, escape_piece};
-ghost use Rattle.decoder_rules.specs.Bodies.{literal_piece, ml_literal_piece, basic_piece, skips, escaped_nl, escaped_more, mlb_content, ml_basic_piece, key_piece};
+// The string decoders, under the Rust's names and in its order, over any engine. Each says the first piece of its body; body.rt goes
+// from piece to piece. Rules: Bodies.antt and Escapes.antt of crate `decoder_rules`.
+// `rest` is what follows a backslash, an escape's letter, or a text's opening.
+ghost use Rattle.std.specs.Prelude.{◌≡◌, ◌+◌, ◌^◌, ◌<◌, ◌≤◌, length, drop};
+ghost use Rattle.decoder_rules.specs.Escapes.{letter_at, hex_piece, escape_piece};
+ghost use Rattle.decoder_rules.specs.Bodies.{literal_piece, ml_literal_piece, basic_piece, escaped_nl, escaped_more, mlb_content, ml_basic_piece, key_piece};
 ghost use Rattle.decoder_rules.specs.Marks.{newline_len};
-ghost use Rattle.decoder_pieces.specs.GoodEscapes.{no_escape, good_hex, good_escape, escape_at};
+ghost use Rattle.decoder_pieces.specs.GoodEscapes.{good_hex, good_escape, escape_at};
 ghost use Rattle.decoder_pieces.specs.Hexes.{HexRead};
 
+use crate::engine::Bytes;
+use crate::ranges::Ranges;
 use decoder_rules::{
     DecodeError, Edition, Encoding, Letter, Piece, bad_char, bad_copy, bad_drop, char_piece,
     copy_piece, drop_piece,
 };
-use decoder_scans::{
-    Set, basic_invalid, basic_unescaped, literal_chars, mlb_invalid, mlb_unescaped, mll_chars,
-    peek, run_from, unquoted_chars,
-};
-use std::num::wrapping_sub_u8;
-use text_classes::{ESCAPE, is_wschar};
+use text_classes::{ESCAPE, is_at};
 use text_scalars::is_scalar;
 
+// A body that has a byte: its bytes, which begin with the piece's first byte, and the place of that byte in the text. The place where
+// they end fits a usize.
+#[derive(Clone, Copy)]
+pub(crate) struct Left<'a> {
+    pub s: &'a [u8],
+    pub at: usize,
+    ghost some: { 0 < length s.now },
+    ghost fits: { at + length s.now < 2 ^ 64 },
+}
+
 // literal-string = apostrophe *literal-char apostrophe
-pub(crate) fn decode_literal_string(s: &[u8], at: usize) -> Piece
-    requires { 0 < length s.now }
-    ensures { result ≡ literal_piece at s.now }
+#[tactic(auto, using(crate::proofs::FrontLaws::front_some, crate::proofs::FrontLaws::front_none), unfolding(decoder_rules::specs::Bodies::literal_piece))]
+pub(crate) fn decode_literal_string<E: Bytes>(left: Left<'_>) -> Piece
+    ensures { result ≡ literal_piece left.entry.at left.entry.s.now }
 {
-    let n = literal_chars(s);
+    let Left { s, at } = left;
+    let n = E::plain_run(Encoding::LiteralString, s);
     if 0 < n {
         return copy_piece(n);
     }
@@ -36,16 +41,17 @@ pub(crate) fn decode_literal_string(s: &[u8], at: usize) -> Piece
 }
 
 // ml-literal-body = *mll-content *( mll-quotes 1*mll-content ) [ mll-quotes ]
-pub(crate) fn decode_ml_literal_string(s: &[u8], at: usize) -> Piece
-    requires { (0 < length s.now) × (at + length s.now < 2 ^ 64) }
-    ensures { result ≡ ml_literal_piece at s.now }
+#[tactic(auto, using(crate::proofs::FrontLaws::front_some, crate::proofs::FrontLaws::front_none), unfolding(decoder_rules::specs::Bodies::ml_literal_piece))]
+pub(crate) fn decode_ml_literal_string<E: Bytes>(left: Left<'_>) -> Piece
+    ensures { result ≡ ml_literal_piece left.entry.at left.entry.s.now }
 {
-    let n = mll_chars(s);
+    let Left { s, at } = left;
+    let n = E::plain_run(Encoding::MlLiteralString, s);
     if 0 < n {
         return copy_piece(n);
     }
-    if s[0] == b'\r' {
-        if peek(s, 1) == b'\n' {
+    if E::is_cr(s, 0) {
+        if E::is_lf(s, 1) {
             return copy_piece(1);
         }
         return bad_copy(1, DecodeError::LoneCr, at + 1, at + 1);
@@ -54,275 +60,198 @@ pub(crate) fn decode_ml_literal_string(s: &[u8], at: usize) -> Piece
 }
 
 // basic-char = basic-unescaped / escaped
-pub(crate) fn decode_basic_string(v: Edition, s: &[u8], at: usize) -> Piece
-    requires { (0 < length s.now) × (at + length s.now < 2 ^ 64) }
-    ensures { result ≡ basic_piece v at s.now }
+#[tactic(auto, using(crate::proofs::FrontLaws::front_some, crate::proofs::FrontLaws::front_none, crate::proofs::FrontLaws::backslash_basic, text_classes::proofs::RunLaws::run_le), unfolding(decoder_rules::specs::Bodies::basic_piece))]
+pub(crate) fn decode_basic_string<E: Bytes>(v: Edition, left: Left<'_>) -> Piece
+    ensures { result ≡ basic_piece v left.entry.at left.entry.s.now }
 {
-    if s[0] == ESCAPE {
-        return escape_seq_char(v, s, at);
+    let Left { s, at } = left;
+    if E::is_escape(s, 0) {
+        return escape_seq_char::<E>(v, left);
     }
-    let n = basic_unescaped(v, s);
+    let n = E::plain_run(Encoding::BasicString(v), s);
     if 0 < n {
         return copy_piece(n);
     }
-    let k = basic_invalid(s);
+    let k = E::basic_invalid(s);
     bad_copy(k, DecodeError::BasicInvalid, at, at + k)
 }
 
-// An escape that stands for a character: how many bytes it has, its backslash among them, and the character. No bytes
-// where it stands for none.
-#[derive(Clone, Copy)]
+// An escape that stands for a character: how many bytes it has, its backslash among them, and the character.
+#[derive(Clone, Copy, Debug, PartialEq, Eq)]
 pub struct Escape {
     pub take: usize,
     pub char: u32,
 }
 
-fn no_escape() -> Escape
-    ensures { result ≡ no_escape }
-{
-    Escape { take: 0, char: 0 }
-}
-
 // The escape at the front of s, where the encoding has escapes and one that stands for a character is there.
-pub fn escape_at(e: Encoding, s: &[u8]) -> Escape
+#[tactic(auto, using(text_classes::proofs::FirstLaws::stands_there, crate::proofs::EscapeAtLaws::escape_absent))]
+pub fn escape_at(e: Encoding, s: &[u8]) -> Option<Escape>
     ensures { result ≡ escape_at e s.now }
 {
-    if peek(s, 0) != ESCAPE {
-        return no_escape();
+    if !is_at(s, 0, ESCAPE) {
+        return None;
     }
     match e {
         Encoding::BasicString(v) => good_escape(v, s),
         Encoding::MlBasicString(v) => good_escape(v, s),
-        _ => no_escape(),
+        _ => None,
     }
 }
 
 // The same in an edition, where s begins with a backslash.
-fn good_escape(v: Edition, s: &[u8]) -> Escape
+fn good_escape(v: Edition, s: &[u8]) -> Option<Escape>
     requires { 0 < length s.now }
     ensures { result ≡ good_escape v (drop 1 s.now) }
 {
-    let letter = letter_at(v, &s[1..]);
-    match letter {
-        Letter::Stands(c) => Escape { take: 2, char: c },
+    match letter_at::<Ranges>(v, &s[1..]) {
+        Letter::Stands(c) => Some(Escape { take: 2, char: c }),
         Letter::Asks(digits) => good_hex(s, digits),
-        Letter::Neither => no_escape(),
+        Letter::Neither => None,
     }
 }
 
 // The same where the letter asks for so many digits.
-fn good_hex(s: &[u8], digits: usize) -> Escape
+fn good_hex(s: &[u8], digits: usize) -> Option<Escape>
     requires { (digits ≤ 8) × (2 ≤ length s.now) }
     ensures { result ≡ good_hex digits (drop 2 s.now) }
 {
-    let hex = hex_digits(&s[2..], digits);
-    let value = hex.value;
-    if hex.found < digits {
-        return no_escape();
+    match hex_number::<Ranges>(&s[2..], digits) {
+        Ok(value) => {
+            if is_scalar(value) {
+                Some(Escape {
+                    take: 2 + digits,
+                    char: value,
+                })
+            } else {
+                None
+            }
+        }
+        Err(_) => None,
     }
-    if is_scalar(value) {
-        return Escape {
-            take: 2 + digits,
-            char: value,
-        };
-    }
-    no_escape()
 }
 
 // escape escape-seq-char, of the edition
-fn escape_seq_char(v: Edition, s: &[u8], at: usize) -> Piece
-    requires { (0 < length s.now) × (at + length s.now < 2 ^ 64) }
-    ensures { result ≡ escape_piece v at (drop 1 s.now) }
+#[inline(always)]
+fn escape_seq_char<E: Bytes>(v: Edition, left: Left<'_>) -> Piece
+    ensures { result ≡ escape_piece v left.entry.at (drop 1 left.entry.s.now) }
 {
-    let letter = letter_at(v, &s[1..]);
-    match letter {
+    let Left { s, at } = left;
+    match letter_at::<E>(v, &s[1..]) {
         Letter::Stands(c) => char_piece(2, c),
-        Letter::Asks(digits) => hexescape(s, digits, at),
+        Letter::Asks(digits) => hexescape::<E>(s, digits, at),
         Letter::Neither => bad_char(1, 0x5C, DecodeError::MissingEscape, at + 1),
     }
 }
 
 // What the letter that `rest` begins with is for, after a backslash.
-fn letter_at(v: Edition, rest: &[u8]) -> Letter
+fn letter_at<E: Bytes>(v: Edition, rest: &[u8]) -> Letter
     ensures { result ≡ letter_at v rest.now }
 {
     if rest.len() == 0 {
         return Letter::Neither;
     }
-    letter_of(v, rest[0])
-}
-
-// In two parts, below the small letters and among them: so each table is small, and the compiler puts it into its callers.
-fn letter_of(v: Edition, b: u8) -> Letter
-    ensures { result ≡ letter_of v b }
-{
-    if b < b'a' {
-        return match b {
-            b'"' => Letter::Stands(0x22),
-            b'\\' => Letter::Stands(0x5C),
-            b'U' => Letter::Asks(8),
-            _ => Letter::Neither,
-        };
-    }
-    match b {
-        b'b' => Letter::Stands(0x08),
-        b'f' => Letter::Stands(0x0C),
-        b'n' => Letter::Stands(0x0A),
-        b'r' => Letter::Stands(0x0D),
-        b't' => Letter::Stands(0x09),
-        b'u' => Letter::Asks(4),
-        _ => new_letter(v, b),
-    }
-}
-
-// What TOML 1.1 adds to that.
-fn new_letter(v: Edition, b: u8) -> Letter
-    ensures { result ≡ new_letter v b }
-{
-    match v {
-        Edition::Toml10 => Letter::Neither,
-        Edition::Toml11 => match b {
-            b'e' => Letter::Stands(0x1B),
-            b'x' => Letter::Asks(2),
-            _ => Letter::Neither,
-        },
-    }
+    E::letter_of(v, rest[0])
 }
 
 // An escape whose letter asks for so many digits.
-fn hexescape(s: &[u8], digits: usize, at: usize) -> Piece
+fn hexescape<E: Bytes>(s: &[u8], digits: usize, at: usize) -> Piece
     requires { (digits ≤ 8) × (2 ≤ length s.now) × (at + length s.now < 2 ^ 64) }
     ensures { result ≡ hex_piece digits at (drop 2 s.now) }
 {
-    let hex = hex_digits(&s[2..], digits);
-    let i = hex.found;
-    let value = hex.value;
-    if i < digits {
-        return bad_char(2 + i, 0xFFFD, DecodeError::FewDigits, at + (2 + i));
+    match hex_number::<E>(&s[2..], digits) {
+        Err(found) => bad_char(2 + found, 0xFFFD, DecodeError::FewDigits, at + (2 + found)),
+        Ok(value) => {
+            if is_scalar(value) {
+                char_piece(2 + digits, value)
+            } else {
+                bad_char(2 + digits, 0xFFFD, DecodeError::NotScalar, at + 2)
+            }
+        }
     }
-    if is_scalar(value) {
-        return char_piece(2 + digits, value);
-    }
-    bad_char(2 + digits, 0xFFFD, DecodeError::NotScalar, at + 2)
 }
 
-// The digits that `rest` begins with, up to as many as are asked for: how many, and their value.
-#[derive(Clone, Copy)]
-struct Hex {
-    found: usize,
-    value: u32,
-}
-
-fn hex_digits(rest: &[u8], digits: usize) -> Hex
+// The number of the digits that `rest` begins with, where as many as are asked for are there; else how many are.
+#[tactic(auto, using(crate::proofs::HexLaws::digits_start, crate::proofs::HexLaws::digits_room, crate::proofs::HexLaws::digits_turn, crate::proofs::HexLaws::digits_few, crate::proofs::HexLaws::digits_all))]
+fn hex_number<E: Bytes>(rest: &[u8], digits: usize) -> Result<u32, usize>
     requires { digits ≤ 8 }
     ensures { HexRead digits rest.now result }
 {
-    let mut i = 0;
     let mut value: u32 = 0;
-    while i < digits {
-        let d = hex_value(peek(rest, i));
-        if 15 < d {
-            return Hex { found: i, value };
+    for i in 0..digits {
+        if rest.len() <= i {
+            return Err(i);
         }
-        value = value * 16 + d;
-        i += 1;
+        match E::digit_of(rest[i]) {
+            Some(d) => value = value * 16 + d,
+            None => return Err(i),
+        }
     }
-    Hex { found: i, value }
-}
-
-// The value of a hex digit; of any other byte 16.
-fn hex_value(b: u8) -> u32
-    ensures { result ≡ (if hexdig b then hex_value b else 16) }
-{
-    let d = wrapping_sub_u8(b, 0x30);
-    if d < 10 {
-        return d as u32;
-    }
-    let l = wrapping_sub_u8(b | 0x20, 0x61);
-    if l < 6 {
-        return (l + 10) as u32;
-    }
-    16
+    Ok(value)
 }
 
 // How many bytes a newline has that `rest` begins with: it is dropped after an opening.
+#[tactic(auto, unfolding(decoder_rules::specs::Marks::newline_len))]
 pub fn strip_start_newline(rest: &[u8]) -> usize
     ensures { result ≡ newline_len rest.now }
 {
-    let b = peek(rest, 0);
-    if b == b'\n' {
+    if is_at(rest, 0, b'\n') {
         return 1;
     }
-    if b == b'\r' {
-        if peek(rest, 1) == b'\n' {
-            return 2;
-        }
-        return 0;
+    if is_at(rest, 0, b'\r') && is_at(rest, 1, b'\n') {
+        return 2;
     }
     0
 }
 
 // mlb-content = mlb-char / newline / mlb-escaped-nl, or the rest of an mlb-escaped-nl
-pub(crate) fn decode_ml_basic_string(v: Edition, dropping: bool, s: &[u8], at: usize) -> Piece
-    requires { (0 < length s.now) × (at + length s.now < 2 ^ 64) }
-    ensures { result ≡ ml_basic_piece v dropping at s.now }
+#[tactic(auto, unfolding(decoder_rules::specs::Bodies::ml_basic_piece))]
+pub(crate) fn decode_ml_basic_string<E: Bytes>(v: Edition, dropping: bool, left: Left<'_>) -> Piece
+    ensures { result ≡ ml_basic_piece v dropping left.entry.at left.entry.s.now }
 {
-    if dropping {
-        if is_skipped(s[0]) {
-            return mlb_escaped_more(s, at);
-        }
-        return mlb_content(v, s, at);
+    let Left { s, at } = left;
+    if dropping && E::is_skipped(s, 0) {
+        return mlb_escaped_more::<E>(left);
     }
-    mlb_content(v, s, at)
+    mlb_content::<E>(v, left)
 }
 
-fn mlb_content(v: Edition, s: &[u8], at: usize) -> Piece
-    requires { (0 < length s.now) × (at + length s.now < 2 ^ 64) }
-    ensures { result ≡ mlb_content v at s.now }
+#[tactic(auto, using(crate::proofs::FrontLaws::front_some, crate::proofs::FrontLaws::front_none, text_classes::proofs::RunLaws::run_le), unfolding(decoder_rules::specs::Bodies::mlb_content))]
+fn mlb_content<E: Bytes>(v: Edition, left: Left<'_>) -> Piece
+    ensures { result ≡ mlb_content v left.entry.at left.entry.s.now }
 {
-    let n = mlb_unescaped(v, s);
+    let Left { s, at } = left;
+    let n = E::plain_run(Encoding::MlBasicString(v), s);
     if 0 < n {
         return copy_piece(n);
     }
-    let b = s[0];
-    if b == ESCAPE {
-        if is_skipped(peek(s, 1)) {
-            return mlb_escaped_nl(s, at);
+    if E::is_escape(s, 0) {
+        if E::is_skipped(s, 1) {
+            return mlb_escaped_nl::<E>(left);
         }
-        return escape_seq_char(v, s, at);
+        return escape_seq_char::<E>(v, left);
     }
-    if b == b'\r' {
-        if peek(s, 1) == b'\n' {
+    if E::is_cr(s, 0) {
+        if E::is_lf(s, 1) {
             return copy_piece(2);
         }
         return bad_copy(1, DecodeError::LoneCr, at + 1, at + 1);
     }
-    let k = mlb_invalid(s);
+    let k = E::mlb_invalid(s);
     bad_copy(k, DecodeError::MlBasicInvalid, at, at + k)
 }
 
-// What a line-ending escape drops.
-fn is_skipped(b: u8) -> bool
-    ensures { result ≡ skips b }
-{
-    match b {
-        b'\n' | b'\r' => true,
-        _ => is_wschar(b),
-    }
-}
-
 // mlb-escaped-nl = escape ws newline *( wschar / newline ): its own line
-fn mlb_escaped_nl(s: &[u8], at: usize) -> Piece
-    requires { (0 < length s.now) × (at + length s.now < 2 ^ 64) }
-    ensures { result ≡ escaped_nl at (drop 1 s.now) }
+#[tactic(auto, using(crate::proofs::FrontLaws::nl_is, text_classes::proofs::FirstLaws::stands_there, text_classes::proofs::RunLaws::run_le))]
+fn mlb_escaped_nl<E: Bytes>(left: Left<'_>) -> Piece
+    ensures { result ≡ escaped_nl left.entry.at (drop 1 left.entry.s.now) }
 {
-    let n = run_from(Set::Blank, s, 1);
-    let b = peek(s, n);
-    if b == b'\n' {
+    let Left { s, at } = left;
+    let n = E::blanks(s, 1);
+    if E::is_lf(s, n) {
         return drop_piece(n + 1);
     }
-    if b == b'\r' {
-        if peek(s, n + 1) == b'\n' {
+    if E::is_cr(s, n) {
+        if E::is_lf(s, n + 1) {
             return drop_piece(n + 2);
         }
         return bad_drop(n + 1, DecodeError::LoneCr, at + (n + 1));
@@ -331,12 +260,13 @@ fn mlb_escaped_nl(s: &[u8], at: usize) -> Piece
 }
 
 // Its further lines: one blank or newline.
-fn mlb_escaped_more(s: &[u8], at: usize) -> Piece
-    requires { (0 < length s.now) × (at + length s.now < 2 ^ 64) }
-    ensures { result ≡ escaped_more at s.now }
+#[tactic(auto, unfolding(decoder_rules::specs::Bodies::escaped_more))]
+fn mlb_escaped_more<E: Bytes>(left: Left<'_>) -> Piece
+    ensures { result ≡ escaped_more left.entry.at left.entry.s.now }
 {
-    if peek(s, 0) == b'\r' {
-        if peek(s, 1) == b'\n' {
+    let Left { s, at } = left;
+    if E::is_cr(s, 0) {
+        if E::is_lf(s, 1) {
             return drop_piece(2);
         }
         return bad_drop(1, DecodeError::LoneCr, at + 1);
@@ -345,11 +275,12 @@ fn mlb_escaped_more(s: &[u8], at: usize) -> Piece
 }
 
 // unquoted-key = 1*( ALPHA / DIGIT / %x2D / %x5F ) ; A-Z / a-z / 0-9 / - / _
-pub(crate) fn decode_unquoted_key(s: &[u8], at: usize) -> Piece
-    requires { 0 < length s.now }
-    ensures { result ≡ key_piece at s.now }
+#[tactic(auto, using(crate::proofs::FrontLaws::front_some, crate::proofs::FrontLaws::front_none), unfolding(decoder_rules::specs::Bodies::key_piece))]
+pub(crate) fn decode_unquoted_key<E: Bytes>(left: Left<'_>) -> Piece
+    ensures { result ≡ key_piece left.entry.at left.entry.s.now }
 {
-    let n = unquoted_chars(s);
+    let Left { s, at } = left;
+    let n = E::plain_run(Encoding::UnquotedKey, s);
     if 0 < n {
         return copy_piece(n);
     }

@@ -7,7 +7,7 @@
 
 ghost use Rattle.std.specs.Prelude.{◌≡◌, ◌+◌, ◌<◌, ◌≤◌, true, ◌++◌, length, drop};
 ghost use Rattle.decoder_rules.specs.Encodings.{plain};
-ghost use Rattle.decoder_rules.proofs.PlainLaws.{OwnLine, Clear, ClearIn, LineMarks, line_of, Least, Plain, middle, Copied, Part, Held};
+ghost use Rattle.decoder_rules.proofs.PlainLaws.{OwnLine, Clear, ClearIn, LineMarks, line_of, Plain, middle, Copied, Part, Held};
 ghost use Rattle.decoder_rules.proofs.OwnLaws.{Closed, OwnTo};
 
 use decoder_rules::{Edition, Encoding};
@@ -19,30 +19,31 @@ use text_classes::{APOSTROPHE, ESCAPE, QUOTATION_MARK};
 use text_refusals::LIMIT;
 
 // Copies the body of such a text to the front of the output, and says how many bytes that is. Of any
-// other text, and where there is no room, nothing is copied, and all its bytes are counted.
-pub fn copy_plain(kind: usize, text: &[u8], output: &mut [u8]) -> usize
+// other text, and where there is no room, nothing is copied: none.
+#[tactic(auto, using(decoder_rules::proofs::PlainLaws::copied_as), unfolding(decoder_rules::proofs::PlainLaws::line_of))]
+pub fn copy_plain(kind: usize, text: &[u8], output: &mut [u8]) -> Option<usize>
     ensures { Copied (Plain kind text.now) text.now output.old result output.new }
 {
     match kind {
         TokenKind::LITERAL_STRING => copy_line(APOSTROPHE, APOSTROPHE, text, output),
         TokenKind::BASIC_STRING => copy_line(QUOTATION_MARK, ESCAPE, text, output),
-        _ => text.len(),
+        _ => None,
     }
 }
 
-fn copy_line(q: u8, z: u8, text: &[u8], output: &mut [u8]) -> usize
+fn copy_line(q: u8, z: u8, text: &[u8], output: &mut [u8]) -> Option<usize>
     requires { LineMarks q z }
     ensures { Copied (OwnLine q (plain (line_of z)) text.now) text.now output.old result output.new }
 {
     if !is_plain_line(q, z, text) {
-        return text.len();
+        return None;
     }
     let n = text.len() - 2;
     if output.len() < n {
-        return text.len();
+        return None;
     }
     copy_body(text, n, output);
-    n
+    Some(n)
 }
 
 // A mark q at each end, and between them printable ASCII, no q and no z; or, in a line of up to 40 bytes, any characters
@@ -74,6 +75,7 @@ fn is_plain_line(q: u8, z: u8, text: &[u8]) -> bool
 }
 
 // The kind of a line, by the second of the two bytes.
+#[tactic(auto, unfolding(decoder_rules::proofs::PlainLaws::line_of))]
 fn line_of(z: u8) -> Encoding
     ensures { result ≡ line_of z }
 {
@@ -85,7 +87,8 @@ fn line_of(z: u8) -> Encoding
 }
 
 // The first place, from 1 on, at which no character stands that stands for itself. No end is asked for: the closing mark is
-// such a place.
+// such a place. No iterator: a turn goes over one to four bytes.
+#[tactic(auto, using(decoder_rules::proofs::OwnLaws::own_start))]
 fn own_run(e: Encoding, s: &[u8]) -> usize
     requires { Closed (plain e) s.now }
     ensures { OwnTo (plain e) s.now result }
@@ -99,11 +102,10 @@ fn own_run(e: Encoding, s: &[u8]) -> usize
             }
             i += 1;
         } else {
-            let n = wide_at(s, i);
-            if n == 0 {
-                return i;
+            match wide_at(s, i) {
+                Some(n) => i += n,
+                None => return i,
             }
-            i += n;
         }
     }
 }
@@ -120,10 +122,11 @@ fn is_clear(q: u8, z: u8, s: &[u8], end: usize) -> bool
     if n < 8 {
         return is_clear_pair(q, z, s, 1, end - 4, 4);
     }
+    // no iterator: the last two parts overlap
     let last = end - 8;
     let mut i = 1;
     while i < end {
-        if !is_clear_pair(q, z, s, least(i, last), least(i + 8, last), 8) {
+        if !is_clear_pair(q, z, s, i.min(last), (i + 8).min(last), 8) {
             return false;
         }
         i += 16;
@@ -132,6 +135,7 @@ fn is_clear(q: u8, z: u8, s: &[u8], end: usize) -> bool
 }
 
 // Up to three bytes: the first, the middle one and the last are all.
+#[tactic(auto, using(decoder_rules::proofs::PlainLaws::clear_few, text_scalars::proofs::FieldLaws::bits_left, text_scalars::proofs::FieldLaws::bits_right))]
 fn is_clear_few(q: u8, z: u8, s: &[u8], n: usize) -> bool
     requires { (n < 4) × (n < length s.now) }
     ensures { result ≡ true → ClearIn q z s.now 1 (n + 1) }
@@ -147,22 +151,22 @@ fn is_clear_few(q: u8, z: u8, s: &[u8], n: usize) -> bool
 
 // Two parts of n bytes, from i and from k on. One test of all their stains together, and no branch
 // among them, so that the compiler takes them all at once.
+#[tactic(auto, using(decoder_rules::proofs::PlainLaws::clear_none, decoder_rules::proofs::PlainLaws::clear_more, text_scalars::proofs::FieldLaws::bits_left, text_scalars::proofs::FieldLaws::bits_right))]
 fn is_clear_pair(q: u8, z: u8, s: &[u8], i: usize, k: usize, n: usize) -> bool
     requires { (i + n ≤ length s.now) × (k + n ≤ length s.now) }
     ensures { result ≡ true → ClearIn q z s.now i (i + n) × ClearIn q z s.now k (k + n) }
 {
     let mut bits: u8 = 0;
-    let mut j = 0;
-    while j < n {
-        bits = bits | stain(q, z, s[i + j]);
-        bits = bits | stain(q, z, s[k + j]);
-        j += 1;
+    for j in 0..n {
+        bits |= stain(q, z, s[i + j]);
+        bits |= stain(q, z, s[k + j]);
     }
     bits < 0x80
 }
 
 // Bits of which the highest is off only where b is clear: each term has it on for what it is about, as the last two for q
 // and for z.
+#[tactic(auto, using(decoder_rules::proofs::PlainLaws::clear_by))]
 fn stain(q: u8, z: u8, b: u8) -> u8
     ensures { result < 0x80 → Clear q z b }
 {
@@ -171,12 +175,6 @@ fn stain(q: u8, z: u8, b: u8) -> u8
     let first = wrapping_sub_u8(b ^ q, 1);
     let second = wrapping_sub_u8(b ^ z, 1);
     (high | low) | (first | second)
-}
-
-fn least(a: usize, b: usize) -> usize
-    ensures { Least a b result }
-{
-    if a < b { a } else { b }
 }
 
 // Copies the n bytes after the mark to the front of the output.
@@ -189,15 +187,16 @@ fn copy_body(text: &[u8], n: usize, output: &mut [u8])
         return;
     }
     if n < 8 {
-        copy_four(text, 0, output);
-        copy_four(text, n - 4, output);
+        copy_part::<4>(text, 0, output);
+        copy_part::<4>(text, n - 4, output);
         return;
     }
+    // no iterator: the last two parts overlap
     let last = n - 8;
     let mut i = 0;
     while i < n {
-        copy_eight(text, least(i, last), output);
-        copy_eight(text, least(i + 8, last), output);
+        copy_part::<8>(text, i.min(last), output);
+        copy_part::<8>(text, (i + 8).min(last), output);
         i += 16;
     }
 }
@@ -210,47 +209,18 @@ fn copy_few(text: &[u8], n: usize, output: &mut [u8])
     if n == 0 {
         return;
     }
-    let first = text[1];
-    let middle = text[1 + n / 2];
-    let last = text[n];
-    output[0] = first;
-    output[n / 2] = middle;
-    output[n - 1] = last;
+    copy_part::<1>(text, 0, output);
+    copy_part::<1>(text, n / 2, output);
+    copy_part::<1>(text, n - 1, output);
 }
 
-// All are read before one is written, so that the compiler moves them at once.
-fn copy_four(text: &[u8], i: usize, output: &mut [u8])
-    requires { (i + 5 ≤ length text.now) × (i + 4 ≤ length output.old) }
-    ensures { Part text.now output.old i 4 output.new }
+// The N bytes from place i on, which the mark moves by one. All are read before one is written, so that the compiler moves them at
+// once.
+fn copy_part<const N: usize>(text: &[u8], i: usize, output: &mut [u8])
+    requires { (i + N + 1 ≤ length text.now) × (i + N ≤ length output.old) }
+    ensures { Part text.now output.old i N output.new }
 {
-    let a = text[i + 1];
-    let b = text[i + 2];
-    let c = text[i + 3];
-    let d = text[i + 4];
-    output[i] = a;
-    output[i + 1] = b;
-    output[i + 2] = c;
-    output[i + 3] = d;
-}
-
-fn copy_eight(text: &[u8], i: usize, output: &mut [u8])
-    requires { (i + 9 ≤ length text.now) × (i + 8 ≤ length output.old) }
-    ensures { Part text.now output.old i 8 output.new }
-{
-    let a = text[i + 1];
-    let b = text[i + 2];
-    let c = text[i + 3];
-    let d = text[i + 4];
-    let e = text[i + 5];
-    let f = text[i + 6];
-    let g = text[i + 7];
-    let h = text[i + 8];
-    output[i] = a;
-    output[i + 1] = b;
-    output[i + 2] = c;
-    output[i + 3] = d;
-    output[i + 4] = e;
-    output[i + 5] = f;
-    output[i + 6] = g;
-    output[i + 7] = h;
+    let mut part = [0u8; N];
+    part.copy_from_slice(&text[i + 1..i + N + 1]);
+    output[i..i + N].copy_from_slice(&part);
 }

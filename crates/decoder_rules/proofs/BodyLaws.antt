@@ -1,5 +1,6 @@
 -- The pieces of each body are fine.
 -- Assumes nothing.
+use Rattle.std.specs.Prelude.{Option, None}
 use Prim.Native.Nat.{ℕ, suc, ◌+◌, ◌≤◌, ◌<◌}
 use mathlib.Core.Path.{◌≡◌, refl}
 use mathlib.Core.Bool.{Bool, true, false, ◌&&◌}
@@ -17,8 +18,7 @@ use Rattle.decoder_rules.specs.declared.Encoding.{Encoding}
 use Rattle.decoder_rules.specs.declared.Encoding.TheVariants.{LiteralString, BasicString, MlLiteralString, MlBasicString, UnquotedKey}
 use Rattle.decoder_rules.specs.Encodings.{mll_plain, mlb_plain, basic_invalid, mlb_invalid}
 use Rattle.decoder_rules.specs.declared.Given.TheVariants.{Copy}
-use Rattle.decoder_rules.specs.declared.Verdict.{Verdict}
-use Rattle.decoder_rules.specs.declared.Verdict.TheVariants.{Clean}
+use Rattle.decoder_rules.specs.declared.Wrong.{Wrong}
 use Rattle.decoder_rules.specs.Pieces.{collect}
 use Rattle.decoder_rules.specs.Bodies.{literal_piece, ml_literal_piece, basic_piece, skips, escaped_nl, escaped_more, mlb_content, ml_basic_piece, key_piece, piece_of}
 use Rattle.decoder_rules.proofs.PlaceForms.{literal_piece_is, ml_literal_piece_is, basic_piece_is, line_by, escaped_nl_is, escaped_more_is, content_is, ml_basic_piece_is, key_piece_is}
@@ -43,26 +43,26 @@ module _ (at : ℕ) (s : List ℕ) (h : 0 < length s) where
   Good p = FineAt p s
 
   -- a run that starts here, as one piece
-  fine_run : (f : ℕ → Bool) (w : Verdict) → f (get_or s 0 0) ≡ true
+  fine_run : (f : ℕ → Bool) (w : Option Wrong) → f (get_or s 0 0) ≡ true
       → FineAt (record { take = run f s; given = Copy; verdict = w; dropping = false }) s
   fine_run f w e = fine_copy (run f s) w s (run_some f s h e) (run_le f s)
 
-  fine_one : (w : Verdict) → FineAt (record { take = 1; given = Copy; verdict = w; dropping = false }) s
+  fine_one : (w : Option Wrong) → FineAt (record { take = 1; given = Copy; verdict = w; dropping = false }) s
   fine_one w = fine_copy 1 w s (omega arith) h
 
   literal_fine : FineAt (literal_piece at s) s
-  literal_fine = rw literal_piece_is (cond_case Good (literal_char (get_or s 0 0)) (fine_run literal_char Clean) (λ e. fine_one _))
+  literal_fine = rw literal_piece_is (cond_case Good (literal_char (get_or s 0 0)) (fine_run literal_char None) (λ e. fine_one _))
 
   ml_literal_fine : FineAt (ml_literal_piece at s) s
   ml_literal_fine =
       rw ml_literal_piece_is
-      (cond_case Good (mll_plain (get_or s 0 0)) (fine_run mll_plain Clean)
+      (cond_case Good (mll_plain (get_or s 0 0)) (fine_run mll_plain None)
       λ e. by_eq Good (get_or s 0 0) 0x0D (λ f. by_eq Good (get_or s 1 0) 0x0A (λ g. fine_one _) (λ g. fine_one _)) (λ f. fine_one _))
 
   basic_fine : (v : Edition) → FineAt (basic_piece v at s) s
   basic_fine v =
       rw basic_piece_is
-      (cond_case Good (basic_unescaped (get_or s 0 0)) (fine_run basic_unescaped Clean)
+      (cond_case Good (basic_unescaped (get_or s 0 0)) (fine_run basic_unescaped None)
       λ e. by_eq Good (get_or s 0 0) 0x5C (λ f. escape_fine v at s (drop 1 s) (omega (arith, length-drop 1 s)))
       (λ f. fine_run basic_invalid _ (invalid_basic (get_or s 0 0) e f)))
 
@@ -93,7 +93,7 @@ module _ (at : ℕ) (s : List ℕ) (h : 0 < length s) where
   content_fine : (v : Edition) → FineAt (mlb_content v at s) s
   content_fine v =
       rw content_is
-      (cond_case Good (mlb_plain (get_or s 0 0)) (fine_run mlb_plain Clean)
+      (cond_case Good (mlb_plain (get_or s 0 0)) (fine_run mlb_plain None)
       λ e. by_eq Good (get_or s 0 0) 0x5C
       (λ f. cond_case Good (skips (get_or s 1 0))
       (λ g. escaped_fine (drop 1 s) (omega (arith, length-drop 1 s)))
@@ -108,7 +108,7 @@ module _ (at : ℕ) (s : List ℕ) (h : 0 < length s) where
   ml_basic_fine v d = rw ml_basic_piece_is (cond_case Good (d && skips (get_or s 0 0)) (λ e. more_fine) (λ e. content_fine v))
 
   key_fine : FineAt (key_piece at s) s
-  key_fine = rw key_piece_is (cond_case Good (unquoted_char (get_or s 0 0)) (fine_run unquoted_char Clean) (λ e. fine_one _))
+  key_fine = rw key_piece_is (cond_case Good (unquoted_char (get_or s 0 0)) (fine_run unquoted_char None) (λ e. fine_one _))
 
 pub piece_fine : (e : Encoding) → Fine (piece_of e)
 piece_fine LiteralString d at s h = literal_fine at s h

@@ -1,6 +1,7 @@
 -- A text that is free of error in TOML 1.0 is free of error in TOML 1.1, with the same value. Not the other way round: an
 -- example stands at the end.
 -- Assumes nothing.
+use Rattle.std.specs.Prelude.{Option, None, Result, Ok, Err}
 use Prim.Native.Nat.{ℕ, zero, suc, pred}
 use mathlib.Core.Path.{◌≡◌, refl, ap}
 use mathlib.Core.Logic.{◌⊎◌, inl, inr}
@@ -18,19 +19,16 @@ use Rattle.decoder_rules.specs.declared.Edition.{Edition}
 use Rattle.decoder_rules.specs.declared.Edition.TheVariants.{Toml10, Toml11}
 use Rattle.decoder_rules.specs.declared.Encoding.{Encoding}
 use Rattle.decoder_rules.specs.declared.Encoding.TheVariants.{LiteralString, BasicString, MlLiteralString, MlBasicString, UnquotedKey}
-use Rattle.decoder_rules.specs.declared.Choice.{Choice}
-use Rattle.decoder_rules.specs.declared.Choice.TheVariants.{Known, Unknown}
 use Rattle.decoder_rules.specs.declared.Letter.{Letter}
 use Rattle.decoder_rules.specs.declared.Letter.TheVariants.{Stands, Asks, Neither}
 use Rattle.decoder_rules.specs.declared.Piece.{Piece}
-use Rattle.decoder_rules.specs.declared.Verdict.TheVariants.{Clean}
 use Rattle.decoder_rules.specs.Encodings.{mlb_plain, choice_in, choice_by, mark_error}
 use Rattle.decoder_rules.specs.Pieces.{gives, notes, notes_at, collect}
 use Rattle.decoder_rules.specs.Escapes.{new_letter, letter_of, letter_at, escape_by, escape_piece}
 use Rattle.decoder_rules.specs.Bodies.{basic_piece, skips, mlb_content, ml_basic_piece, piece_of}
 use Rattle.decoder_rules.specs.Marks.{line_ends, ends_of, body_of}
 use Rattle.decoder_rules.specs.Decoding.{bytes_of, errors_of, bytes_by, errors_by}
-use Rattle.decoder_rules.proofs.PieceLaws.{wrong≢clean, notes_clean}
+use Rattle.decoder_rules.proofs.PieceLaws.{wrong≢none, notes_clean}
 
 -- ---- letters: those of 1.0 mean the same in 1.1
 
@@ -66,14 +64,14 @@ same_letter_at (b ∷ s) = same_letter b
 
 -- the piece r is p, unless p has an error
 abbrev Stays : Piece → Piece → Type 0
-Stays r p = p.verdict ≡ Clean → r ≡ p
+Stays r p = p.verdict ≡ None → r ≡ p
 
 escape_same : (at : ℕ) (s : List ℕ) → Stays (escape_piece Toml11 at s) (escape_piece Toml10 at s)
 unfolding escape_piece
 escape_same at s = go (letter_at Toml10 s) (same_letter_at s)
   where
     go : (l : Letter) → (l ≡ Neither) ⊎ (letter_at Toml11 s ≡ l) → Stays (escape_by (letter_at Toml11 s) at (drop 1 s)) (escape_by l at (drop 1 s))
-    go l (inl e) h = absurd (wrong≢clean (rw e at h))
+    go l (inl e) h = absurd (wrong≢none (rw e at h))
     go l (inr e) h = rw e
 
 stays_self : (p : Piece) → Stays p p
@@ -159,21 +157,21 @@ module _ (e : Encoding) (t : List ℕ) (free : errors_of e t ≡ []) where
 
 -- ---- the call
 
-abbrev later_choice : Choice → Choice
-later_choice (Known e) = Known (later e)
-later_choice (Unknown r) = Unknown r
+abbrev later_choice : Result Encoding Refusal → Result Encoding Refusal
+later_choice (Ok e) = Ok (later e)
+later_choice (Err r) = Err r
 
 chosen_later : (kind : ℕ) → choice_in Toml11 kind ≡ later_choice (choice_in Toml10 kind)
 unfolding choice_in
 chosen_later kind = go (eqb kind 39) (eqb kind 34) (eqb kind 1) (eqb kind 2) (eqb kind 3) (NoKind kind)
   where
-    pick : Edition → (p q r s t : Bool) → Refusal → Choice
+    pick : Edition → (p q r s t : Bool) → Refusal → Result Encoding Refusal
     pick v p q r s t n =
-        cond p (Known LiteralString)
-        (cond q (Known (BasicString v))
-        (cond r (Known MlLiteralString)
-        (cond s (Known (MlBasicString v))
-        (cond t (Known UnquotedKey) (Unknown n)))))
+        cond p (Ok LiteralString)
+        (cond q (Ok (BasicString v))
+        (cond r (Ok MlLiteralString)
+        (cond s (Ok (MlBasicString v))
+        (cond t (Ok UnquotedKey) (Err n)))))
 
     go : (p q r s t : Bool) (n : Refusal) → pick Toml11 p q r s t n ≡ later_choice (pick Toml10 p q r s t n)
     go true q r s t n = refl
@@ -194,9 +192,9 @@ same_value t kind free =
     let s = go (choice_in Toml10 kind) free in
     record { errors = rw (chosen_later kind) s.0; bytes = rw (chosen_later kind) s.1 }
   where
-    go : (c : Choice) → errors_by c t ≡ [] → (errors_by (later_choice c) t ≡ []) × (bytes_by (later_choice c) t ≡ bytes_by c t)
-    go (Known e) h = (same_errors e t h, same_bytes e t h)
-    go (Unknown r) h = (refl, refl)
+    go : (c : Result Encoding Refusal) → errors_by c t ≡ [] → (errors_by (later_choice c) t ≡ []) × (bytes_by (later_choice c) t ≡ bytes_by c t)
+    go (Ok e) h = (same_errors e t h, same_bytes e t h)
+    go (Err r) h = (refl, refl)
 
 -- ---- not the other way round: "\e" and "\x41" are strings of TOML 1.1 alone
 

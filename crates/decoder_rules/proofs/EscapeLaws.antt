@@ -67,20 +67,6 @@ letter_fit v b =
     λ _. by_eq (Fit b) b 0x75 (λ e. fit_asks b 4 (omega arith) (omega arith) (omega arith) (omega arith))
     λ _. by_eq (Fit b) b 0x55 (λ e. fit_asks b 8 (omega arith) (omega arith) (omega arith) (omega arith)) (λ _. new_fit v b)
 
--- 1.1 adds small letters only
-pub new_small : (v : Edition) (b : ℕ) → b < 0x61 → Neither ≡ new_letter v b
-new_small Toml10 b h = refl
-new_small Toml11 b h = rw (ne_eqb b 0x65 (λ e. omega arith), ne_eqb b 0x78 (λ e. omega arith))
-
--- the letter at the front, and none
-pub letter_none : (v : Edition) (s : List ℕ) → length s ≡ 0 → Neither ≡ letter_at v s
-letter_none v [] h = refl
-letter_none v (b ∷ s) h = absurd (omega arith)
-
-pub letter_some : (v : Edition) (s : List ℕ) → 0 < length s → letter_of v (get_or s 0 0) ≡ letter_at v s
-letter_some v [] h = absurd (omega arith)
-letter_some v (b ∷ s) h = refl
-
 -- a byte is there, and it is a visible one of ASCII
 pub record Visible (s : List ℕ) : Type 0 where
   pub some : 0 < length s

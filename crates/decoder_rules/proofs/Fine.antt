@@ -1,5 +1,6 @@
 -- What the two loops ask of a decoder's pieces: `Fine`. From it alone come the bounds on lengths, and a turn of each loop.
 -- Assumes nothing.
+use Rattle.std.specs.Prelude.{Option, None}
 use Prim.Native.Nat.{ℕ, zero, ◌+◌, ◌-◌, ◌*◌, ◌≤◌, ◌<◌}
 use mathlib.Core.Path.{◌≡◌}
 use mathlib.Core.Bool.{Bool, true, false}
@@ -12,10 +13,9 @@ use Rattle.decoder_rules.specs.declared.Piece.{Piece}
 use Rattle.decoder_rules.specs.declared.Given.{Given}
 use Rattle.decoder_rules.specs.declared.Given.TheVariants.{Copy, Char, Nothing}
 use Rattle.decoder_rules.specs.declared.DecodeError.{DecodeError}
-use Rattle.decoder_rules.specs.declared.Verdict.{Verdict}
-use Rattle.decoder_rules.specs.declared.Verdict.TheVariants.{Clean}
+use Rattle.decoder_rules.specs.declared.Wrong.{Wrong}
 use Rattle.decoder_rules.specs.Pieces.{gives, Pieces, collect, char_piece, bad_char}
-use Rattle.decoder_rules.proofs.PieceLaws.{wrong≢clean, collect_step}
+use Rattle.decoder_rules.proofs.PieceLaws.{wrong≢none, collect_step}
 
 -- a character that is given is a scalar value
 abbrev pub Encodable : Given → Type 0
@@ -29,7 +29,7 @@ pub record FineAt (p : Piece) (s : List ℕ) : Type 0 where
   pub some : 0 < p.take
   pub fits : p.take ≤ length s
   pub small : 2 * length (gives p s) ≤ 3 * p.take
-  pub quiet : p.verdict ≡ Clean → length (gives p s) ≤ p.take
+  pub quiet : p.verdict ≡ None → length (gives p s) ≤ p.take
   pub char : Encodable p.given
 
 abbrev pub Fine : Pieces → Type 0
@@ -38,13 +38,13 @@ Fine P = (d : Bool) (at : ℕ) (s : List ℕ) → 0 < length s → FineAt (P d a
 -- ---- the three ways to make a piece
 
 -- with an error or without one
-pub fine_copy : (n : ℕ) (w : Verdict) (s : List ℕ) → 0 < n → n ≤ length s
+pub fine_copy : (n : ℕ) (w : Option Wrong) (s : List ℕ) → 0 < n → n ≤ length s
     → FineAt (record { take = n; given = Copy; verdict = w; dropping = false }) s
 unfolding gives
 fine_copy n w s l h =
     record { some = l; fits = h; small = rw length-take (omega arith); quiet = λ e. rw length-take (omega arith); char = tt }
 
-pub fine_drop : (n : ℕ) (w : Verdict) (s : List ℕ) → 0 < n → n ≤ length s
+pub fine_drop : (n : ℕ) (w : Option Wrong) (s : List ℕ) → 0 < n → n ≤ length s
     → FineAt (record { take = n; given = Nothing; verdict = w; dropping = true }) s
 unfolding gives
 fine_drop n w s l h = record { some = l; fits = h; small = omega arith; quiet = λ e. omega arith; char = tt }
@@ -57,7 +57,7 @@ fine_char n c s l h v m = record { some = l; fits = h; small = omega arith; quie
 pub fine_bad_char : (n c : ℕ) (e : DecodeError) (p : ℕ) (s : List ℕ) → 0 < n → n ≤ length s → Scalar c
     → 2 * length (encode_scalar c) ≤ 3 * n → FineAt (bad_char n c e p) s
 unfolding gives
-fine_bad_char n c e p s l h v m = record { some = l; fits = h; small = m; quiet = λ q. absurd (wrong≢clean q); char = v }
+fine_bad_char n c e p s l h v m = record { some = l; fits = h; small = m; quiet = λ q. absurd (wrong≢none q); char = v }
 
 -- ---- what a turn of a loop reads
 

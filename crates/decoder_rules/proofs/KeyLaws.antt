@@ -5,6 +5,7 @@ use mathlib.Core.Path.{◌≡◌, refl, sym, ap, ◌∙◌}
 use mathlib.Core.Logic.{inl, inr}
 use mathlib.Core.Bool.{Bool, true, false}
 use mathlib.Core.List.{List, [], ◌∷◌, ◌++◌}
+use Rattle.std.specs.Prelude.{Option, MatchOption, Ok}
 use native.Mathlib.Omega.{arith}
 use borrow.Author.Tests.{lt-ltb}
 use lib.ListN.{length, take, drop, get_or}
@@ -15,10 +16,8 @@ use Rattle.text_classes.proofs.RunLaws.{run_step, run_first}
 use Rattle.text_refusals.specs.Refusals.{limit}
 use Rattle.text_scalars.specs.Utf8Read.{ascii}
 use Rattle.text.specs.CheckMeans.{check_of}
-use Rattle.text.specs.declared.utf8.Utf8Check.TheVariants.{Valid}
 use Rattle.text.proofs.AnswerLaws.{answer_ascii}
 use Rattle.decoder_rules.specs.declared.Encoding.TheVariants.{UnquotedKey}
-use Rattle.decoder_rules.specs.declared.Choice.TheVariants.{Known}
 use Rattle.decoder_rules.specs.Encodings.{plain, choice_in, choice_by}
 use Rattle.decoder_rules.specs.Marks.{key_ends}
 use Rattle.decoder_rules.specs.Decoding.{bytes_of, errors_of}
@@ -43,7 +42,7 @@ module _ (t : List ℕ) (key : PlainKey t) where
   key_ascii : (k : ℕ) → k < length t → ascii (get_or t k 0) ≡ true
   key_ascii k h = lt-ltb (get_or t k 0) 0x80 (unquoted_low (get_or t k 0) (run_each (plain UnquotedKey) t key.all k h))
 
-  key_valid : Valid ≡ check_of t
+  key_valid : Ok tt ≡ check_of t
   key_valid = answer_ascii t key.few (run_all ascii t key_ascii)
 
   -- its body is all of it
@@ -54,7 +53,7 @@ module _ (t : List ℕ) (key : PlainKey t) where
   unfolding key_ends
   key_ends_lem = rw (lt-ltb 0 (length t) key.some)
 
-  chosen_key : (edition kind : ℕ) → Named edition → kind ≡ 3 → choice_by edition kind ≡ Known UnquotedKey
+  chosen_key : (edition kind : ℕ) → Named edition → kind ≡ 3 → choice_by edition kind ≡ Ok UnquotedKey
   unfolding choice_by choice_in
   chosen_key edition kind (inl e) k = simp (e, k)
   chosen_key edition kind (inr e) k = simp (e, k)
@@ -66,19 +65,9 @@ module _ (t : List ℕ) (key : PlainKey t) where
 
 -- ---- what is copied of it
 
--- all of t, where it is a plain key, the number names an edition and the memory that held `old` has room: n bytes; else
--- nothing, and n is 0
-pub data KeyCopied (edition : ℕ) (t old : List ℕ) (n : ℕ) (out : List ℕ) : Type 0 where
-  copied : Named edition → PlainKey t → n ≡ length t → n ≤ length old → out ≡ t ++ drop n old → KeyCopied edition t old n out
-  untouched : n ≡ 0 → out ≡ old → KeyCopied edition t old n out
-
-module _ {edition : ℕ} {t old : List ℕ} {n : ℕ} {out : List ℕ} where
-  -- n tells which
-  pub key_some : KeyCopied edition t old n out → 0 < n
-      → Named edition × PlainKey t × (n ≡ length t) × (n ≤ length old) × (out ≡ t ++ drop n old)
-  key_some (copied e k s r o) h = (e, k, s, r, o)
-  key_some (untouched e o) h = absurd (omega arith)
-
-  pub key_none : KeyCopied edition t old n out → n ≤ 0 → out ≡ old
-  key_none (copied e k s r o) h = absurd (omega (arith, k.some))
-  key_none (untouched e o) h = o
+-- t is a plain key, and all of it, n bytes, is copied to the front of memory that held `old`, which has room
+pub record WholeCopied (t old out : List ℕ) (n : ℕ) : Type 0 where
+  pub key : PlainKey t
+  pub size : n ≡ length t
+  pub room : n ≤ length old
+  pub holds : out ≡ t ++ drop n old

@@ -17,5 +17,6 @@ pub mod OwnLaws
 pub mod KeyLaws
 pub mod Utf8Laws
 pub mod EditionLaws
+pub mod EditionNumbers
 pub mod AnswerLaws
 pub mod OneAnswer

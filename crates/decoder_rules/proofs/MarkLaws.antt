@@ -23,26 +23,6 @@ use Rattle.decoder_rules.proofs.PlaceForms.{newline_len_is}
 -- ---- one mark at each end
 
 module _ (q : ℕ) (t : List ℕ) where
-  pub opened_none : length t ≡ 0 → false ≡ line_opened q t
-  opened_none e = simp e
-
-  pub opened_by : (length t ≡ 0 → ⊥) → eqb (get_or t 0 0) q ≡ line_opened q t
-  opened_by n = simp (lt-ltb 0 (length t) (omega arith))
-
-  pub closed_none : (start : ℕ) → length t ≤ start → false ≡ line_closed start q t
-  closed_none start h = simp (le-ltb start (length t) h)
-
-  pub closed_by : (start : ℕ) → start < length t → eqb (get_or t (length t - 1) 0) q ≡ line_closed start q t
-  closed_by start h = simp (lt-ltb start (length t) h)
-
-  pub closed_some : (start : ℕ) → line_closed start q t ≡ true → 1 ≤ length t
-  closed_some start e = omega (arith, ltb-true start (length t) (both_left _ _ e))
-
-  pub line_is : (o : Bool) (n : ℕ) (c : Bool) (e : ℕ) → o ≡ line_opened q t → n ≡ line_start o → c ≡ line_closed n q t → e ≡ line_end c t
-      → record { opened = o; closed = c; start = n; end = e } ≡ line_ends q t
-  unfolding line_ends
-  line_is o n c e p r s u = rw (u, s, r, p)
-
   pub line_both : 1 < length t → get_or t 0 0 ≡ q → get_or t (length t - 1) 0 ≡ q
       → record { opened = true; closed = true; start = 1; end = length t - 1 } ≡ line_ends q t
   unfolding line_ends
@@ -73,10 +53,6 @@ start_le t true h = omega (arith, start_open t, newline_le (drop 3 t), length-dr
 start_le t false h = omega (arith, start_bare t, newline_le t)
 
 module _ (q a : ℕ) (t : List ℕ) where
-  pub closed_not : length t < a + 3 → false ≡ ml_closed q a t
-  unfolding ml_closed
-  closed_not h = simp (lt-leb (a + 3) (length t) h)
-
   pub closed_is : a + 3 ≤ length t → triple q (drop (length t - 3) t) ≡ ml_closed q a t
   unfolding ml_closed
   closed_is h = simp (le-leb (a + 3) (length t) h)
@@ -110,28 +86,15 @@ ml_is trims q t o c a e eo ea ec ee = rw (ee, ec, ea, eo)
 -- ---- the marks at the end that are dropped
 
 -- a mark at the end goes, and any other byte stays
-trimmed_mark : (q : ℕ) (s : List ℕ) → trimmed q (s ++ (q ∷ [])) ≡ trimmed q s
+pub trimmed_mark : (q : ℕ) (s : List ℕ) → trimmed q (s ++ (q ∷ [])) ≡ trimmed q s
 unfolding trimmed
 trimmed_mark q [] = simp (eq-eqb q q refl)
 trimmed_mark q (b ∷ r) = rw (trimmed_mark q r)
 
-trimmed_other : (q b : ℕ) (s : List ℕ) → (b ≡ q → ⊥) → trimmed q (s ++ (b ∷ [])) ≡ suc (length s)
+pub trimmed_other : (q b : ℕ) (s : List ℕ) → (b ≡ q → ⊥) → trimmed q (s ++ (b ∷ [])) ≡ suc (length s)
 unfolding trimmed
 trimmed_other q b [] n = simp (ne_eqb b q n)
 trimmed_other q b (c ∷ r) n = rw (trimmed_other q b r n) (simp (eqb-suc-zero (length r)))
-
-pub trimmed_none : (q : ℕ) (s : List ℕ) → trimmed q (take 0 s) ≡ 0
-unfolding trimmed
-trimmed_none q s = refl
-
--- when e + 1 bytes are left
-module _ (q : ℕ) (s : List ℕ) (e : ℕ) (h : e < length s) where
-  pub trimmed_step : get_or s e 0 ≡ q → trimmed q (take (suc e) s) ≡ trimmed q (take e s)
-  trimmed_step p = rw (take-suc s e 0 h, p) (trimmed_mark q (take e s))
-
-  pub trimmed_stop : (get_or s e 0 ≡ q → ⊥) → trimmed q (take (suc e) s) ≡ suc e
-  trimmed_stop n =
-      rw (take-suc s e 0 h) (trimmed_other q (get_or s e 0) (take e s) n ∙ ap suc (length-take-le e s (omega arith)))
 
 pub trimmed_le : (q : ℕ) (s : List ℕ) → trimmed q s ≤ length s
 unfolding trimmed

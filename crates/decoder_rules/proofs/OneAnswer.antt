@@ -25,3 +25,6 @@ drop_piece κs a x y s t p q = p ∙ sym q
 
 pub bad_drop : OneAnswer promised.making.bad_drop.Reads.Learnt
 bad_drop κs a x y s t p q = p ∙ sym q
+
+pub try_from : OneAnswer promised.EditionTryFromUsize.try_from.Reads.Learnt
+try_from κs a x y s t p q = p ∙ sym q

@@ -13,7 +13,7 @@ use Rattle.text_classes.specs.Classes.{literal_char, basic_unescaped}
 use Rattle.text_classes.proofs.Conds.{not_both}
 use Rattle.text_refusals.specs.Refusals.{limit}
 use Rattle.text_scalars.specs.Utf8Read.{Along}
-use Rattle.text_characters.specs.Lead.{CharacterAt, WideAt}
+use Rattle.text_characters.specs.Lead.{CharacterAt}
 use Rattle.text_scalars.proofs.ReadLaws.{valid_end}
 use Rattle.text_characters.proofs.CharLaws.{along_ascii, along_whole, wide_high}
 use Rattle.text.proofs.AnswerLaws.{answer_valid}
@@ -59,8 +59,8 @@ module _ (p : ℕ → Bool) (s : List ℕ) (closed : Closed p s) where
       each k l h (yes e) = rw e passes
       each k l h (no d) = to.own k l (omega arith)
 
-  pub own_wide : {i n : ℕ} → OwnTo p s i → 0 < n → WideAt s i n → OwnTo p s (i + n)
-  own_wide {i} {n} to some wide =
+  pub own_wide : {i n : ℕ} → OwnTo p s i → (i + n ≤ length s) × CharacterAt s i n → OwnTo p s (i + n)
+  own_wide {i} {n} to wide =
       record {
         along = along_whole s 1 i n fits char to.along;
         within = omega (arith, not_last (i + (n - 1)) (omega (arith, fits)) (λ e. omega (arith, high (n - 1) (omega arith), closed.low)));
@@ -68,10 +68,13 @@ module _ (p : ℕ → Bool) (s : List ℕ) (closed : Closed p s) where
       }
     where
       fits : i + n ≤ length s
-      fits = (wide some).0
+      fits = wide.0
 
       char : CharacterAt s i n
-      char = (wide some).1
+      char = wide.1
+
+      some : 0 < n
+      some = omega (arith, char.some)
 
       high : (k : ℕ) → k < n → 0x80 ≤ get_or s (i + k) 0
       high k h = wide_high s i n k char h

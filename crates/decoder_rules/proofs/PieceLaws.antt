@@ -1,5 +1,6 @@
 -- What a piece gives and notes, case by case, and how a body's pieces follow one another.
 -- Assumes nothing.
+use Rattle.std.specs.Prelude.{Option, Some, None}
 use Prim.Native.Nat.{ℕ, zero, suc, pred, ◌+◌, ◌≤◌, ◌<◌}
 use mathlib.Core.Path.{◌≡◌, refl, ap}
 use mathlib.Core.Bool.{Bool}
@@ -11,18 +12,17 @@ use Rattle.text_scalars.specs.Utf8.{encode_scalar}
 use Rattle.decoder_rules.specs.declared.Piece.{Piece}
 use Rattle.decoder_rules.specs.declared.Given.TheVariants.{Copy, Char, Nothing}
 use Rattle.decoder_rules.specs.declared.DecodeError.{DecodeError}
-use Rattle.decoder_rules.specs.declared.Verdict.{Verdict}
-use Rattle.decoder_rules.specs.declared.Verdict.TheVariants.{Clean, Wrong}
-use Rattle.decoder_rules.specs.Pieces.{gives, error_at, notes_of, notes, Pieces, collect}
+use Rattle.decoder_rules.specs.declared.Wrong.{Wrong}
+use Rattle.decoder_rules.specs.Pieces.{gives, error_at, wrong, notes_of, notes, Pieces, collect}
 
 -- an error is not nothing
-pub wrong≢clean : {e : DecodeError} {a z : ℕ} → Wrong e a z ≡ Clean → ⊥
-wrong≢clean h = cons≢nil (ap notes_of h)
+pub wrong≢none : {e : DecodeError} {a z : ℕ} → wrong e a z ≡ None → ⊥
+wrong≢none h = cons≢nil (ap notes_of h)
 
 -- a verdict has one error at most
-pub verdict_few : (w : Verdict) → length (notes_of w) ≤ 1
-verdict_few Clean = omega arith
-verdict_few (Wrong e a z) = omega arith
+pub verdict_few : (w : Option Wrong) → length (notes_of w) ≤ 1
+verdict_few None = omega arith
+verdict_few (Some w) = omega arith
 
 module _ (p : Piece) where
   pub gives_copy : (s : List ℕ) → p.given ≡ Copy → gives p s ≡ take p.take s
@@ -37,26 +37,22 @@ module _ (p : Piece) where
   unfolding gives
   gives_nothing s e = rw e
 
-  pub notes_none : p.verdict ≡ Clean → notes p ≡ []
+  pub notes_none : p.verdict ≡ None → notes p ≡ []
   unfolding notes
   notes_none h = rw h
-
-  pub notes_one : (e : DecodeError) (a z : ℕ) → p.verdict ≡ Wrong e a z → notes p ≡ error_at e a z
-  unfolding notes
-  notes_one e a z h = rw h
 
   pub notes_few : length (notes p) ≤ 1
   unfolding notes
   notes_few = verdict_few p.verdict
 
   -- a piece that notes nothing has no error
-  pub notes_clean : length (notes p) ≡ 0 → p.verdict ≡ Clean
+  pub notes_clean : length (notes p) ≡ 0 → p.verdict ≡ None
   unfolding notes
   notes_clean = go p.verdict
     where
-      go : (w : Verdict) → length (notes_of w) ≡ 0 → w ≡ Clean
-      go Clean h = refl
-      go (Wrong e a z) h = absurd (omega arith)
+      go : (w : Option Wrong) → length (notes_of w) ≡ 0 → w ≡ None
+      go None h = refl
+      go (Some w) h = absurd (omega arith)
 
 module _ {A : Type 0} (P : Pieces) (g : Piece → List ℕ → List A) where
   -- to skip k bytes is to drop them

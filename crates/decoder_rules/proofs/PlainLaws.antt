@@ -6,6 +6,7 @@ use mathlib.Core.Path.{◌≡◌, refl, sym, ap, ◌∙◌, subst}
 use mathlib.Core.Logic.{◌⊎◌, inl, inr, ⊎_elim}
 use mathlib.Core.Bool.{Bool, true, false, cond}
 use mathlib.Core.List.{List, [], ◌∷◌, ◌++◌, append-nil}
+use Rattle.std.specs.Prelude.{min, Option, Some, None, MatchOption, Ok}
 use native.Mathlib.Decide.{ℕ_discrete, dec_lt}
 use native.Mathlib.Omega.{arith}
 use lib.Dec.{eqb}
@@ -20,21 +21,18 @@ use Rattle.text_classes.proofs.RunLaws.{run_first}
 use Rattle.text_refusals.specs.Refusals.{limit}
 use Rattle.text_scalars.specs.Utf8Read.{ascii}
 use Rattle.text.specs.CheckMeans.{check_of}
-use Rattle.text.specs.declared.utf8.Utf8Check.TheVariants.{Valid}
 use Rattle.text_scalars.proofs.FieldLaws.{bits_left, bits_right}
 use Rattle.text.proofs.AnswerLaws.{answer_ascii}
 use Rattle.decoder_rules.specs.declared.Edition.{Edition}
 use Rattle.decoder_rules.specs.declared.Edition.TheVariants.{Toml10, Toml11}
 use Rattle.decoder_rules.specs.declared.Encoding.{Encoding}
 use Rattle.decoder_rules.specs.declared.Encoding.TheVariants.{LiteralString, BasicString, MlLiteralString, MlBasicString, UnquotedKey}
-use Rattle.decoder_rules.specs.declared.Choice.TheVariants.{Known}
 use Rattle.decoder_rules.specs.declared.Ends.{Ends}
-use Rattle.decoder_rules.specs.declared.Decoded.TheVariants.{Written}
 use Rattle.decoder_rules.specs.Encodings.{plain, choice_in, choice_by}
 use Rattle.decoder_rules.specs.Pieces.{gives, notes, notes_at, collect, copy_piece}
 use Rattle.decoder_rules.specs.Bodies.{piece_of}
 use Rattle.decoder_rules.specs.Marks.{line_ends, ends_of, body_of}
-use Rattle.decoder_rules.specs.Decoding.{bytes_of, errors_of, bytes_by, errors_by, decode_in, after}
+use Rattle.decoder_rules.specs.Decoding.{bytes_of, errors_of, bytes_by, errors_by, written, decode_in, after}
 use Rattle.decoder_rules.proofs.PlaceForms.{literal_piece_is, ml_literal_piece_is, basic_piece_is, content_is, ml_basic_piece_is, key_piece_is}
 use Rattle.decoder_rules.proofs.PieceLaws.{collect_step, notes_none}
 use Rattle.decoder_rules.proofs.MarkLaws.{line_both}
@@ -104,7 +102,7 @@ pub record OwnLine (q : ℕ) (p : ℕ → Bool) (t : List ℕ) : Type 0 where
   pub two : 2 ≤ length t
   pub opens : get_or t 0 0 ≡ q
   pub closes : get_or t (length t - 1) 0 ≡ q
-  pub valid : Valid ≡ check_of t
+  pub valid : Ok tt ≡ check_of t
   pub own : (k : ℕ) → 1 ≤ k → k < length t - 1 → p (get_or t k 0) ≡ true
 
 -- the n bytes after the first
@@ -187,12 +185,8 @@ module _ {q z : ℕ} (marks : LineMarks q z) (t : List ℕ) (few : length t ≤ 
 
 -- ---- the lesser of two places
 
-abbrev pub Least : ℕ → ℕ → ℕ → Type 0
-Least a b r = ((r ≡ a) × (a ≤ b)) ⊎ ((r ≡ b) × (b ≤ a))
-
-pub least_le : {a b r : ℕ} → Least a b r → r ≤ b
-least_le (inl (e, h)) = omega arith
-least_le (inr (e, h)) = omega arith
+least : (a b r : ℕ) → r ≡ min a b → ((r ≡ a) × (a ≤ b)) ⊎ ((r ≡ b) × (b ≤ a))
+least a b r e = elim (dec_lt b a) [ yes l ↦ inr (omega arith, omega arith) | no l ↦ inl (omega arith, omega arith) ]
 
 -- ---- how a run of bytes is found clear
 
@@ -236,12 +230,13 @@ module _ (q z : ℕ) (s : List ℕ) where
       go (no x) (no y) = let e : k ≡ 1 + n / 2 = omega arith in subst (λ (w : ℕ). Clear q z (get_or s w 0)) (sym e) b
 
 -- two parts of eight, from i and from i + 8 on, or as far back as the end asks: all that lies before i + 16
-module _ (q z : ℕ) (s : List ℕ) (end last i a b : ℕ) (is : last + 8 ≡ end) (la : Least i last a) (lb : Least (i + 8) last b) where
+module _ (q z : ℕ) (s : List ℕ) (end last i a b : ℕ) (is : last + 8 ≡ end) (la : a ≡ min i last) (lb : b ≡ min (i + 8) last) where
   pub clear_pair : ClearIn q z s a (a + 8) → ClearIn q z s b (b + 8) → ((k : ℕ) → 1 ≤ k → k < i → k < end → Clear q z (get_or s k 0))
       → (k : ℕ) → 1 ≤ k → k < i + 16 → k < end → Clear q z (get_or s k 0)
-  clear_pair first second passed k l h e = go (dec_lt k i) (dec_lt k (a + 8)) la lb
+  clear_pair first second passed k l h e = go (dec_lt k i) (dec_lt k (a + 8)) (least i last a la) (least (i + 8) last b lb)
     where
-      go : Dec (k < i) → Dec (k < a + 8) → Least i last a → Least (i + 8) last b → Clear q z (get_or s k 0)
+      go : Dec (k < i) → Dec (k < a + 8) → ((a ≡ i) × (i ≤ last)) ⊎ ((a ≡ last) × (last ≤ i))
+          → ((b ≡ i + 8) × (i + 8 ≤ last)) ⊎ ((b ≡ last) × (last ≤ i + 8)) → Clear q z (get_or s k 0)
       go (yes x) d la lb = passed k l x e
       go (no x) (yes y) (inl f) lb = first k (omega arith) y
       go (no x) (yes y) (inr f) lb = first k (omega arith) y
@@ -261,18 +256,18 @@ Named edition = (edition ≡ 10) ⊎ (edition ≡ 11)
 
 -- what a plain text of the kind decodes to: its body
 pub record Decodes (t : List ℕ) (edition kind : ℕ) (body : List ℕ) : Type 0 where
-  pub valid : Valid ≡ check_of t
+  pub valid : Ok tt ≡ check_of t
   pub encoding : Encoding
-  pub chosen : choice_by edition kind ≡ Known encoding
+  pub chosen : choice_by edition kind ≡ Ok encoding
   pub bytes : bytes_of encoding t ≡ body
   pub errors : errors_of encoding t ≡ []
 
-chosen_literal : (edition kind : ℕ) → Named edition → kind ≡ 39 → choice_by edition kind ≡ Known LiteralString
+chosen_literal : (edition kind : ℕ) → Named edition → kind ≡ 39 → choice_by edition kind ≡ Ok LiteralString
 unfolding choice_by choice_in
 chosen_literal edition kind (inl e) k = simp (e, k)
 chosen_literal edition kind (inr e) k = simp (e, k)
 
-chosen_basic : (edition kind : ℕ) → Named edition → kind ≡ 34 → (v : Edition) × (choice_by edition kind ≡ Known (BasicString v))
+chosen_basic : (edition kind : ℕ) → Named edition → kind ≡ 34 → (v : Edition) × (choice_by edition kind ≡ Ok (BasicString v))
 unfolding choice_by choice_in
 chosen_basic edition kind (inl e) k = (Toml10, simp (e, k))
 chosen_basic edition kind (inr e) k = (Toml11, simp (e, k))
@@ -289,7 +284,7 @@ module _ (t : List ℕ) (edition kind n : ℕ) (named : Named edition) (size : n
 
 -- so the call answers, whatever the error records, where the output has room
 module _ {t : List ℕ} {edition kind n : ℕ} {body : List ℕ} (size : length body ≡ n) (d : Decodes t edition kind body) where
-  pub plain_answer : (o e : ℕ) → n ≤ o → Written n 0 ≡ decode_in t edition kind o e
+  pub plain_answer : (o e : ℕ) → n ≤ o → written n 0 ≡ decode_in t edition kind o e
   plain_answer o e room =
       let k = d.encoding in
       let n-is : n ≡ length (bytes_of k t) = sym (ap length d.bytes ∙ size) in
@@ -297,10 +292,10 @@ module _ {t : List ℕ} {edition kind n : ℕ} {body : List ℕ} (size : length 
       fitted_written (bytes_of k t) (errors_of k t) o e n 0 n-is m-is room (omega arith)
       ∙ rw d.chosen at (decode_valid t edition kind o e d.valid)
 
-  pub plain_output : (out old : List ℕ) → out ≡ body ++ drop n old → out ≡ after (Written n 0) (bytes_by (choice_by edition kind) t) old
+  pub plain_output : (out old : List ℕ) → out ≡ body ++ drop n old → out ≡ after (written n 0) (bytes_by (choice_by edition kind) t) old
   plain_output out old h = rw (d.chosen, d.bytes, size) h
 
-  pub plain_records : (old : List (List ℕ)) → old ≡ after (Written n 0) (errors_by (choice_by edition kind) t) old
+  pub plain_records : (old : List (List ℕ)) → old ≡ after (written n 0) (errors_by (choice_by edition kind) t) old
   plain_records old = rw (d.chosen, d.errors)
 
 pub middle_long : (n : ℕ) (t : List ℕ) → n + 2 ≡ length t → length (middle n t) ≡ n
@@ -308,24 +303,20 @@ middle_long n t size = length-take-le n (drop 1 t) (omega (arith, length-drop 1 
 
 -- ---- what is copied of it
 
--- the body of t, where t is P and the memory that held `old` has room for it: n bytes; else nothing, and n is all of t
-pub data Copied (P : Type 0) (t old : List ℕ) (n : ℕ) (out : List ℕ) : Type 0 where
-  copied : P → n + 2 ≡ length t → n ≤ length old → out ≡ middle n t ++ drop n old → Copied P t old n out
-  untouched : n ≡ length t → out ≡ old → Copied P t old n out
+-- t is P, and its body, n bytes, is copied to the front of memory that held `old`, which has room
+pub record BodyCopied (P : Type 0) (t old out : List ℕ) (n : ℕ) : Type 0 where
+  pub is : P
+  pub size : n + 2 ≡ length t
+  pub room : n ≤ length old
+  pub holds : out ≡ middle n t ++ drop n old
 
-module _ {P : Type 0} {t old : List ℕ} {n : ℕ} {out : List ℕ} where
-  -- n tells which
-  pub copied_some : Copied P t old n out → n < length t → P × (n + 2 ≡ length t) × (n ≤ length old) × (out ≡ middle n t ++ drop n old)
-  copied_some (copied p s r o) h = (p, s, r, o)
-  copied_some (untouched e o) h = absurd (omega arith)
+-- so many bytes; or none, and nothing is copied
+abbrev pub Copied : Type 0 → List ℕ → List ℕ → Option ℕ → List ℕ → Type 0
+Copied P t old r out = MatchOption r (out ≡ old) (BodyCopied P t old out)
 
-  pub copied_none : Copied P t old n out → length t ≤ n → out ≡ old
-  copied_none (copied p s r o) h = absurd (omega arith)
-  copied_none (untouched e o) h = o
-
-  pub copied_as : {Q : Type 0} → Copied P t old n out → (P → Q) → Copied Q t old n out
-  copied_as (copied p s r o) f = copied (f p) s r o
-  copied_as (untouched e o) f = untouched e o
+pub copied_as : {P Q : Type 0} (t old out : List ℕ) (r : Option ℕ) → (P → Q) → Copied P t old r out → Copied Q t old r out
+copied_as t old out None f h = h
+copied_as t old out (Some n) f h = record { is = f h.is; size = h.size; room = h.room; holds = h.holds }
 
 -- the m bytes from i on are those of t after its mark, and the others are as they were
 pub record Part (t old : List ℕ) (i m : ℕ) (out : List ℕ) : Type 0 where
@@ -333,39 +324,6 @@ pub record Part (t old : List ℕ) (i m : ℕ) (out : List ℕ) : Type 0 where
   pub before : (k : ℕ) → k < i → get_or out k 0 ≡ get_or old k 0
   pub within : (k : ℕ) → i ≤ k → k < i + m → get_or out k 0 ≡ get_or t (k + 1) 0
   pub behind : (k : ℕ) → i + m ≤ k → get_or out k 0 ≡ get_or old k 0
-
-module _ (t old : List ℕ) (i : ℕ) where
-  pub part_none : Part t old i 0 old
-  part_none =
-      record {
-        long = refl;
-        before = λ k h. refl;
-        within = λ k h l. absurd (omega arith);
-        behind = λ k h. refl;
-      }
-
-  -- and one more, whose byte of t is at place p
-  pub part_more : (m j p : ℕ) (out : List ℕ) → j ≡ i + m → p ≡ j + 1 → j < length old → Part t old i m out
-      → Part t old i (m + 1) (set out j (get_or t p 0))
-  part_more m j p out e f h part =
-      let b = get_or t p 0 in
-      record {
-        long = length-set out j b ∙ part.long;
-        before = λ k l. get_or-set_other out j k b 0 (λ x. omega arith) ∙ part.before k l;
-        within = λ k l u. inside k l u (ℕ_discrete k j);
-        behind = λ k l. get_or-set_other out j k b 0 (λ x. omega arith) ∙ part.behind k (omega arith);
-      }
-    where
-      inside : (k : ℕ) → i ≤ k → k < i + (m + 1) → Dec (k ≡ j) → get_or (set out j (get_or t p 0)) k 0 ≡ get_or t (k + 1) 0
-      inside k l u (yes x) =
-          let same : p ≡ k + 1 = omega arith in
-          ap (λ (w : ℕ). get_or (set out j (get_or t p 0)) w 0) x ∙ get_or-set_same out j (get_or t p 0) 0 (omega (arith, part.long))
-          ∙ ap (λ (w : ℕ). get_or t w 0) same
-      inside k l u (no x) = get_or-set_other out j k (get_or t p 0) 0 x ∙ part.within k l (omega arith)
-
--- one byte alone
-pub part_one : (t old : List ℕ) (j p : ℕ) → p ≡ j + 1 → j < length old → Part t old j 1 (set old j (get_or t p 0))
-part_one t old j p f h = part_more t old j 0 j p old (omega arith) f h (part_none t old j)
 
 -- of the n bytes that are to be copied those before i are, and after the n nothing has changed
 pub record Held (t old : List ℕ) (n i : ℕ) (out : List ℕ) : Type 0 where
@@ -396,16 +354,16 @@ module _ (t old : List ℕ) (n : ℕ) where
       got k y x (no b) = p.within k (omega arith) x
 
   -- two parts of eight, from i and from i + 8 on, or as far back as the end asks
-  pub held_pair : (i last a b : ℕ) (out mid next : List ℕ) → last + 8 ≡ n → Least i last a → Least (i + 8) last b
+  pub held_pair : (i last a b : ℕ) (out mid next : List ℕ) → last + 8 ≡ n → a ≡ min i last → b ≡ min (i + 8) last
       → Held t old n i out → Part t out a 8 mid → Part t mid b 8 next → Held t old n (i + 16) next
   held_pair i last a b out mid next e la lb h p q =
-      second lb (first la)
+      second (least (i + 8) last b lb) (first (least i last a la))
     where
-      first : Least i last a → Held t old n (i + 8) mid
+      first : ((a ≡ i) × (i ≤ last)) ⊎ ((a ≡ last) × (last ≤ i)) → Held t old n (i + 8) mid
       first (inl f) = held_part i (i + 8) a 8 out mid (omega arith) (omega arith) (inl (omega arith)) h p
       first (inr f) = held_part i (i + 8) a 8 out mid (omega arith) (omega arith) (inr (omega arith)) h p
 
-      second : Least (i + 8) last b → Held t old n (i + 8) mid → Held t old n (i + 16) next
+      second : ((b ≡ i + 8) × (i + 8 ≤ last)) ⊎ ((b ≡ last) × (last ≤ i + 8)) → Held t old n (i + 8) mid → Held t old n (i + 16) next
       second (inl f) g = held_part (i + 8) (i + 16) b 8 mid next (omega arith) (omega arith) (inl (omega arith)) g q
       second (inr f) g = held_part (i + 8) (i + 16) b 8 mid next (omega arith) (omega arith) (inr (omega arith)) g q
 

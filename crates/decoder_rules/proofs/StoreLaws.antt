@@ -8,6 +8,8 @@ use native.Mathlib.Numerals.{add-one}
 use native.Mathlib.Omega.{arith}
 use lib.ListN.{length, take, drop, get_or, set, length-append, length-set}
 use lib.Seq.{sets, sets-eq, drop-cons, length-take-le}
+use borrow.Rule.Slice.PartMut.{put_mid}
+use Rattle.std.proofs.Common.{append_assoc, drop-drop}
 
 -- `new` is stored in memory that held `old`, from place `at` on: the place after it, and what the memory then holds
 pub record Stored {A : Type 0} (old : List A) (at : ℕ) (new : List A) (behind : ℕ) (held : List A) : Type 0 where
@@ -38,6 +40,16 @@ front_long s = s.place ∙ zero-add _
 pub overwritten : {A : Type 0} {old new held : List A} {n : ℕ} → Stored old 0 new n held → length new ≤ length old
     → held ≡ new ++ drop (length new) old
 overwritten {old = old} {new = new} s h = s.holds ∙ rw zero-add at (sets-eq new old 0 (rw zero-add h))
+
+-- the part of memory from `at` to `end` that is overwritten, as `copy_from_slice` leaves it
+pub store_part : {A : Type 0} (old new part : List A) (at end : ℕ) → part ≡ new → end ≡ at + length new → end ≤ length old
+    → Stored old at new end (put_mid at (end - at) old part)
+store_part old new part at end is long room =
+    let size : end - at ≡ length new = omega arith in
+    let behind = drop-drop (length new) at old in
+    let held : put_mid at (end - at) old part ≡ sets old at new =
+    rw (is, sets-eq new old at (omega arith), size, behind) (sym (append_assoc (take at old) new (drop (at + length new) old))) in
+    record { place = long; holds = held }
 
 -- ---- the front of s, copied to place o: what is still to be copied after j bytes
 

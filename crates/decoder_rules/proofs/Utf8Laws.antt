@@ -1,6 +1,7 @@
 -- Decoding UTF-8 gives UTF-8. The literal kinds and a key give their body as it stands; of the basic kinds, each piece
 -- takes whole characters and gives whole characters.
 -- Assumes nothing.
+use Rattle.std.specs.Prelude.{Option}
 use Prim.Native.Nat.{ℕ, zero, suc, pred, ◌+◌, ◌-◌, ◌≤◌, ◌<◌}
 use mathlib.Core.Path.{◌≡◌, refl, sym, ap, ◌∙◌, subst}
 use mathlib.Core.Logic.{◌⊎◌, inl, inr, ⊎_elim}
@@ -24,7 +25,7 @@ use Rattle.decoder_rules.specs.declared.Letter.TheVariants.{Stands, Asks, Neithe
 use Rattle.decoder_rules.specs.declared.Piece.{Piece}
 use Rattle.decoder_rules.specs.declared.Ends.{Ends}
 use Rattle.decoder_rules.specs.declared.Given.TheVariants.{Copy, Char, Nothing}
-use Rattle.decoder_rules.specs.declared.Verdict.{Verdict}
+use Rattle.decoder_rules.specs.declared.Wrong.{Wrong}
 use Rattle.decoder_rules.specs.declared.Edition.{Edition}
 use Rattle.decoder_rules.specs.declared.Encoding.{Encoding}
 use Rattle.decoder_rules.specs.declared.Encoding.TheVariants.{LiteralString, BasicString, MlLiteralString, MlBasicString, UnquotedKey}
@@ -84,16 +85,16 @@ abbrev pub Whole : List ℕ → Piece → Type 0
 Whole s p = Utf8 (take p.take s) × Utf8 (gives p s)
 
 module _ (s : List ℕ) where
-  whole_copy : (n : ℕ) (w : Verdict) → Utf8 (take n s) → Whole s (record { take = n; given = Copy; verdict = w; dropping = false })
+  whole_copy : (n : ℕ) (w : Option Wrong) → Utf8 (take n s) → Whole s (record { take = n; given = Copy; verdict = w; dropping = false })
   unfolding gives
   whole_copy n w u = (u, u)
 
-  whole_char : (n c : ℕ) (w : Verdict) → Scalar c → Utf8 (take n s)
+  whole_char : (n c : ℕ) (w : Option Wrong) → Scalar c → Utf8 (take n s)
       → Whole s (record { take = n; given = Char c; verdict = w; dropping = false })
   unfolding gives
   whole_char n c w h u = (u, scalar_utf8 c h)
 
-  whole_drop : (n : ℕ) (w : Verdict) → Utf8 (take n s) → Whole s (record { take = n; given = Nothing; verdict = w; dropping = true })
+  whole_drop : (n : ℕ) (w : Option Wrong) → Utf8 (take n s) → Whole s (record { take = n; given = Nothing; verdict = w; dropping = true })
   unfolding gives
   whole_drop n w u = (u, nil_utf8)
 

@@ -1,10 +1,10 @@
 -- RULE. A body is read in pieces, from left to right. A piece takes a byte or more; it gives those bytes, or a character,
 -- or nothing; and it has at most one error, of the fifteen that there are.
-use Rattle.std.specs.Prelude.{ℕ, zero, suc, pred}
+use Rattle.std.specs.Prelude.{ℕ, zero, suc, pred, Option, Some, None}
 use mathlib.Core.{Bool.Bool, Bool.true, Bool.false, List.List, List.[], List.◌∷◌, List.◌++◌}
 use lib.{ListN.take}
 use Rattle.text_scalars.specs.{Utf8.encode_scalar}
-use Rattle.decoder_rules.specs.declared.{Piece.Piece, Given.Given, Given.TheVariants.Copy, Given.TheVariants.Char, Given.TheVariants.Nothing, DecodeError.DecodeError, Verdict.Verdict, Verdict.TheVariants.Clean, Verdict.TheVariants.Wrong}
+use Rattle.decoder_rules.specs.declared.{Piece.Piece, Given.Given, Given.TheVariants.Copy, Given.TheVariants.Char, Given.TheVariants.Nothing, DecodeError.DecodeError, Wrong.Wrong}
 use Rattle.decoder_rules.specs.declared.DecodeError.TheVariants.{LiteralMissingQuote, LiteralInvalid, MlLiteralMissingQuote, LoneCr, MlLiteralInvalid, BasicMissingQuote, BasicInvalid, MissingEscape, FewDigits, NotScalar, MlBasicMissingQuote, MlBasicInvalid, MissingNewline, EmptyKey, KeyInvalid}
 
 -- the number of an error
@@ -38,10 +38,14 @@ gives p s = given_of p.given p.take s
 abbrev pub error_at : DecodeError → ℕ → ℕ → List (List ℕ)
 error_at error start end = (error_number error ∷ start ∷ end ∷ []) ∷ []
 
+-- an error that goes from start to end
+abbrev pub wrong : DecodeError → ℕ → ℕ → Option Wrong
+wrong error start end = Some (record { error = error; start = start; end = end })
+
 -- the error that a piece has, if any
-abbrev pub notes_of : Verdict → List (List ℕ)
-notes_of Clean = []
-notes_of (Wrong error start end) = error_at error start end
+abbrev pub notes_of : Option Wrong → List (List ℕ)
+notes_of None = []
+notes_of (Some w) = error_at w.error w.start w.end
 
 unfoldable pub notes : Piece → List (List ℕ)
 notes p = notes_of p.verdict
@@ -66,21 +70,21 @@ collect P g (suc k) d at (b ∷ r) = collect P g k d (suc at) r
 -- ---- the three ways to make a piece, each without an error and with one
 -- n bytes as they are
 abbrev pub copy_piece : ℕ → Piece
-copy_piece n = record { take = n; given = Copy; verdict = Clean; dropping = false }
+copy_piece n = record { take = n; given = Copy; verdict = None; dropping = false }
 
 abbrev pub bad_copy : ℕ → DecodeError → ℕ → ℕ → Piece
-bad_copy n error start end = record { take = n; given = Copy; verdict = Wrong error start end; dropping = false }
+bad_copy n error start end = record { take = n; given = Copy; verdict = wrong error start end; dropping = false }
 
 -- a character for n bytes; its error, if any, has an empty span
 abbrev pub char_piece : ℕ → ℕ → Piece
-char_piece n c = record { take = n; given = Char c; verdict = Clean; dropping = false }
+char_piece n c = record { take = n; given = Char c; verdict = None; dropping = false }
 
 abbrev pub bad_char : ℕ → ℕ → DecodeError → ℕ → Piece
-bad_char n c error place = record { take = n; given = Char c; verdict = Wrong error place place; dropping = false }
+bad_char n c error place = record { take = n; given = Char c; verdict = wrong error place place; dropping = false }
 
 -- nothing for n bytes of a line-ending escape, which goes on after them
 abbrev pub drop_piece : ℕ → Piece
-drop_piece n = record { take = n; given = Nothing; verdict = Clean; dropping = true }
+drop_piece n = record { take = n; given = Nothing; verdict = None; dropping = true }
 
 abbrev pub bad_drop : ℕ → DecodeError → ℕ → Piece
-bad_drop n error place = record { take = n; given = Nothing; verdict = Wrong error place place; dropping = true }
+bad_drop n error place = record { take = n; given = Nothing; verdict = wrong error place place; dropping = true }

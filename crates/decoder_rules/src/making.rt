@@ -2,7 +2,7 @@
 ghost use Rattle.std.specs.Prelude.{◌≡◌};
 ghost use Rattle.decoder_rules.specs.Pieces.{copy_piece, bad_copy, char_piece, bad_char, drop_piece, bad_drop};
 
-use crate::{DecodeError, Given, Piece, Verdict};
+use crate::{DecodeError, Given, Piece, Wrong};
 
 // n bytes as they are.
 pub fn copy_piece(n: usize) -> Piece
@@ -11,7 +11,7 @@ pub fn copy_piece(n: usize) -> Piece
     Piece {
         take: n,
         given: Given::Copy,
-        verdict: Verdict::Clean,
+        verdict: None,
         dropping: false,
     }
 }
@@ -22,7 +22,7 @@ pub fn bad_copy(n: usize, error: DecodeError, start: usize, end: usize) -> Piece
     Piece {
         take: n,
         given: Given::Copy,
-        verdict: Verdict::Wrong { error, start, end },
+        verdict: Some(Wrong { error, start, end }),
         dropping: false,
     }
 }
@@ -34,7 +34,7 @@ pub fn char_piece(n: usize, c: u32) -> Piece
     Piece {
         take: n,
         given: Given::Char(c),
-        verdict: Verdict::Clean,
+        verdict: None,
         dropping: false,
     }
 }
@@ -45,11 +45,11 @@ pub fn bad_char(n: usize, c: u32, error: DecodeError, place: usize) -> Piece
     Piece {
         take: n,
         given: Given::Char(c),
-        verdict: Verdict::Wrong {
+        verdict: Some(Wrong {
             error,
             start: place,
             end: place,
-        },
+        }),
         dropping: false,
     }
 }
@@ -61,7 +61,7 @@ pub fn drop_piece(n: usize) -> Piece
     Piece {
         take: n,
         given: Given::Nothing,
-        verdict: Verdict::Clean,
+        verdict: None,
         dropping: true,
     }
 }
@@ -72,11 +72,11 @@ pub fn bad_drop(n: usize, error: DecodeError, place: usize) -> Piece
     Piece {
         take: n,
         given: Given::Nothing,
-        verdict: Verdict::Wrong {
+        verdict: Some(Wrong {
             error,
             start: place,
             end: place,
-        },
+        }),
         dropping: true,
     }
 }

@@ -1,49 +1,24 @@
 -- The byte sets as the code tests them, and the bytes that a block may hold.
 -- Assumes nothing.
-use Rattle.std.proofs.Common.{◌≡◌, ℕ, zero, suc, ◌+◌, ◌%◌, ◌<◌, ◌≤◌, Bool, true, false, cond, not, ◌||◌, eqb, ltb, leb, ◌⊎◌, List, [], ◌∷◌, take, sym, refl, ap, ◌∙◌, inl, inr, ⊎_elim, arith, le-ltb, ne_eqb, eqb-true, leb-true}
+use Rattle.std.proofs.Common.{◌≡◌, ℕ, zero, suc, ◌+◌, ◌%◌, ◌<◌, ◌≤◌, Bool, true, false, cond, ◌||◌, eqb, ltb, leb, ◌⊎◌, List, [], ◌∷◌, take, sym, refl, ◌∙◌, inl, inr, ⊎_elim, arith, le-ltb, eqb-true, leb-true}
 use mathlib.Core.Bool.{false≢true}
 use native.Mathlib.Decide.{dec_lt}
 use lib.Bits.{bit_xor, xor_zero_r}
-use Rattle.text_classes.specs.Classes.{wschar, literal_char, mll_char, basic_unescaped, mlb_unescaped, unquoted_char, hexdig}
+use Rattle.text_classes.specs.Classes.{literal_char, mll_char, basic_unescaped, mlb_unescaped, unquoted_char}
 use Rattle.text_classes.specs.Runs.{run}
 use Rattle.text_classes.proofs.ByteTable.{classes_agree, class_is, keys_are, rest_is}
 use Rattle.text_classes.proofs.Conds.{not_both, or_inv}
 use Rattle.decoder_rules.specs.declared.Edition.{Edition}
 use Rattle.decoder_rules.specs.declared.Encoding.{Encoding}
 use Rattle.decoder_rules.specs.declared.Encoding.TheVariants.{LiteralString, BasicString, MlLiteralString, MlBasicString, UnquotedKey}
-use Rattle.decoder_rules.specs.Encodings.{mll_plain, mlb_plain, basic_invalid, mlb_invalid, plain}
-use Rattle.decoder_rules.specs.Bodies.{skips}
-use Rattle.decoder_scans.specs.declared.Mask.{Mask}
+use Rattle.decoder_rules.specs.Encodings.{mll_plain, mlb_plain, plain}
 use Rattle.decoder_scans.specs.Scan.{mask_of, is_marked, Wide, stops_of}
 
--- ---- a byte that is none of the single ones
-
-or_neither : (x : Bool) → (x || (false || false)) ≡ x
-or_neither true = refl
-or_neither false = refl
-
-or_not : (x : Bool) → (x || false) ≡ x
-or_not true = refl
-or_not false = refl
-
-module _ (b : ℕ) where
-  pub mlb_only : (b ≡ 0x22 → ⊥) → (b ≡ 0x0A → ⊥) → mlb_unescaped b ≡ mlb_plain b
-  unfolding mlb_plain
-  mlb_only q l = rw (ne_eqb b 0x22 q, ne_eqb b 0x0A l) (sym (or_neither (mlb_unescaped b)))
-
-  pub basic_not : (b ≡ 0x5C → ⊥) → not (basic_unescaped b) ≡ basic_invalid b
-  unfolding basic_invalid
-  basic_not e = rw (ne_eqb b 0x5C e) (ap not (sym (or_not (basic_unescaped b))))
-
-  pub mlb_not : (b ≡ 0x5C → ⊥) → (b ≡ 0x0D → ⊥) → not (mlb_plain b) ≡ mlb_invalid b
-  unfolding mlb_invalid
-  mlb_not e r = rw (ne_eqb b 0x5C e, ne_eqb b 0x0D r) (ap not (sym (or_neither (mlb_plain b))))
-
-  pub skips_only : (b ≡ 0x0A → ⊥) → (b ≡ 0x0D → ⊥) → wschar b ≡ skips b
-  unfolding skips
-  skips_only l r = rw (ne_eqb b 0x0A l, ne_eqb b 0x0D r) (sym (or_neither (wschar b)))
-
 -- ---- a byte that no test of a block finds is plain
+
+pub neither : (x y : Bool) → (x || y) ≡ false → (x ≡ false) × (y ≡ false)
+neither true y h = absurd (false≢true (sym h))
+neither false y h = (refl, h)
 
 module _ (b : ℕ) (byte : b < 256) (del : b ≡ 0x7F → ⊥) where
   -- the tab, or no control
@@ -118,16 +93,12 @@ marked_key : (b : ℕ) → b < 256 → is_marked (mask_of UnquotedKey) b ≡ unq
 unfolding unquoted_char
 marked_key b h = classes_agree (is_marked (mask_of UnquotedKey)) unquoted_char 0 256 tt b (omega arith) h
 
-marked_plain : (e : Encoding) (b : ℕ) → b < 256 → is_marked (mask_of e) b ≡ plain e b
+pub marked_plain : (e : Encoding) (b : ℕ) → b < 256 → is_marked (mask_of e) b ≡ plain e b
 marked_plain LiteralString = marked_literal
 marked_plain MlLiteralString = marked_mll
 marked_plain (BasicString v) = marked_basic v
 marked_plain (MlBasicString v) = marked_mlb v
 marked_plain UnquotedKey = marked_key
-
--- what is read off the mask of an encoding
-pub mask_tells : (e : Encoding) (m : Mask) (b : ℕ) (r : Bool) → b < 256 → m ≡ mask_of e → r ≡ is_marked m b → plain e b ≡ r
-mask_tells e m b r h f t = sym (marked_plain e b h) ∙ ap (λ (m : Mask). is_marked m b) (sym f) ∙ sym t
 
 -- ---- a run, of which n bytes count at most
 

@@ -1,20 +1,10 @@
 -- What the scans of this crate's code say. Not to be believed: no promise of a public function cites it.
 -- Assumes nothing.
-use Rattle.std.specs.Prelude.{◌≡◌, ℕ, ◌-◌, ◌/◌, ◌^◌, Bool, true, false, cond, ◌==◌, bit_and, nat_lt}
-use Rattle.text_classes.specs.Classes.{wschar}
+use Rattle.std.specs.Prelude.{ℕ, ◌-◌, ◌/◌, ◌^◌, Bool, true, false, cond, ◌==◌, bit_and, nat_lt}
 use Rattle.decoder_rules.specs.declared.Encoding.{Encoding}
 use Rattle.decoder_rules.specs.declared.Encoding.TheVariants.{LiteralString, BasicString, MlLiteralString, MlBasicString, UnquotedKey}
-use Rattle.decoder_rules.specs.Encodings.{basic_invalid, mlb_invalid}
 use Rattle.decoder_scans.specs.declared.Mask.{Mask}
-use Rattle.decoder_scans.specs.declared.Set.{Set}
-use Rattle.decoder_scans.specs.declared.Set.TheVariants.{BasicInvalid, MlbInvalid, Blank}
 use Rattle.decoder_scans.specs.declared.Stops.{Stops}
-
--- the sets by name
-abbrev pub set_of : Set → ℕ → Bool
-set_of BasicInvalid = basic_invalid
-set_of MlbInvalid = mlb_invalid
-set_of Blank = wschar
 
 -- the bytes that stand for themselves, as bits: those below 40, those from 40 to 7F, and all from 80 on
 abbrev mask : ℕ → ℕ → Bool → Mask
@@ -52,11 +42,3 @@ stops_of (BasicString v) = stops 0x22 0x5C 0 9 1 31
 stops_of MlLiteralString = stops 0x7F 0x7F 9 0 11 21
 stops_of (MlBasicString v) = stops 0x5C 0x5C 9 0 11 21
 stops_of UnquotedKey = stops 0x7F 0x7F 0 9 1 31
-
--- the flags of a block
-pub record NoneSet (first second delete low mid : Bool) : Type 0 where
-  pub first_off : first ≡ false
-  pub second_off : second ≡ false
-  pub delete_off : delete ≡ false
-  pub low_off : low ≡ false
-  pub mid_off : mid ≡ false

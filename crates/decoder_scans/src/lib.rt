@@ -2,83 +2,46 @@
 // by one. Rule: the byte sets in Encodings.antt of crate `decoder_rules`.
 #![tactic(auto)]
 
-ghost use Rattle.std.specs.Prelude.{◌≡◌, ◌+◌, ◌<◌, ◌≤◌, true, length, take, drop, slice_index};
+ghost use Rattle.std.specs.Prelude.{◌≡◌, ◌+◌, ◌<◌, ◌≤◌, true, length, take};
 ghost use Rattle.text_classes.specs.Runs.{run};
 ghost use Rattle.text_classes.proofs.RunLaws.{Block, SameEnd};
-ghost use Rattle.text_classes.specs.Classes.{literal_char, basic_unescaped, unquoted_char};
-ghost use Rattle.decoder_rules.specs.Encodings.{mll_plain, mlb_plain, basic_invalid, mlb_invalid, plain};
-ghost use Rattle.decoder_scans.specs.Scan.{set_of, mask_of, is_marked, Wide, stops_of, NoneSet};
+ghost use Rattle.decoder_rules.specs.declared.Encoding.{Encoding};
+ghost use Rattle.decoder_rules.specs.declared.Encoding.TheVariants.{LiteralString, BasicString, MlLiteralString, MlBasicString};
+ghost use Rattle.decoder_rules.specs.declared.Edition.TheVariants.{Toml10};
+ghost use Rattle.decoder_rules.specs.Encodings.{basic_invalid, mlb_invalid, plain};
+ghost use Rattle.decoder_scans.specs.Scan.{mask_of, is_marked, Wide, stops_of};
 
 use decoder_rules::{Edition, Encoding};
 use std::num::wrapping_sub_u8;
 use text_classes::{
-    APOSTROPHE, ESCAPE, QUOTATION_MARK, is_basic_unescaped, is_mlb_unescaped, is_wschar,
+    APOSTROPHE, ByteSet, ESCAPE, QUOTATION_MARK, is_basic_unescaped, is_mlb_unescaped, run_of,
 };
 
-// The byte at place i, 0 past the end.
-pub fn peek(s: &[u8], i: usize) -> u8
-    ensures { result ≡ slice_index s.now i }
-{
-    if i < s.len() { s[i] } else { 0 }
-}
-
-fn is_mlb_plain(b: u8) -> bool
-    ensures { result ≡ mlb_plain b }
-{
-    match b {
-        QUOTATION_MARK | b'\n' => true,
-        _ => is_mlb_unescaped(b),
-    }
-}
-
-fn is_basic_invalid(b: u8) -> bool
-    ensures { result ≡ basic_invalid b }
-{
-    match b {
-        ESCAPE => false,
-        _ => !is_basic_unescaped(b),
-    }
-}
-
-fn is_mlb_invalid(b: u8) -> bool
-    ensures { result ≡ mlb_invalid b }
-{
-    match b {
-        ESCAPE | b'\r' => false,
-        _ => !is_mlb_plain(b),
-    }
-}
-
-// The byte sets that are scanned one by one.
+// Neither basic-unescaped nor a backslash: what the error of an invalid basic string is about.
 #[derive(Clone, Copy)]
-pub enum Set {
-    BasicInvalid,
-    MlbInvalid,
-    Blank,
-}
+pub struct BasicInvalid;
 
-fn is_in(set: Set, b: u8) -> bool
-    ensures { result ≡ set_of set b }
-{
-    match set {
-        Set::BasicInvalid => is_basic_invalid(b),
-        Set::MlbInvalid => is_mlb_invalid(b),
-        Set::Blank => is_wschar(b),
+impl ByteSet for BasicInvalid {
+    ghost holds = { λ _. basic_invalid };
+
+    #[tactic(auto, unfolding(decoder_rules::specs::Encodings::basic_invalid))]
+    fn holds(self, b: u8) -> bool {
+        !(is_basic_unescaped(b) || b == ESCAPE)
     }
 }
 
-// The place of the first byte from `start` on that is not in the set, or the end.
-pub fn run_from(set: Set, s: &[u8], start: usize) -> usize
-    ensures { result ≡ start + run (set_of set) (drop start s.now) }
-{
-    let mut i = start;
-    while i < s.len() {
-        if !is_in(set, s[i]) {
-            return i;
-        }
-        i += 1;
+// The same over lines, where quotation marks and LF stand for themselves, and a CR is another error's.
+#[derive(Clone, Copy)]
+pub struct MlbInvalid;
+
+impl ByteSet for MlbInvalid {
+    ghost holds = { λ _. mlb_invalid };
+
+    #[tactic(auto, unfolding(decoder_rules::specs::Encodings::mlb_invalid, decoder_rules::specs::Encodings::mlb_plain))]
+    fn holds(self, b: u8) -> bool {
+        !((is_mlb_unescaped(b) || (b == QUOTATION_MARK || b == b'\n'))
+            || (b == ESCAPE || b == b'\r'))
     }
-    i
 }
 
 // The bytes that stand for themselves: a bit for each below 40, a bit for each from 40 to 7F, and whether all from 80 on
@@ -122,75 +85,139 @@ fn mask_of(e: Encoding) -> Mask
     }
 }
 
-fn wide(b: u8) -> u64
-    ensures { result ≡ b }
-{
-    b as u64
-}
-
 // Does the mask have the byte?
 fn is_marked(mask: Mask, b: u8) -> bool
     ensures { result ≡ is_marked mask b }
 {
     if b < 64 {
-        return (mask.low >> wide(b)) & 1 == 1;
+        return (mask.low >> u64::from(b)) & 1 == 1;
     }
     if b < 128 {
-        return (mask.mid >> wide(b - 64)) & 1 == 1;
+        return (mask.mid >> u64::from(b - 64)) & 1 == 1;
     }
     mask.high
 }
 
 // Does the byte stand for itself?
+#[tactic(auto, using(crate::proofs::ScanLaws::marked_plain))]
 pub fn is_plain(e: Encoding, b: u8) -> bool
     ensures { result ≡ plain e b }
 {
     is_marked(mask_of(e), b)
 }
 
-// The place of the first byte from `start` on that does not stand for itself, or the end: one by one.
-fn plain_rest(e: Encoding, s: &[u8], start: usize) -> usize
-    requires { start ≤ length s.now }
-    ensures { result ≡ start + run (plain e) (drop start s.now) }
-{
-    let mask = mask_of(e);
-    let mut i = start;
-    while i < s.len() {
-        if !is_marked(mask, s[i]) {
-            return i;
-        }
-        i += 1;
+// Those bytes, as a set.
+#[derive(Clone, Copy)]
+struct Plain(Encoding);
+
+impl ByteSet for Plain {
+    ghost holds = { λ p. plain p.0 };
+
+    fn holds(self, b: u8) -> bool {
+        is_plain(self.0, b)
     }
-    i
 }
 
 // How many bytes at the front stand for themselves, of which eight count at most.
 pub fn plain_few(e: Encoding, s: &[u8]) -> usize
     ensures { result ≡ run (plain e) (take 8 s.now) }
 {
-    let mask = mask_of(e);
-    let mut i = 0;
-    while i < 8 {
-        if i == s.len() {
-            return i;
-        }
-        if !is_marked(mask, s[i]) {
-            return i;
-        }
-        i += 1;
-    }
-    8
+    run_of(Plain(e), &s[..s.len().min(8)], 0)
 }
 
-// Blocks of n bytes that stand for themselves, passed over. Each caller names its encoding, so that
-// the compiler makes a loop of its own for it, with that encoding's bytes as constants.
-fn plain_blocks(e: Encoding, s: &[u8], start: usize, n: usize) -> usize
-    requires { Wide e × (start ≤ length s.now) × (0 < n) }
-    ensures { SameEnd (run (plain e)) s.now start result }
+// How many bytes at the front stand for themselves. A caller that names its encoding goes to its scan at once.
+#[inline(always)]
+pub fn plain_run(e: Encoding, s: &[u8]) -> usize
+    ensures { result ≡ run (plain e) s.now }
+{
+    match e {
+        Encoding::LiteralString => wide_run::<Literal>(s),
+        Encoding::MlLiteralString => wide_run::<MlLiteral>(s),
+        Encoding::BasicString(_) => wide_run::<Basic>(s),
+        Encoding::MlBasicString(_) => wide_run::<MlBasic>(s),
+        Encoding::UnquotedKey => run_of(Plain(Encoding::UnquotedKey), s, 0),
+    }
+}
+
+// An encoding that is scanned in blocks. Each is a type, so that the compiler makes a scan of its own for it, with its bytes as
+// constants.
+trait Scanned {
+    ghost of: { Encoding };
+
+    fn encoding() -> Encoding
+        ensures { result ≡ of };
+
+    ghost wide: { Wide of };
+}
+
+struct Literal;
+
+impl Scanned for Literal {
+    ghost of = { LiteralString };
+
+    ghost wide = { tt };
+
+    fn encoding() -> Encoding {
+        Encoding::LiteralString
+    }
+}
+
+struct MlLiteral;
+
+impl Scanned for MlLiteral {
+    ghost of = { MlLiteralString };
+
+    ghost wide = { tt };
+
+    fn encoding() -> Encoding {
+        Encoding::MlLiteralString
+    }
+}
+
+// In which edition makes no difference.
+struct Basic;
+
+impl Scanned for Basic {
+    ghost of = { BasicString Toml10 };
+
+    ghost wide = { tt };
+
+    fn encoding() -> Encoding {
+        Encoding::BasicString(Edition::Toml10)
+    }
+}
+
+struct MlBasic;
+
+impl Scanned for MlBasic {
+    ghost of = { MlBasicString Toml10 };
+
+    ghost wide = { tt };
+
+    fn encoding() -> Encoding {
+        Encoding::MlBasicString(Edition::Toml10)
+    }
+}
+
+// Blocks of sixteen bytes are passed over first, then one of eight, and then the bytes one by one.
+#[inline(never)]
+fn wide_run<S: Scanned>(s: &[u8]) -> usize
+    ensures { result ≡ run (plain S.of) s.now }
+{
+    let wide = plain_blocks::<S>(s, 0, 16);
+    let i = plain_blocks::<S>(s, wide, 8);
+    run_of(Plain(S::encoding()), s, i)
+}
+
+// Blocks of n bytes that stand for themselves, passed over.
+// No iterator: what is asked for is the place behind the blocks, which `chunks_exact` would have counted beside it.
+fn plain_blocks<S: Scanned>(s: &[u8], start: usize, n: usize) -> usize
+    requires { (start ≤ length s.now) × (0 < n) }
+    ensures { SameEnd (run (plain S.of)) s.now start result }
 {
     let mut i = start;
     while n <= s.len() - i {
-        if !plain_block(e, s, i, n) {
+        if !plain_block::<S>(s, i, n) {
             return i;
         }
         i += n;
@@ -260,130 +287,23 @@ fn stops_of(e: Encoding) -> Stops
 
 // Whether n bytes from i on surely stand for themselves. A flag for each test, one comparison in
 // each, and no branch among them, so that the compiler takes sixteen at once.
-fn plain_block(e: Encoding, s: &[u8], i: usize, n: usize) -> bool
-    requires { Wide e × (i + n ≤ length s.now) }
-    ensures { result ≡ true → Block (plain e) s.now i n }
+fn plain_block<S: Scanned>(s: &[u8], i: usize, n: usize) -> bool
+    requires { i + n ≤ length s.now }
+    ensures { result ≡ true → Block (plain S.of) s.now i n }
 {
-    let stops = stops_of(e);
-    let a = stops.first;
-    let z = stops.second;
-    let l = stops.low;
-    let x = stops.flip;
-    let f = stops.from;
-    let k = stops.span;
+    let stops = stops_of(S::encoding());
     let mut first = false;
     let mut second = false;
     let mut delete = false;
     let mut low = false;
     let mut mid = false;
-    let mut j = 0;
-    while j < n {
+    for j in 0..n {
         let b = s[i + j];
-        if b == a {
-            first = true;
-        }
-        if b == z {
-            second = true;
-        }
-        if b == 0x7F {
-            delete = true;
-        }
-        if b < l {
-            low = true;
-        }
-        if wrapping_sub_u8(b ^ x, f) < k {
-            mid = true;
-        }
-        j += 1;
+        first |= b == stops.first;
+        second |= b == stops.second;
+        delete |= b == 0x7F;
+        low |= b < stops.low;
+        mid |= wrapping_sub_u8(b ^ stops.flip, stops.from) < stops.span;
     }
-    none_set(first, second, delete, low, mid)
-}
-
-// Is no flag set?
-fn none_set(first: bool, second: bool, delete: bool, low: bool, mid: bool) -> bool
-    ensures { result ≡ true → NoneSet first second delete low mid }
-{
-    if first {
-        return false;
-    }
-    if second {
-        return false;
-    }
-    if delete {
-        return false;
-    }
-    if low {
-        return false;
-    }
-    !mid
-}
-
-// How many bytes at the front stand for themselves.
-pub fn plain_run(e: Encoding, s: &[u8]) -> usize
-    ensures { result ≡ run (plain e) s.now }
-{
-    match e {
-        Encoding::LiteralString => literal_chars(s),
-        Encoding::MlLiteralString => mll_chars(s),
-        Encoding::BasicString(v) => basic_unescaped(v, s),
-        Encoding::MlBasicString(v) => mlb_unescaped(v, s),
-        Encoding::UnquotedKey => unquoted_chars(s),
-    }
-}
-
-// literal-char = %x09 / %x20-26 / %x28-7E / non-ascii
-pub fn literal_chars(s: &[u8]) -> usize
-    ensures { result ≡ run literal_char s.now }
-{
-    let wide = plain_blocks(Encoding::LiteralString, s, 0, 16);
-    let i = plain_blocks(Encoding::LiteralString, s, wide, 8);
-    plain_rest(Encoding::LiteralString, s, i)
-}
-
-// mll-char, with mll-quotes and LF
-pub fn mll_chars(s: &[u8]) -> usize
-    ensures { result ≡ run mll_plain s.now }
-{
-    let wide = plain_blocks(Encoding::MlLiteralString, s, 0, 16);
-    let i = plain_blocks(Encoding::MlLiteralString, s, wide, 8);
-    plain_rest(Encoding::MlLiteralString, s, i)
-}
-
-// basic-unescaped = wschar / %x21 / %x23-5B / %x5D-7E / non-ascii
-pub fn basic_unescaped(v: Edition, s: &[u8]) -> usize
-    ensures { result ≡ run basic_unescaped s.now }
-{
-    let wide = plain_blocks(Encoding::BasicString(v), s, 0, 16);
-    let i = plain_blocks(Encoding::BasicString(v), s, wide, 8);
-    plain_rest(Encoding::BasicString(v), s, i)
-}
-
-// mlb-unescaped, with mlb-quotes and LF
-pub fn mlb_unescaped(v: Edition, s: &[u8]) -> usize
-    ensures { result ≡ run mlb_plain s.now }
-{
-    let wide = plain_blocks(Encoding::MlBasicString(v), s, 0, 16);
-    let i = plain_blocks(Encoding::MlBasicString(v), s, wide, 8);
-    plain_rest(Encoding::MlBasicString(v), s, i)
-}
-
-// ALPHA / DIGIT / %x2D / %x5F
-pub fn unquoted_chars(s: &[u8]) -> usize
-    ensures { result ≡ run unquoted_char s.now }
-{
-    plain_rest(Encoding::UnquotedKey, s, 0)
-}
-
-// Neither basic-unescaped nor a backslash: what the error of an invalid basic string is about.
-pub fn basic_invalid(s: &[u8]) -> usize
-    ensures { result ≡ run basic_invalid s.now }
-{
-    run_from(Set::BasicInvalid, s, 0)
-}
-
-// The same over lines.
-pub fn mlb_invalid(s: &[u8]) -> usize
-    ensures { result ≡ run mlb_invalid s.now }
-{
-    run_from(Set::MlbInvalid, s, 0)
+    !(first || second || delete || low || mid)
 }

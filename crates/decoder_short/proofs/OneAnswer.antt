@@ -1,6 +1,7 @@
 -- The promise of `letter_char` admits one answer. That of `copy_short` admits two, and this file says so: it may leave a text that is
 -- short and simple to its caller, which decodes it then. `decode`, whose promise admits one answer, holds for either.
 -- Assumes nothing.
+use Rattle.std.specs.Prelude.{Option, Some, None}
 use Prim.Native.Nat.{ℕ}
 use mathlib.Core.Path.{◌≡◌, refl, sym, ◌∙◌}
 use mathlib.Core.List.{List, [], ◌∷◌}
@@ -10,7 +11,7 @@ use Rattle.text_classes.specs.Runs.{run}
 use Rattle.text.proofs.AnswerLaws.{answer_ascii}
 use Rattle.text_scalars.specs.Utf8Read.{ascii}
 use Rattle.decoder_rules.proofs.StoreLaws.{Stored, store_none}
-use Rattle.decoder_short.specs.Letters.{is_simple, simple_bytes, Short, ShortCopied, copied, untouched}
+use Rattle.decoder_short.specs.Letters.{is_simple, simple_bytes, Short, ShortCopied}
 use Rattle.text_classes.proofs.OneAnswer.{OneAnswer}
 use Rattle.decoder_short.proofs as promised
 
@@ -30,10 +31,9 @@ unfolding is_simple
 is_short =
     record { two = omega arith; opens = refl; closes = refl; valid = answer_ascii empty (omega arith) is_ascii; simple = refl }
 
--- what it decodes to is written, which is no byte, or it is left, and its two bytes are counted
-pub copy_short : ((x y : ℕ) → ShortCopied empty [] x [] → ShortCopied empty [] y [] → x ≡ y) → ⊥
+-- what it decodes to is written, which is no byte, or it is left
+pub copy_short : ((x y : Option ℕ) → ShortCopied empty [] x [] → ShortCopied empty [] y [] → x ≡ y) → ⊥
 unfolding simple_bytes
 copy_short one =
-    let same : ◌≡◌ {A = ℕ} 0 2 =
-    one 0 2 (copied is_short (omega arith) (omega arith) (store_none [] 0)) (untouched refl refl) in
-    omega arith
+    let same = one (Some 0) None (record { short = is_short; fewer = omega arith; room = omega arith; stored = store_none [] 0 }) refl in
+    absurd (let z : ◌≡◌ {A = ℕ} 0 1 = cc in omega arith)

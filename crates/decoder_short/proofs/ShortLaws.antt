@@ -1,6 +1,7 @@
 -- A short basic string whose escapes are of one letter: what the loop that goes over it keeps, what the loop that writes it
 -- keeps, and that it decodes to what is written, without an error, in either edition.
 -- Assumes nothing.
+use Rattle.std.specs.Prelude.{Option, Some, None, is_some, Ok}
 use Prim.Native.Nat.{ℕ, zero, suc, ◌+◌, ◌-◌, ◌≤◌, ◌<◌}
 use mathlib.Core.Path.{◌≡◌, refl, sym, ap, ◌∙◌}
 use mathlib.Core.Logic.{inl, inr}
@@ -22,7 +23,7 @@ use Rattle.text_scalars.specs.Utf8.{encode_scalar}
 use Rattle.text_scalars.specs.Utf8Read.{Along}
 use Rattle.text_scalars.proofs.EncodeLaws.{encode_1}
 use Rattle.text_scalars.proofs.ReadLaws.{valid_end}
-use Rattle.text_characters.specs.Lead.{CharacterAt, WideAt}
+use Rattle.text_characters.specs.Lead.{CharacterAt}
 use Rattle.text_characters.proofs.CharLaws.{along_ascii, along_whole, wide_high}
 use Rattle.text.proofs.AnswerLaws.{answer_valid}
 use Rattle.decoder_rules.specs.declared.Edition.{Edition}
@@ -31,7 +32,6 @@ use Rattle.decoder_rules.specs.declared.Letter.{Letter}
 use Rattle.decoder_rules.specs.declared.Letter.TheVariants.{Stands, Asks, Neither}
 use Rattle.decoder_rules.specs.declared.Encoding.{Encoding}
 use Rattle.decoder_rules.specs.declared.Encoding.TheVariants.{BasicString}
-use Rattle.decoder_rules.specs.declared.Choice.TheVariants.{Known}
 use Rattle.decoder_rules.specs.declared.Ends.{Ends}
 use Rattle.decoder_rules.specs.Encodings.{plain, choice_in, choice_by}
 use Rattle.decoder_rules.specs.Pieces.{gives, notes_at, collect, char_piece}
@@ -48,34 +48,47 @@ use Rattle.decoder_rules.proofs.DecodeLaws.{bytes_is, errors_is}
 use Rattle.decoder_rules.proofs.PlainLaws.{Named, Decodes}
 use Rattle.decoder_rules.proofs.StoreLaws.{Stored, front_long, overwritten}
 use Rattle.decoder_pieces.proofs.EscapeAtLaws.{basic_escape}
-use Rattle.decoder_short.specs.Letters.{letter_char, is_simple, simple_bytes, body_from, Short, Marked, SimpleTo, ShortCopied, copied, untouched}
+use Rattle.decoder_short.specs.Letters.{letter_char, letter_byte, is_simple, simple_bytes, body_from, Short, Marked, SimpleTo, Written}
 
 -- ---- letters
 
+-- what a letter is for that has this character, else l
+abbrev or_for : Letter → Option ℕ → Letter
+or_for l None = l
+or_for l (Some c) = Stands c
+
 -- a letter that has a character stands for it in every edition
-pub letter_stands : (v : Edition) (b : ℕ) → 0 < letter_char b → letter_of v b ≡ Stands (letter_char b)
+pub letter_stands : (v : Edition) (b c : ℕ) → letter_char b ≡ Some c → letter_of v b ≡ Stands c
 unfolding letter_of letter_char
-letter_stands v b =
-    go (eqb b 0x22) (eqb b 0x5C) (eqb b 0x62) (eqb b 0x66) (eqb b 0x6E) (eqb b 0x72) (eqb b 0x74)
-    (cond (eqb b 0x75) (Asks 4) (cond (eqb b 0x55) (Asks 8) (new_letter v b)))
+letter_stands v b c h =
+    let rest = cond (eqb b 0x75) (Asks 4) (cond (eqb b 0x55) (Asks 8) (new_letter v b)) in
+    go (eqb b 0x22) (eqb b 0x5C) (eqb b 0x62) (eqb b 0x66) (eqb b 0x6E) (eqb b 0x72) (eqb b 0x74) rest
+    ∙ ap (or_for rest) h
   where
-    chars : (p q r s t u w : Bool) → ℕ
-    chars p q r s t u w = cond p 0x22 (cond q 0x5C (cond r 0x08 (cond s 0x0C (cond t 0x0A (cond u 0x0D (cond w 0x09 0))))))
+    chars : (p q r s t u w : Bool) → Option ℕ
+    chars p q r s t u w =
+        cond p (Some 0x22) (cond q (Some 0x5C) (cond r (Some 0x08) (cond s (Some 0x0C) (cond t (Some 0x0A)
+        (cond u (Some 0x0D) (cond w (Some 0x09) None))))))
 
     table : (p q r s t u w : Bool) → Letter → Letter
     table p q r s t u w l =
         cond p (Stands 0x22) (cond q (Stands 0x5C) (cond r (Stands 0x08) (cond s (Stands 0x0C) (cond t (Stands 0x0A)
         (cond u (Stands 0x0D) (cond w (Stands 0x09) l))))))
 
-    go : (p q r s t u w : Bool) (l : Letter) → 0 < chars p q r s t u w → table p q r s t u w l ≡ Stands (chars p q r s t u w)
-    go true q r s t u w l h = refl
-    go false true r s t u w l h = refl
-    go false false true s t u w l h = refl
-    go false false false true t u w l h = refl
-    go false false false false true u w l h = refl
-    go false false false false false true w l h = refl
-    go false false false false false false true l h = refl
-    go false false false false false false false l h = absurd (omega arith)
+    go : (p q r s t u w : Bool) (l : Letter) → table p q r s t u w l ≡ or_for l (chars p q r s t u w)
+    go true q r s t u w l = refl
+    go false true r s t u w l = refl
+    go false false true s t u w l = refl
+    go false false false true t u w l = refl
+    go false false false false true u w l = refl
+    go false false false false false true w l = refl
+    go false false false false false false true l = refl
+    go false false false false false false false l = refl
+
+-- what is there has a value
+known : (o : Option ℕ) → is_some o ≡ true → (c : ℕ) × (o ≡ Some c)
+known (Some c) h = (c, refl)
+known None h = not_both h refl
 
 -- ---- a byte at the front
 
@@ -96,13 +109,13 @@ module _ (b : ℕ) (s : List ℕ) where
   unfolding simple_bytes
   bytes_own h = rw (own_byte b h)
 
-  simple_letter : 0 < letter_char b → is_simple false (0x5C ∷ b ∷ s) ≡ is_simple false s
+  simple_letter : (c : ℕ) → letter_char b ≡ Some c → is_simple false (0x5C ∷ b ∷ s) ≡ is_simple false s
   unfolding is_simple
-  simple_letter h = rw (lt-ltb 0 (letter_char b) h)
+  simple_letter c h = rw h
 
-  bytes_letter : simple_bytes false (0x5C ∷ b ∷ s) ≡ letter_char b ∷ simple_bytes false s
+  bytes_letter : (c : ℕ) → letter_char b ≡ Some c → simple_bytes false (0x5C ∷ b ∷ s) ≡ c ∷ simple_bytes false s
   unfolding simple_bytes
-  bytes_letter = refl
+  bytes_letter c h = rw h
 
 -- ---- what the body decodes to
 
@@ -131,29 +144,28 @@ module _ (v : Edition) where
       front_bytes e (b ∷ s) at (suc k) all ∙ rw place (ap (λ (l : List ℕ). b ∷ l) (sym (front_bytes e s (suc at) k refl)))
 
   -- an escape of one letter is a piece of two bytes that gives one
-  letter_piece : (at b : ℕ) (s : List ℕ) → 0 < letter_char b → piece_of e false at (0x5C ∷ b ∷ s) ≡ char_piece 2 (letter_char b)
-  letter_piece at b s h =
-      sym (escape_simple v at (b ∷ s) (letter_char b) (letter_stands v b h) ∙ basic_escape v at (0x5C ∷ b ∷ s) refl)
+  letter_piece : (at b c : ℕ) (s : List ℕ) → letter_char b ≡ Some c → piece_of e false at (0x5C ∷ b ∷ s) ≡ char_piece 2 c
+  letter_piece at b c s h = sym (escape_simple v at (b ∷ s) c (letter_stands v b c h) ∙ basic_escape v at (0x5C ∷ b ∷ s) refl)
 
-  letter_given : (b : ℕ) (s : List ℕ) → 0 < letter_char b → gives (char_piece 2 (letter_char b)) s ≡ letter_char b ∷ []
-  letter_given b s h =
-      gives_char (char_piece 2 (letter_char b)) s (letter_char b) refl
-      ∙ encode_1 (letter_char b) (stands_fit v (b ∷ []) (letter_char b) (letter_stands v b h)).1
+  letter_given : (b c : ℕ) (s : List ℕ) → letter_char b ≡ Some c → gives (char_piece 2 c) s ≡ c ∷ []
+  letter_given b c s h =
+      gives_char (char_piece 2 c) s c refl
+      ∙ encode_1 c (stands_fit v (b ∷ []) c (letter_stands v b c h)).1
 
-  letter_bytes : (at b : ℕ) (s : List ℕ) → 0 < letter_char b
-      → collect (piece_of e) gives 0 false at (0x5C ∷ b ∷ s) ≡ letter_char b ∷ collect (piece_of e) gives 0 false (at + 2) s
-  letter_bytes at b s h =
-      let p = letter_piece at b s h in
+  letter_bytes : (at b c : ℕ) (s : List ℕ) → letter_char b ≡ Some c
+      → collect (piece_of e) gives 0 false at (0x5C ∷ b ∷ s) ≡ c ∷ collect (piece_of e) gives 0 false (at + 2) s
+  letter_bytes at b c s h =
+      let p = letter_piece at b c s h in
       let some : 0 < (piece_of e false at (0x5C ∷ b ∷ s)).take = rw p (omega arith) in
-      collect_step (piece_of e) gives false at (0x5C ∷ b ∷ s) (omega arith) some ∙ rw (p, letter_given b (0x5C ∷ b ∷ s) h)
+      collect_step (piece_of e) gives false at (0x5C ∷ b ∷ s) (omega arith) some ∙ rw (p, letter_given b c (0x5C ∷ b ∷ s) h)
 
-  pub letter_errors : (at b : ℕ) (s : List ℕ) → 0 < letter_char b
+  pub letter_errors : (at b c : ℕ) (s : List ℕ) → letter_char b ≡ Some c
       → collect (piece_of e) notes_at 0 false at (0x5C ∷ b ∷ s) ≡ collect (piece_of e) notes_at 0 false (at + 2) s
-  letter_errors at b s h =
-      let p = letter_piece at b s h in
+  letter_errors at b c s h =
+      let p = letter_piece at b c s h in
       let some : 0 < (piece_of e false at (0x5C ∷ b ∷ s)).take = rw p (omega arith) in
       collect_step (piece_of e) notes_at false at (0x5C ∷ b ∷ s) (omega arith) some
-      ∙ rw (p, notes_none (char_piece 2 (letter_char b)) refl)
+      ∙ rw (p, notes_none (char_piece 2 c) refl)
 
   -- so the body gives what was read off, and notes nothing
   abbrev Decoded : ℕ → List ℕ → Type 0
@@ -172,10 +184,10 @@ module _ (v : Edition) where
       → (is_simple false s ≡ true → Decoded (at + 2) s) → Decoded at (b ∷ c ∷ s)
   unfolding is_simple
   by_letter at b c s h is rest =
-      let both : (ltb 0 (letter_char c) && is_simple false s) ≡ true = rw is at h in
-      let some = ltb-true 0 (letter_char c) (both_left (ltb 0 (letter_char c)) (is_simple false s) both) in
-      let d = rest (both_right (ltb 0 (letter_char c)) (is_simple false s) both) in
-      rw is (letter_bytes at c s some ∙ rw (bytes_letter c s, d.0), letter_errors at c s some ∙ d.1)
+      let both : (is_some (letter_char c) && is_simple false s) ≡ true = rw is at h in
+      let char = known (letter_char c) (both_left (is_some (letter_char c)) (is_simple false s) both) in
+      let d = rest (both_right (is_some (letter_char c)) (is_simple false s) both) in
+      rw is (letter_bytes at c char.0 s char.1 ∙ rw (bytes_letter c s char.0 char.1, d.0), letter_errors at c char.0 s char.1 ∙ d.1)
 
   no_letter : (b : ℕ) → b ≡ 0x5C → is_simple false (b ∷ []) ≡ true → ⊥
   unfolding is_simple
@@ -198,7 +210,7 @@ module _ (v : Edition) where
 
 -- ---- and the text
 
-chosen_basic : (edition kind : ℕ) → Named edition → kind ≡ 34 → (v : Edition) × (choice_by edition kind ≡ Known (BasicString v))
+chosen_basic : (edition kind : ℕ) → Named edition → kind ≡ 34 → (v : Edition) × (choice_by edition kind ≡ Ok (BasicString v))
 unfolding choice_by choice_in
 chosen_basic edition kind (inl e) k = (Toml10, simp (e, k))
 chosen_basic edition kind (inr e) k = (Toml11, simp (e, k))
@@ -271,15 +283,15 @@ module _ (t : List ℕ) (marked : Marked t) where
         same = sym (simple_on i more own) ∙ to.same;
       }
 
-  pub simple_escape : {i : ℕ} → SimpleTo t i → get_or t i 0 ≡ 0x5C → i + 2 < length t → 0 < letter_char (get_or t (i + 1) 0)
-      → SimpleTo t (i + 2)
-  simple_escape {i} to is more letter =
+  pub simple_escape : {i : ℕ} → SimpleTo t i → get_or t i 0 ≡ 0x5C → i + 2 < length t
+      → (c : ℕ) → letter_char (get_or t (i + 1) 0) ≡ Some c → SimpleTo t (i + 2)
+  simple_escape {i} to is more c letter =
       let place : i + 1 + 1 ≡ i + 2 = omega arith in
       let b = get_or t (i + 1) 0 in
-      let low : b < 0x80 = (stands_fit Toml10 (b ∷ []) (letter_char b) (letter_stands Toml10 b letter)).0.low in
+      let low : b < 0x80 = (stands_fit Toml10 (b ∷ []) c (letter_stands Toml10 b c letter)).0.low in
       let one = along_ascii t 1 i to.within (omega arith) to.along in
       let here : is_simple false (body_from t i) ≡ is_simple false (body_from t (i + 2)) =
-      rw (from_two t i more is) (simple_letter b (body_from t (i + 2)) letter) in
+      rw (from_two t i more is) (simple_letter b (body_from t (i + 2)) c letter) in
       record { along = rw place at (along_ascii t 1 (i + 1) (omega arith) low one); within = more; same = sym here ∙ to.same }
 
   high_run : (n i : ℕ) → i + n < length t → ((k : ℕ) → k < n → 0x80 ≤ get_or t (i + k) 0)
@@ -293,8 +305,8 @@ module _ (t : List ℕ) (marked : Marked t) where
       rw next at (high (suc k) (omega arith))) in
       rw place (rest ∙ sym (simple_on i (omega arith) (basic_high (get_or t i 0) first)))
 
-  pub simple_wide : {i n : ℕ} → SimpleTo t i → 0 < n → WideAt t i n → SimpleTo t (i + n)
-  simple_wide {i} {n} to some wide =
+  pub simple_wide : {i n : ℕ} → SimpleTo t i → (i + n ≤ length t) × CharacterAt t i n → SimpleTo t (i + n)
+  simple_wide {i} {n} to wide =
       record {
         along = along_whole t 1 i n fits char to.along;
         within = within;
@@ -302,10 +314,13 @@ module _ (t : List ℕ) (marked : Marked t) where
       }
     where
       fits : i + n ≤ length t
-      fits = (wide some).0
+      fits = wide.0
 
       char : CharacterAt t i n
-      char = (wide some).1
+      char = wide.1
+
+      some : 0 < n
+      some = omega (arith, char.some)
 
       high : (k : ℕ) → k < n → 0x80 ≤ get_or t (i + k) 0
       high k h = wide_high t i n k char h
@@ -358,9 +373,10 @@ own_first b s differs h =
     let both : (basic_unescaped b && is_simple false s) ≡ true = rw (ne_eqb b 0x5C differs) at h in
     (both_left (basic_unescaped b) (is_simple false s) both, both_right (basic_unescaped b) (is_simple false s) both)
 
-letter_first : (b : ℕ) (s : List ℕ) → is_simple false (0x5C ∷ b ∷ s) ≡ true → is_simple false s ≡ true
+letter_first : (b : ℕ) (s : List ℕ) → is_simple false (0x5C ∷ b ∷ s) ≡ true → (is_some (letter_char b) ≡ true) × (is_simple false s ≡ true)
 unfolding is_simple
-letter_first b s h = both_right (ltb 0 (letter_char b)) (is_simple false s) h
+letter_first b s h =
+    (both_left (is_some (letter_char b)) (is_simple false s) h, both_right (is_some (letter_char b)) (is_simple false s) h)
 
 letter_there : is_simple false (0x5C ∷ []) ≡ true → ⊥
 unfolding is_simple
@@ -396,39 +412,45 @@ module _ {t old : List ℕ} {i o : ℕ} {out : List ℕ} (so : Spelling t old i 
       let first = own_first b (body_from t (i + 1)) differs (rw cons at so.simple) in
       stored (i + 1) b (omega (arith, so.behind)) h first.1 (rw cons (bytes_own b (body_from t (i + 1)) first.0))
 
-  pub spelling_letter : (c : ℕ) → i + 1 < length t → get_or t i 0 ≡ 0x5C → c ≡ letter_char (get_or t (i + 1) 0)
+  -- after a backslash stands a letter
+  letter_next : i + 1 < length t → get_or t i 0 ≡ 0x5C → i + 2 < length t
+  letter_next h is = elim (dec_lt (i + 2) (length t)) [
+    | yes l ↦ l
+    | no l ↦
+        let alone : body_from t i ≡ 0x5C ∷ [] = from_cons t i h ∙ rw (is, from_end t (i + 1) (omega arith)) in
+        absurd (letter_there (rw alone at so.simple))
+  ]
+
+  after_letter : i + 1 < length t → get_or t i 0 ≡ 0x5C
+      → (is_some (letter_char (get_or t (i + 1) 0)) ≡ true) × (is_simple false (body_from t (i + 2)) ≡ true)
+  after_letter h is =
+      letter_first (get_or t (i + 1) 0) (body_from t (i + 2)) (rw (from_two t i (letter_next h is) is) at so.simple)
+
+  -- which has a character
+  pub letter_known : i + 1 < length t → get_or t i 0 ≡ 0x5C → is_some (letter_char (get_or t (i + 1) 0)) ≡ true
+  letter_known h is = (after_letter h is).0
+
+  pub spelling_letter : (c : ℕ) → i + 1 < length t → get_or t i 0 ≡ 0x5C → letter_char (get_or t (i + 1) 0) ≡ Some c
       → Spelling t old (i + 2) (o + 1) (set out o c)
-  spelling_letter c h is char = rw char (go (dec_lt (i + 2) (length t)))
-    where
-      go : Dec (i + 2 < length t) → Spelling t old (i + 2) (o + 1) (set out o (letter_char (get_or t (i + 1) 0)))
-      go (yes l) =
-          let b = get_or t (i + 1) 0 in
-          let two = from_two t i l is in
-          let simple = letter_first b (body_from t (i + 2)) (rw two at so.simple) in
-          stored (i + 2) (letter_char b) (omega (arith, so.behind)) l simple (rw two (bytes_letter b (body_from t (i + 2))))
-      go (no l) =
-          let alone : body_from t i ≡ 0x5C ∷ [] = from_cons t i h ∙ rw (is, from_end t (i + 1) (omega arith)) in
-          absurd (letter_there (rw alone at so.simple))
+  spelling_letter c h is char =
+      let l = letter_next h is in
+      let b = get_or t (i + 1) 0 in
+      stored (i + 2) c (omega (arith, so.behind)) l (after_letter h is).1
+      (rw (from_two t i l is) (bytes_letter b (body_from t (i + 2)) c char))
 
   pub spelling_end : length t ≤ i + 1 → Stored old 0 (simple_bytes false (body_from t 1)) o out
   spelling_end h =
       let end : simple_bytes false (body_from t i) ≡ [] = rw (from_end t i h) no_bytes in
       record { place = omega (arith, so.size, ap length end); holds = rw end at so.rest }
 
--- ---- which of the two was done, by the number
+-- ---- what was written
 
 -- what t decodes to
 abbrev pub short_bytes : List ℕ → List ℕ
 short_bytes t = simple_bytes false (body_from t 1)
 
-module _ {t old : List ℕ} {n : ℕ} {out : List ℕ} where
-  pub short_some : ShortCopied t old n out → n < length t
-      → Short t × (length (short_bytes t) ≡ n) × (n ≤ length old) × (out ≡ short_bytes t ++ drop n old)
-  short_some (copied s l r o) h =
-      let size = front_long o in
-      (s, sym size, r, rw (← size) at (overwritten o (omega arith)))
-  short_some (untouched e o) h = absurd (omega arith)
-
-  pub short_none : ShortCopied t old n out → length t ≤ n → out ≡ old
-  short_none (copied s l r o) h = absurd (omega arith)
-  short_none (untouched e o) h = o
+pub short_written : {t old out : List ℕ} {n : ℕ} → Written t old out n
+    → (length (short_bytes t) ≡ n) × (out ≡ short_bytes t ++ drop n old)
+short_written w =
+    let size = front_long w.stored in
+    (sym size, rw (← size) at (overwritten w.stored (omega (arith, w.room))))

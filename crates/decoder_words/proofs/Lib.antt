@@ -1,4 +1,2 @@
-pub mod TagLaws
-pub mod ListLaws
-pub mod NumberLaws
+pub mod WordLaws
 pub mod OneAnswer

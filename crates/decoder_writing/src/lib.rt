@@ -10,55 +10,51 @@ ghost use Rattle.decoder_writing.specs.Copies.{fitting, copied_to};
 
 mod write;
 
-use crate::write::{copy_in, note, past, write};
+use crate::write::{copy_in, note, write};
 use decoder_marks::{Opened, open_text};
-use decoder_reading::{Counts, count, noted, run_by};
+use decoder_pieces::{Bytes, Engine};
+use decoder_reading::{Counts, count, noted};
 use decoder_rules::{Decoded, Encoding};
 use text_refusals::Refusal;
 
-// Copies all of s to the front of the output and says how many bytes that is. Where there is no room nothing is copied: 0.
-pub fn copy_all(s: &[u8], output: &mut [u8]) -> usize
+// Copies all of s to the front of the output and says how many bytes that is. Where there is no room nothing is copied: none.
+pub fn copy_all(s: &[u8], output: &mut [u8]) -> Option<usize>
     ensures answer { result ≡ fitting s.now output.old }
     ensures output { output.new ≡ copied_to s.now output.old }
 {
     let n = s.len();
     if output.len() < n {
-        return 0;
+        return None;
     }
-    copy_in(s, n, output, 0)
+    Some(copy_in(s, n, output, 0))
 }
 
-// Decodes a text, which has passed the check, by an encoding, with one of the two engines (crate `decoder_reading`). The bytes go to
-// the front of the output, the errors to the front of the records; what is after them stays. Where the lent memory is too
+// Decodes a text, which has passed the check, by an encoding, with any engine that reads bytes (crate `decoder_pieces`). The bytes
+// go to the front of the output, the errors to the front of the records; what is after them stays. Where the lent memory is too
 // short nothing is written. The counting pass is left out where it cannot be.
-pub fn decode_as(
-    table: bool,
+pub fn decode_as<E: Engine>(
     e: Encoding,
     text: &[u8],
     output: &mut [u8],
     errors: &mut [[usize; 3]],
-) -> Decoded
+) -> Result<Decoded, Refusal>
     ensures answer { result ≡ fitted (bytes_of e text.now) (errors_of e text.now) (length output.old) (length errors.old) }
     ensures output { output.new ≡ after result (bytes_of e text.now) output.old }
     ensures records { errors.new ≡ after result (errors_of e text.now) errors.old }
 {
     let opened = open_text(e, text);
     if !is_roomy(text.len(), output.len(), errors.len()) {
-        let need = needed(table, e, opened, text);
+        let need = needed::<E>(e, opened, text);
         if output.len() < need.bytes {
-            return Decoded::Refused(Refusal::ShortOutput { needed: need.bytes });
+            return Err(Refusal::ShortOutput { needed: need.bytes });
         }
         if errors.len() < need.errors {
-            return Decoded::Refused(Refusal::FewErrors {
+            return Err(Refusal::FewErrors {
                 needed: need.errors,
             });
         }
     }
-    let done = fill(table, e, opened, text, output, errors);
-    Decoded::Written {
-        bytes: done.bytes,
-        errors: done.errors,
-    }
+    Ok(fill::<E>(e, opened, text, output, errors))
 }
 
 // Can no text of n bytes need more than o bytes and m records?
@@ -73,44 +69,38 @@ fn is_roomy(n: usize, o: usize, m: usize) -> bool
 }
 
 // How many bytes and errors an opened text has.
-fn needed(table: bool, e: Encoding, opened: Opened, text: &[u8]) -> Counts
+fn needed<E: Bytes>(e: Encoding, opened: Opened, text: &[u8]) -> Counts
     requires { opened ≡ opened_of e text.now }
     ensures bytes { result.bytes ≡ length (bytes_of e text.now) }
     ensures errors { result.errors ≡ length (errors_of e text.now) }
 {
-    let opening = opened.opening;
-    let closing = opened.closing;
-    let c = count(table, e, opened.body, text);
+    let c = count::<E>(e, opened.body, text);
     Counts {
         bytes: c.bytes,
-        errors: noted(opening) + (noted(closing) + c.errors),
+        errors: noted(opened.opening) + (noted(opened.closing) + c.errors),
     }
 }
 
 // Writes them to the front of the lent memory. What stands for itself at the front of the body, which most often is all of it,
 // is copied at once.
-fn fill(
-    table: bool,
+fn fill<E: Engine>(
     e: Encoding,
     opened: Opened,
     text: &[u8],
     output: &mut [u8],
     errors: &mut [[usize; 3]],
-) -> Counts
+) -> Decoded
     requires { (opened ≡ opened_of e text.now)
         × (length (bytes_of e text.now) ≤ length output.old)
         × (length (errors_of e text.now) ≤ length errors.old) }
     ensures output { Stored output.old 0 (bytes_of e text.now) result.bytes output.new }
     ensures records { Stored errors.old 0 (errors_of e text.now) result.errors errors.new }
 {
-    let opening = opened.opening;
-    let closing = opened.closing;
     let body = opened.body;
-    let at = body.at;
-    let end = body.end;
-    let m = note(opening, errors, 0);
-    let m2 = note(closing, errors, m);
-    let plain = run_by(table, e, &text[at..end]);
-    let o = copy_in(&text[at..end], plain, output, 0);
-    write(table, e, past(body, plain), text, output, o, errors, m2)
+    let s = &text[body.at..body.end];
+    let m = note(opened.opening, errors, 0);
+    let m2 = note(opened.closing, errors, m);
+    let plain = E::plain_run(e, s);
+    let o = copy_in(s, plain, output, 0);
+    write::<E>(e, body.past(plain), text, output, o, errors, m2)
 }

@@ -1,7 +1,6 @@
 // The report's lines: a number, to the right of a column, and what it counts.
-ghost use Rattle.std.specs.Prelude.{IfErr};
+ghost use Rattle.std.specs.Prelude.{◌<◌, IfErr};
 
-use crate::files::front;
 use built_figures::{BEFORE_ERRORS, NOT_UTF8, TOO_LONG, Totals};
 use decoder_rules::Edition;
 use lexer_token::TokenKind;
@@ -9,14 +8,30 @@ use program_io::{Console, decimal, print_decimal};
 use std::io;
 
 // The kinds in the order of the totals.
-const KINDS: [usize; 16] = [46, 61, 44, 91, 93, 123, 125, 32, 35, 10, 39, 34, 1, 2, 3, 4];
+const KINDS: [TokenKind; 16] = [
+    TokenKind::Dot,
+    TokenKind::Equals,
+    TokenKind::Comma,
+    TokenKind::LeftSquareBracket,
+    TokenKind::RightSquareBracket,
+    TokenKind::LeftCurlyBracket,
+    TokenKind::RightCurlyBracket,
+    TokenKind::Whitespace,
+    TokenKind::Comment,
+    TokenKind::Newline,
+    TokenKind::LiteralString,
+    TokenKind::BasicString,
+    TokenKind::MlLiteralString,
+    TokenKind::MlBasicString,
+    TokenKind::Atom,
+    TokenKind::Eof,
+];
 
-pub(crate) fn print_totals<C: Console>(console: &C, totals: Totals) -> io::Result<()>
+pub(crate) fn print_totals<C: Console>(console: &C, totals: &Totals) -> io::Result<()>
     ensures error { IfErr result C.fails }
 {
     console.write_bytes(b"\nin all\n")?;
-    let before = [0u64; 33];
-    print_figures(console, &before, &totals, true)?;
+    print_figures(console, &[0; 33], totals, true)?;
     print_line(
         console,
         totals[NOT_UTF8],
@@ -32,41 +47,36 @@ pub(crate) fn print_totals<C: Console>(console: &C, totals: Totals) -> io::Resul
 // By how many tokens of each kind and errors of each number the totals have grown; those that have not only where `all` says so.
 pub(crate) fn print_figures<C: Console>(
     console: &C,
-    before: &[u64],
-    after: &[u64],
+    before: &Totals,
+    after: &Totals,
     all: bool,
 ) -> io::Result<()>
     ensures error { IfErr result C.fails }
 {
-    let mut i = 0;
-    while i < 16 {
-        print_kind(console, i, growth(before, after, i), all)?;
-        i += 1;
+    for (i, kind) in KINDS.iter().enumerate() {
+        print_kind(console, *kind, growth(before, after, i), all)?;
     }
-    let mut number = 1;
-    while number < 16 {
+    for number in 1..16 {
         print_error(
             console,
             number,
             growth(before, after, BEFORE_ERRORS + number),
             all,
         )?;
-        number += 1;
     }
     Ok(())
 }
 
-fn print_kind<C: Console>(console: &C, i: usize, n: u64, all: bool) -> io::Result<()>
+fn print_kind<C: Console>(console: &C, kind: TokenKind, n: u64, all: bool) -> io::Result<()>
     ensures error { IfErr result C.fails }
 {
     if n == 0 && !all {
         return Ok(());
     }
-    let words = TokenKind::description(kind_at(i));
-    let len = words.len;
-    let bytes = words.bytes;
     print_number(console, n)?;
-    console.write_bytes(front(&bytes, len))?;
+    if let Ok(words) = TokenKind::description(kind.number()) {
+        console.write_bytes(words)?;
+    }
     console.write_bytes(b"\n")
 }
 
@@ -76,29 +86,29 @@ fn print_error<C: Console>(console: &C, number: usize, n: u64, all: bool) -> io:
     if n == 0 && !all {
         return Ok(());
     }
-    let words = decoder_words::error_words(number, Edition::TOML_10, 0);
-    let len = words.len;
-    let bytes = words.bytes;
     print_number(console, n)?;
     console.write_bytes(b"error ")?;
     print_decimal(console, number as u64)?;
     console.write_bytes(b", ")?;
-    console.write_bytes(front(&bytes, len))?;
+    console.write_bytes(message_of(number))?;
     console.write_bytes(b"\n")
 }
 
-fn growth(before: &[u64], after: &[u64], i: usize) -> u64 {
-    if i < before.len() && i < after.len() {
-        return std::num::wrapping_sub_u64(after[i], before[i]);
+// The message of an error that has a number; nothing for a number of none.
+fn message_of(number: usize) -> &'static [u8] {
+    let Ok(words) = decoder_words::error_words(number, Edition::TOML_10, 0) else {
+        return b"";
+    };
+    match words.phrase {
+        Some(phrase) => phrase.text,
+        None => b"",
     }
-    0
 }
 
-fn kind_at(i: usize) -> usize {
-    if i < 16 {
-        return KINDS[i];
-    }
-    0
+fn growth(before: &Totals, after: &Totals, i: usize) -> u64
+    requires { i < 33 }
+{
+    after[i].wrapping_sub(before[i])
 }
 
 fn print_line<C: Console>(console: &C, n: u64, words: &[u8]) -> io::Result<()>
@@ -115,8 +125,8 @@ fn print_number<C: Console>(console: &C, n: u64) -> io::Result<()>
 {
     let mut digits = [0u8; 20];
     let k = decimal(n, &mut digits);
-    let spaces = *b"         ";
     if k < 9 {
+        let spaces = b"         ";
         console.write_bytes(&spaces[k..])?;
     }
     console.write_bytes(&digits[..k])?;
@@ -129,18 +139,16 @@ pub(crate) fn print_refused<C: Console>(console: &C, number: usize, value: usize
 {
     console.write_bytes(b": refused ")?;
     print_decimal(console, number as u64)?;
-    print_why(console, number)?;
+    console.write_bytes(why(number))?;
     print_decimal(console, value as u64)?;
     console.write_bytes(b"\n")
 }
 
 // What the refusal's value says, which is written after it.
-fn print_why<C: Console>(console: &C, number: usize) -> io::Result<()>
-    ensures error { IfErr result C.fails }
-{
+fn why(number: usize) -> &'static [u8] {
     match number {
-        1 => console.write_bytes(b", not UTF-8 from byte "),
-        2 => console.write_bytes(b", more bytes than "),
-        _ => console.write_bytes(b", a total would pass "),
+        1 => b", not UTF-8 from byte ",
+        2 => b", more bytes than ",
+        _ => b", a total would pass ",
     }
 }

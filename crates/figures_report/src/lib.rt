@@ -9,9 +9,8 @@ mod files;
 mod layout;
 mod names;
 
-use built_figures::{Adding, Totals};
-use files::FileRead;
-use names::Reading;
+use built_figures::{NotAdded, Totals};
+use names::Unread;
 use program_io::Console;
 use std::io;
 use std::io::Read;
@@ -31,7 +30,7 @@ pub fn report_input<C: Console + Files>(console: &C) -> io::Result<()>
     report_all(console, &mut input, &mut name, &mut doc)
 }
 
-// A proved loop has to end, and nothing says that the input does: so the loop counts down from a number that no run uses up.
+// A proved loop has to end, and nothing says that the input does: so the loop counts to a number that no run reaches.
 fn report_all<C: Console + Files>(
     console: &C,
     input: &mut [u8],
@@ -41,40 +40,31 @@ fn report_all<C: Console + Files>(
     ensures error { IfErr result C.fails }
 {
     let mut totals = [0u64; 33];
-    let mut reading = Reading {
+    let mut unread = Unread {
         at: 0,
         end: 0,
-        len: 0,
-        open: false,
-        more: true,
+        ended: false,
     };
-    let mut turns = u64::MAX;
-    while turns > 0 && reading.more {
-        reading = names::next_name(console, reading, input, name)?;
-        let after = report_name(console, reading, name, doc, totals)?;
-        totals = after;
-        turns -= 1;
+    for _ in 0..u64::MAX {
+        let Some(len) = names::next_name(console, &mut unread, input, name)? else {
+            break;
+        };
+        totals = report_name(console, &name[..len], doc, totals)?;
     }
-    layout::print_totals(console, totals)
+    layout::print_totals(console, &totals)
 }
 
-// The totals after the file of one name. The input's end is no name.
+// The totals after the file of one name.
 fn report_name<C: Console + Files>(
     console: &C,
-    reading: Reading,
     name: &[u8],
     doc: &mut [u8],
     totals: Totals,
 ) -> io::Result<Totals>
     ensures error { IfErr result C.fails }
 {
-    let len = reading.len;
-    if !reading.more && len == 0 {
-        return Ok(totals);
-    }
-    let path = files::front(name, len);
-    console.write_bytes(path)?;
-    match files::open(console, path) {
+    console.write_bytes(name)?;
+    match files::open(console, name) {
         Some(mut file) => report_open(console, &mut file, doc, totals),
         None => {
             console.write_bytes(b": does not open\n")?;
@@ -92,11 +82,11 @@ fn report_open<C: Console, R: Read>(
     ensures error { IfErr result C.fails }
 {
     match files::read_file(file, doc) {
-        FileRead::Failed => {
+        Ok(n) => report_bytes(console, &doc[..n], totals),
+        Err(_) => {
             console.write_bytes(b": cannot be read\n")?;
             Ok(totals)
         }
-        FileRead::Bytes(n) => report_bytes(console, files::front(doc, n), totals),
     }
 }
 
@@ -108,12 +98,12 @@ fn report_bytes<C: Console>(console: &C, doc: &[u8], totals: Totals) -> io::Resu
     let answer = tallied.answer;
     let after = tallied.totals;
     match answer {
-        Adding::Added => {
+        Ok(()) => {
             console.write_bytes(b"\n")?;
             layout::print_figures(console, &totals, &after, false)?;
         }
-        Adding::TooLong => layout::print_refused(console, 2, built_figures::MOST)?,
-        Adding::Refused(r) => layout::print_refused(console, r.number(), r.value())?,
+        Err(NotAdded::TooLong) => layout::print_refused(console, 2, built_figures::MOST)?,
+        Err(NotAdded::Refused(r)) => layout::print_refused(console, r.number(), r.value())?,
     }
     Ok(after)
 }

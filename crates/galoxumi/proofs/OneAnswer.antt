@@ -3,7 +3,7 @@
 use mathlib.Core.Path.{sym, ap, ◌∙◌}
 use Rattle.text_classes.proofs.OneAnswer.{OneAnswer, OneOutcome, ◌and◌, both}
 use Rattle.built_values.proofs.NumberLaws.{one_answer}
-use Rattle.library_built.specs.Numbers.{value_numbers}
+use Rattle.library_numbers.specs.Numbers.{flag_numbers}
 use Rattle.galoxumi.proofs as promised
 
 pub galoxumi_check_utf8 : OneAnswer promised.galoxumi_check_utf8.Reads.Learnt
@@ -80,10 +80,10 @@ galoxumi_ticks κs a x y s t p q = p ∙ sym q
 
 -- the numbers of one answer, which the rule admits
 pub galoxumi_is_value : OneAnswer promised.galoxumi_is_value.Reads.Learnt
-galoxumi_is_value κs a x y s t p q = p.2 ∙ ap value_numbers (one_answer p.1 q.1) ∙ sym q.2
+galoxumi_is_value κs a x y s t p q = p.2 ∙ ap flag_numbers (one_answer p.1 q.1) ∙ sym q.2
 
 pub galoxumi_is_value_in : OneAnswer promised.galoxumi_is_value_in.Reads.Learnt
-galoxumi_is_value_in κs a x y s t p q = p.2 ∙ ap value_numbers (one_answer p.1 q.1) ∙ sym q.2
+galoxumi_is_value_in κs a x y s t p q = p.2 ∙ ap flag_numbers (one_answer p.1 q.1) ∙ sym q.2
 
 pub galoxumi_first_broken : OneAnswer promised.galoxumi_first_broken.Reads.Learnt
 galoxumi_first_broken κs a x y s t p q = p ∙ sym q

@@ -19,11 +19,11 @@ ghost use Rattle.built_broken.specs.Broken.{broken_answer};
 ghost use Rattle.built_review.specs.Review.{mark_answer, ticked_marks, unticked_marks, read_answer, count_answer};
 ghost use Rattle.built_writing.specs.Writing.{write_answer};
 ghost use Rattle.built_figures.specs.Figures.{tallied};
-ghost use Rattle.library_numbers.specs.Numbers.{flag, check_numbers, start_numbers, step_numbers, lex_numbers, span_numbers, part_of, part_text};
+ghost use Rattle.library_numbers.specs.Numbers.{flag, count_numbers, done_numbers, flag_numbers, start_numbers, step_numbers, part_of, part_text};
 ghost use Rattle.library_numbers.specs.Numbers.{position_numbers, decode_answer, output_after, errors_after};
 ghost use Rattle.library_numbers.specs.Numbers.{described_numbers, encoded_numbers, words_numbers};
 ghost use Rattle.library_pieces.specs.Numbers.{open_numbers, body_of, step_numbers as piece_numbers};
-ghost use Rattle.library_built.specs.Numbers.{write_numbers, written_bytes, mark_numbers, read_numbers, count_numbers, ValueTold};
+ghost use Rattle.library_built.specs.Numbers.{written_bytes, ValueTold};
 ghost use Rattle.library_built.specs.Numbers.{broken_numbers, tally_numbers, mend_answer, mended_bytes, mended_list};
 ghost use Rattle.built_parts.specs.Feeding.{no_parts, feed_of, close_of, feed_memory, close_memory};
 ghost use Rattle.library_parts.specs.Numbers.{start_numbers as partsNumbers, parts_from, fed_numbers};
@@ -42,9 +42,9 @@ use library_pieces::{OpenNumbers, PieceNumbers};
 
 #[unsafe(no_mangle)]
 pub extern "C" fn galoxumi_check_utf8(doc: &[u8]) -> AnswerNumbers
-    ensures { result ≡ check_numbers (check_of doc.now) }
+    ensures { result ≡ done_numbers (check_of doc.now) }
 {
-    library_numbers::checked(text::check_utf8(doc))
+    library_numbers::answered(text::check_utf8(doc))
 }
 
 #[unsafe(no_mangle)]
@@ -64,17 +64,17 @@ pub extern "C" fn galoxumi_step(doc: &[u8], place: usize, ended: usize, line: us
 
 #[unsafe(no_mangle)]
 pub extern "C" fn galoxumi_lex(doc: &[u8], records: &mut [[usize; 4]]) -> AnswerNumbers
-    ensures answer { result ≡ lex_numbers (lex_answer doc.now (length records.old)) }
+    ensures answer { result ≡ count_numbers (lex_answer doc.now (length records.old)) }
     ensures memory { records.new ≡ lex_memory doc.now records.old }
 {
-    library_numbers::lexed(lexer::lex(doc, records))
+    library_numbers::answered(lexer::lex(doc, records))
 }
 
 #[unsafe(no_mangle)]
 pub extern "C" fn galoxumi_check_span(doc: &[u8], start: usize, end: usize) -> AnswerNumbers
-    ensures { result ≡ span_numbers (span_answer doc.now (span_of start end)) }
+    ensures { result ≡ done_numbers (span_answer doc.now (span_of start end)) }
 {
-    library_numbers::span_checked(lexer_place::check_span(doc, Span::new(start, end)))
+    library_numbers::answered(lexer_place::check_span(doc, Span::new(start, end)))
 }
 
 // The text of a span is answered by its start and length, since an exported function returns no reference.
@@ -177,10 +177,10 @@ pub extern "C" fn galoxumi_error_words(error: usize, edition: usize, which: usiz
 
 #[unsafe(no_mangle)]
 pub extern "C" fn galoxumi_write_value(value: &[u8], output: &mut [u8]) -> AnswerNumbers
-    ensures answer { result ≡ write_numbers (write_answer value.now (length output.old)) }
+    ensures answer { result ≡ count_numbers (write_answer value.now (length output.old)) }
     ensures bytes { output.new ≡ written_bytes value.now output.old }
 {
-    library_built::wrote(built_writing::write_value(value, output))
+    library_numbers::answered(built_writing::write_value(value, output))
 }
 
 // Puts broken strings right, read as TOML 1.0.
@@ -225,11 +225,11 @@ pub extern "C" fn galoxumi_tick(
     token: usize,
 ) -> AnswerNumbers
     ensures answer { result
-        ≡ mark_numbers (mark_answer (length records.now) (length marks.old) reviewer token) }
+        ≡ done_numbers (mark_answer (length records.now) (length marks.old) reviewer token) }
     ensures memory { marks.new
         ≡ ticked_marks (length records.now) marks.old reviewer token }
 {
-    library_built::marked(built_review::tick(records, marks, reviewer, token))
+    library_numbers::answered(built_review::tick(records, marks, reviewer, token))
 }
 
 // Clears it.
@@ -241,11 +241,11 @@ pub extern "C" fn galoxumi_untick(
     token: usize,
 ) -> AnswerNumbers
     ensures answer { result
-        ≡ mark_numbers (mark_answer (length records.now) (length marks.old) reviewer token) }
+        ≡ done_numbers (mark_answer (length records.now) (length marks.old) reviewer token) }
     ensures memory { marks.new
         ≡ unticked_marks (length records.now) marks.old reviewer token }
 {
-    library_built::marked(built_review::untick(records, marks, reviewer, token))
+    library_numbers::answered(built_review::untick(records, marks, reviewer, token))
 }
 
 // `value` is 1 where it is set.
@@ -257,9 +257,9 @@ pub extern "C" fn galoxumi_is_ticked(
     token: usize,
 ) -> AnswerNumbers
     ensures { result
-        ≡ read_numbers (read_answer (length records.now) marks.now reviewer token) }
+        ≡ flag_numbers (read_answer (length records.now) marks.now reviewer token) }
 {
-    library_built::tick_read(built_review::is_ticked(records, marks, reviewer, token))
+    library_numbers::answered(built_review::is_ticked(records, marks, reviewer, token))
 }
 
 // `value` is how many of the reviewer's bits are set over the records.
@@ -271,7 +271,7 @@ pub extern "C" fn galoxumi_ticks(
 ) -> AnswerNumbers
     ensures { result ≡ count_numbers (count_answer (length records.now) marks.now reviewer) }
 {
-    library_built::tick_count(built_review::ticks(records, marks, reviewer))
+    library_numbers::answered(built_review::ticks(records, marks, reviewer))
 }
 
 // `value` is 1 where the records from `start` up to `end`, which is not included, are one value by TOML 1.0.
@@ -283,7 +283,7 @@ pub extern "C" fn galoxumi_is_value(
 ) -> AnswerNumbers
     ensures { ValueTold records.now 10 start end result }
 {
-    library_built::value_checked(built_values::is_value(records, start, end))
+    library_numbers::answered(built_values::is_value(records, start, end))
 }
 
 // The same by the edition of TOML that `edition` names: 10 for TOML 1.0, 11 for TOML 1.1.
@@ -296,7 +296,7 @@ pub extern "C" fn galoxumi_is_value_in(
 ) -> AnswerNumbers
     ensures { ValueTold records.now edition start end result }
 {
-    library_built::value_checked(built_values::is_value_in(records, edition, start, end))
+    library_numbers::answered(built_values::is_value_in(records, edition, start, end))
 }
 
 // The first string token of a document that decodes with an error, and its first error.

@@ -17,11 +17,11 @@ ghost use Rattle.built_broken.specs.Broken.{broken_answer};
 ghost use Rattle.built_review.specs.Review.{mark_answer, ticked_marks, unticked_marks, read_answer, count_answer};
 ghost use Rattle.built_writing.specs.Writing.{write_answer};
 ghost use Rattle.built_figures.specs.Figures.{tallied};
-ghost use Rattle.library_numbers.specs.Numbers.{flag, check_numbers, start_numbers, step_numbers, lex_numbers, span_numbers, part_of, part_text};
+ghost use Rattle.library_numbers.specs.Numbers.{flag, count_numbers, done_numbers, flag_numbers, start_numbers, step_numbers, part_of, part_text};
 ghost use Rattle.library_numbers.specs.Numbers.{position_numbers, decode_answer, output_after, errors_after};
 ghost use Rattle.library_numbers.specs.Numbers.{described_numbers, encoded_numbers, words_numbers};
 ghost use Rattle.library_pieces.specs.Numbers.{open_numbers, body_of, step_numbers as piece_numbers};
-ghost use Rattle.library_built.specs.Numbers.{write_numbers, written_bytes, mark_numbers, read_numbers, count_numbers, ValueTold};
+ghost use Rattle.library_built.specs.Numbers.{written_bytes, ValueTold};
 ghost use Rattle.library_built.specs.Numbers.{broken_numbers, tally_numbers, mend_answer, mended_bytes, mended_list};
 ghost use Rattle.built_parts.specs.Feeding.{no_parts, feed_of, close_of, feed_memory, close_memory};
 ghost use Rattle.library_parts.specs.Numbers.{start_numbers as partsNumbers, parts_from, fed_numbers};
@@ -37,7 +37,7 @@ use library_pieces::{OpenNumbers, PieceNumbers};
 
 #[unsafe(no_mangle)]
 pub extern "C" fn galoxumi_check_utf8(doc: &[u8]) -> AnswerNumbers
-    ensures { result ≡ check_numbers (check_of doc.now) }
+    ensures { result ≡ done_numbers (check_of doc.now) }
 {
     galoxumi::galoxumi_check_utf8(doc)
 }
@@ -59,7 +59,7 @@ pub extern "C" fn galoxumi_step(doc: &[u8], place: usize, ended: usize, line: us
 
 #[unsafe(no_mangle)]
 pub extern "C" fn galoxumi_lex(doc: &[u8], records: &mut [[usize; 4]]) -> AnswerNumbers
-    ensures answer { result ≡ lex_numbers (lex_answer doc.now (length records.old)) }
+    ensures answer { result ≡ count_numbers (lex_answer doc.now (length records.old)) }
     ensures memory { records.new ≡ lex_memory doc.now records.old }
 {
     galoxumi::galoxumi_lex(doc, records)
@@ -67,7 +67,7 @@ pub extern "C" fn galoxumi_lex(doc: &[u8], records: &mut [[usize; 4]]) -> Answer
 
 #[unsafe(no_mangle)]
 pub extern "C" fn galoxumi_check_span(doc: &[u8], start: usize, end: usize) -> AnswerNumbers
-    ensures { result ≡ span_numbers (span_answer doc.now (span_of start end)) }
+    ensures { result ≡ done_numbers (span_answer doc.now (span_of start end)) }
 {
     galoxumi::galoxumi_check_span(doc, start, end)
 }
@@ -168,7 +168,7 @@ pub extern "C" fn galoxumi_error_words(error: usize, edition: usize, which: usiz
 
 #[unsafe(no_mangle)]
 pub extern "C" fn galoxumi_write_value(value: &[u8], output: &mut [u8]) -> AnswerNumbers
-    ensures answer { result ≡ write_numbers (write_answer value.now (length output.old)) }
+    ensures answer { result ≡ count_numbers (write_answer value.now (length output.old)) }
     ensures bytes { output.new ≡ written_bytes value.now output.old }
 {
     galoxumi::galoxumi_write_value(value, output)
@@ -216,7 +216,7 @@ pub extern "C" fn galoxumi_tick(
     token: usize,
 ) -> AnswerNumbers
     ensures answer { result
-        ≡ mark_numbers (mark_answer (length records.now) (length marks.old) reviewer token) }
+        ≡ done_numbers (mark_answer (length records.now) (length marks.old) reviewer token) }
     ensures memory { marks.new
         ≡ ticked_marks (length records.now) marks.old reviewer token }
 {
@@ -232,7 +232,7 @@ pub extern "C" fn galoxumi_untick(
     token: usize,
 ) -> AnswerNumbers
     ensures answer { result
-        ≡ mark_numbers (mark_answer (length records.now) (length marks.old) reviewer token) }
+        ≡ done_numbers (mark_answer (length records.now) (length marks.old) reviewer token) }
     ensures memory { marks.new
         ≡ unticked_marks (length records.now) marks.old reviewer token }
 {
@@ -248,7 +248,7 @@ pub extern "C" fn galoxumi_is_ticked(
     token: usize,
 ) -> AnswerNumbers
     ensures { result
-        ≡ read_numbers (read_answer (length records.now) marks.now reviewer token) }
+        ≡ flag_numbers (read_answer (length records.now) marks.now reviewer token) }
 {
     galoxumi::galoxumi_is_ticked(records, marks, reviewer, token)
 }

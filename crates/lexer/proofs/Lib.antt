@@ -1,7 +1,6 @@
 pub mod KindLaws
 pub mod LineLaws
 pub mod NextLaws
-pub mod TagLaws
 pub mod TokenLaws
 pub mod UntilLaws
 pub mod WholeLaws

@@ -5,6 +5,8 @@ use mathlib.Core.Path.{◌≡◌, refl, sym, ap, ◌∙◌}
 use mathlib.Core.Bool.{Bool, true, false, cond, not, ◌&&◌}
 use mathlib.Core.List.{List, [], ◌∷◌}
 use native.Mathlib.Omega.{arith}
+use Rattle.std.specs.Prelude.{count_by}
+use Rattle.std.proofs.lemmas.List.Recursion.{is_count_by}
 use native.Mathlib.Numerals.{add-one}
 use native.Mathlib.Decide.{dec_lt}
 use borrow.Author.Tests.{eq-eqb, ne_eqb, eqb-true, eqb-false}
@@ -55,6 +57,15 @@ feeds_le (b ∷ s) =
     cond_case (λ (n : ℕ). n + line_feeds s ≡ 0 + line_feeds (b ∷ s) → line_feeds (b ∷ s) ≤ suc (length s)) (eqb b 10)
     (λ _ k. omega arith) (λ _ k. omega arith) e
 
+-- counted one by one
+pub feeds_counted : (s : List ℕ) → line_feeds s ≡ count_by (λ (b : ℕ). eqb b 10) s
+unfolding line_feeds
+feeds_counted = is_count_by line_feeds (λ (b : ℕ). eqb b 10) refl (λ b s. go (eqb b 10) s)
+  where
+    go : (t : Bool) (s : List ℕ) → cond t (suc (line_feeds s)) (line_feeds s) ≡ cond t (1 + line_feeds s) (line_feeds s)
+    go true s = omega arith
+    go false s = refl
+
 -- a part and the rest
 pub feeds_split : (n : ℕ) (s : List ℕ) → line_feeds (take n s) + line_feeds (drop n s) ≡ line_feeds s
 feeds_split zero s = omega (arith, feeds_none)
@@ -79,26 +90,12 @@ feeds_between doc i j h = omega (arith, feeds_on doc i (j - i), feeds_from doc (
 
 -- ---- at a place
 
--- n LFs are counted before the byte at i, and m behind it: those counted and those still to come stay the same
-abbrev pub Counts : List ℕ → ℕ → ℕ → ℕ → Type 0
-Counts s i n m = (m ≤ n + 1) × (m + line_feeds (drop (i + 1) s) ≡ n + line_feeds (drop i s))
-
-module _ (s : List ℕ) (i : ℕ) (h : i < length s) where
-  split : drop i s ≡ get_or s i 0 ∷ drop (i + 1) s
-  split = rw (add-one, drop-cons s i 0)
-
-  pub feeds_at_lf : get_or s i 0 ≡ 10 → line_feeds (drop i s) ≡ suc (line_feeds (drop (i + 1) s))
-  feeds_at_lf e = rw split (lf_front (get_or s i 0) (drop (i + 1) s) e)
-
-  pub feeds_at_other : (get_or s i 0 ≡ 10 → ⊥) → line_feeds (drop i s) ≡ line_feeds (drop (i + 1) s)
-  feeds_at_other e = rw split (other_front (get_or s i 0) (drop (i + 1) s) e)
-
-  -- where `if byte == LF { n += 1; }` makes m of n, the LFs counted and those still to come stay the same
-  pub feeds_lf : (n m : ℕ) → get_or s i 0 ≡ 10 → m ≡ n + 1 → Counts s i n m
-  feeds_lf n m f e = (omega arith, omega (arith, feeds_at_lf f))
-
-  pub feeds_other : (n m : ℕ) → (get_or s i 0 ≡ 10 → ⊥) → m ≡ n → Counts s i n m
-  feeds_other n m f e = (omega arith, omega (arith, feeds_at_other f))
+-- a byte that is no LF
+feeds_at_other : (s : List ℕ) (i : ℕ) → i < length s → (get_or s i 0 ≡ 10 → ⊥)
+    → line_feeds (drop i s) ≡ line_feeds (drop (i + 1) s)
+feeds_at_other s i h e =
+    let split : drop i s ≡ get_or s i 0 ∷ drop (i + 1) s = rw (add-one, drop-cons s i 0 h) in
+    rw split (other_front (get_or s i 0) (drop (i + 1) s) e)
 
 pub feeds_end : (s : List ℕ) (i : ℕ) → length s ≤ i → line_feeds (drop i s) ≡ 0
 feeds_end s i h = rw (drop_of_length-le s h) feeds_none

@@ -1,6 +1,7 @@
 -- A step over a token, where one begins at the cursor, and one at the end of the document.
 -- Assumes nothing.
 use Prim.Native.Nat.{ℕ, ◌≤◌}
+use Rattle.std.specs.Prelude.{Ok, Some, None}
 use mathlib.Core.Path.{◌≡◌, sym, ap, ◌∙◌}
 use mathlib.Core.Bool.{true, false}
 use mathlib.Core.List.{List}
@@ -9,11 +10,9 @@ use native.Mathlib.Omega.{arith}
 use borrow.Author.Tests.{le-ltb, eq-eqb, ne_eqb}
 use Rattle.lexer_token.specs.declared.Token.{Token}
 use Rattle.lexer.specs.Tokens.{eof_at}
-use Rattle.lexer.specs.Steps.{cursor_of, step_within, step_of}
+use Rattle.lexer.specs.Steps.{cursor_of, Step, step_within, step_of}
 use Rattle.lexer.specs.Loops.{Before, step_over, next_at}
 use Rattle.lexer.specs.declared.Cursor.{Cursor}
-use Rattle.lexer.specs.declared.Step.{Step}
-use Rattle.lexer.specs.declared.Step.TheVariants.{Token as Over, End}
 use Rattle.lexer.specs.declared.Next.{Next}
 
 module _ (doc : List ℕ) (c : Cursor) (b : Before doc c) where
@@ -29,9 +28,9 @@ module _ (doc : List ℕ) (c : Cursor) (b : Before doc c) where
   stepped_over n r e f = f ∙ ap (λ (m : Next). step_over m c.ended) e ∙ sym step_before
 
 module _ (doc : List ℕ) (c : Cursor) (w : step_of doc c ≡ step_within doc c) (e : c.place ≡ length doc) where
-  pub step_end : c.ended ≡ true → End ≡ step_of doc c
+  pub step_end : c.ended ≡ true → Ok None ≡ step_of doc c
   step_end t = rw (w, eq-eqb _ _ e, t)
 
   pub step_eof : c.ended ≡ false → (t : Token) (n : Cursor) → t ≡ eof_at c.place c.line
-      → n ≡ cursor_of c.place c.line true → Over t n ≡ step_of doc c
+      → n ≡ cursor_of c.place c.line true → Ok (Some (t, n)) ≡ step_of doc c
   step_eof f t n p q = rw (p, q, w, eq-eqb _ _ e, f)

@@ -2,6 +2,7 @@
 -- answer is.
 -- Assumes nothing.
 use Prim.Native.Nat.{ℕ, ◌+◌, ◌≤◌, ◌<◌}
+use Rattle.std.specs.Prelude.{Ok, Err}
 use mathlib.Core.Path.{◌≡◌, refl, sym, ap, ◌∙◌}
 use mathlib.Core.List.{List, [], ◌∷◌, ◌++◌, map}
 use native.Mathlib.Omega.{arith}
@@ -11,14 +12,12 @@ use lib.Seq.{sets, length-sets}
 use Rattle.text.specs.CheckMeans.{check_of}
 use Rattle.text_refusals.specs.declared.Refusal.{Refusal}
 use Rattle.text_refusals.specs.declared.Refusal.TheVariants.{FewTokens}
-use Rattle.text.specs.declared.utf8.Utf8Check.TheVariants.{Valid, Refused as Broken}
 use Rattle.lexer_token.specs.declared.Token.{Token}
 use Rattle.lexer_token.specs.Records.{record_of}
 use Rattle.lexer.specs.Tokens.{eof_at, line_after, start_of}
 use Rattle.lexer.specs.Whole.{records_of, token_count, lex_answer, lex_memory}
 use Rattle.lexer.specs.Loops.{tokens_until, line_past, line_until, place_past, place_until, store, records_over}
 use Rattle.lexer.specs.declared.TokensPassed.{TokensPassed}
-use Rattle.lexer.specs.declared.Lexed.TheVariants.{Tokens, Refused}
 use Rattle.lexer.proofs.TokenLaws.{end_at, start_fits}
 use Rattle.lexer.proofs.UntilLaws.{eof_of, tokens_before, until_one, until_all, until_count, past_step, past_none, past_all, ends_step, ends_none, sets_last}
 
@@ -81,17 +80,17 @@ module _ (doc : List ℕ) (at line n : ℕ) (h : at < length doc) where
 -- ---- the answers
 
 module _ (doc : List ℕ) (old : List (List ℕ)) where
-  pub lex_broken : (r : Refusal) → check_of doc ≡ Broken r
-      → (Refused r ≡ lex_answer doc (length old)) × (old ≡ lex_memory doc old)
+  pub lex_broken : (r : Refusal) → check_of doc ≡ Err r
+      → (Err r ≡ lex_answer doc (length old)) × (old ≡ lex_memory doc old)
   unfolding lex_answer lex_memory
   lex_broken r e = (rw e, rw e)
 
-  pub lex_few : check_of doc ≡ Valid → length old < token_count doc
-      → (Refused (FewTokens (token_count doc)) ≡ lex_answer doc (length old)) × (old ≡ lex_memory doc old)
+  pub lex_few : check_of doc ≡ Ok tt → length old < token_count doc
+      → (Err (FewTokens (token_count doc)) ≡ lex_answer doc (length old)) × (old ≡ lex_memory doc old)
   unfolding lex_answer lex_memory
   lex_few e h = let t = lt-ltb (length old) (token_count doc) h in (rw (e, t), rw (e, t))
 
-  pub lex_answered : check_of doc ≡ Valid → token_count doc ≤ length old
-      → (Tokens (token_count doc) ≡ lex_answer doc (length old)) × (records_over doc old ≡ lex_memory doc old)
+  pub lex_answered : check_of doc ≡ Ok tt → token_count doc ≤ length old
+      → (Ok (token_count doc) ≡ lex_answer doc (length old)) × (records_over doc old ≡ lex_memory doc old)
   unfolding lex_answer lex_memory
   lex_answered e h = let t = le-ltb (length old) (token_count doc) h in (rw (e, t), rw (e, t))

@@ -1,7 +1,7 @@
 -- What the helpers promise: which tokens a loop passed and what it stored. None of it is a rule: no promise of a public
 -- function cites it.
 -- Assumes nothing.
-use Rattle.std.specs.Prelude.{ℕ, ◌+◌, ◌-◌, ◌≤◌, ◌<◌, ◌≡◌, Bool, cond, List, [], ◌∷◌, ◌++◌, map, length, take, drop, ltb}
+use Rattle.std.specs.Prelude.{ℕ, ◌+◌, ◌-◌, ◌≤◌, ◌<◌, ◌≡◌, Bool, cond, List, [], ◌∷◌, ◌++◌, map, length, take, drop, ltb, Ok, Some}
 use Rattle.std.proofs.lemmas.List.Edits.{sets}
 use Rattle.text_refusals.specs.Refusals.{limit}
 use Rattle.lexer_token.specs.declared.Token.{Token}
@@ -9,10 +9,8 @@ use Rattle.lexer_token.specs.Records.{record_of}
 use Rattle.lexer.specs.Lines.{line_feeds}
 use Rattle.lexer.specs.Tokens.{token_at, line_after, tokens_from}
 use Rattle.lexer.specs.Whole.{records_of, token_count}
-use Rattle.lexer.specs.Steps.{cursor_of}
+use Rattle.lexer.specs.Steps.{cursor_of, Step}
 use Rattle.lexer.specs.declared.Cursor.{Cursor}
-use Rattle.lexer.specs.declared.Step.{Step}
-use Rattle.lexer.specs.declared.Step.TheVariants.{Token as Over}
 use Rattle.lexer.specs.declared.Next.{Next}
 use Rattle.lexer.specs.declared.TokensPassed.{TokensPassed}
 
@@ -79,7 +77,7 @@ Before doc c = (length doc ≤ limit) × (c.place < length doc) × (c.line ≤ c
 
 -- the step over a token
 abbrev pub step_over : Next → Bool → Step
-step_over n ended = Over n.token (cursor_of n.token.span.end n.line ended)
+step_over n ended = Ok (Some (n.token, cursor_of n.token.span.end n.line ended))
 
 -- ---- records
 

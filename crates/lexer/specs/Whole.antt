@@ -1,13 +1,11 @@
 -- RULE. Whole lexing into lent records of four numbers.
-use Rattle.std.specs.Prelude.{ℕ}
+use Rattle.std.specs.Prelude.{ℕ, Result, Ok, Err, ⊤}
 use mathlib.Core.{Bool.cond, List.List, List.◌++◌, List.map}
 use lib.{ListN.length, ListN.drop, Dec.ltb}
 use Rattle.text.specs.{CheckMeans.check_of}
-use Rattle.text_refusals.specs.declared.{Refusal.TheVariants.FewTokens}
-use Rattle.text.specs.declared.{utf8.Utf8Check.Utf8Check, utf8.Utf8Check.TheVariants.Valid, utf8.Utf8Check.TheVariants.Refused as Broken}
+use Rattle.text_refusals.specs.declared.{Refusal.Refusal, Refusal.TheVariants.FewTokens}
 use Rattle.lexer_token.specs.{Records.record_of}
 use Rattle.lexer.specs.{Tokens.tokens_of}
-use Rattle.lexer.specs.declared.{Lexed.Lexed, Lexed.TheVariants.Tokens, Lexed.TheVariants.Refused}
 
 -- the records of a document
 unfoldable pub records_of : List ℕ → List (List ℕ)
@@ -19,17 +17,17 @@ token_count doc = length (tokens_of doc)
 
 -- refusals 2 and 1, which are the UTF-8 check's; then 3 with the tokens needed where fewer records are lent; else the
 -- count of tokens
-abbrev pub lex_checked : Utf8Check → List ℕ → ℕ → Lexed
-lex_checked (Broken r) doc room = Refused r
-lex_checked Valid doc room = cond (ltb room (token_count doc)) (Refused (FewTokens (token_count doc))) (Tokens (token_count doc))
+abbrev pub lex_checked : Result ⊤ Refusal → List ℕ → ℕ → Result ℕ Refusal
+lex_checked (Err r) doc room = Err r
+lex_checked (Ok _) doc room = cond (ltb room (token_count doc)) (Err (FewTokens (token_count doc))) (Ok (token_count doc))
 
-unfoldable pub lex_answer : List ℕ → ℕ → Lexed
+unfoldable pub lex_answer : List ℕ → ℕ → Result ℕ Refusal
 lex_answer doc room = lex_checked (check_of doc) doc room
 
 -- the records afterwards: filled from the front, those after the last written kept; all kept where refused
-abbrev pub memory_checked : Utf8Check → List ℕ → List (List ℕ) → List (List ℕ)
-memory_checked (Broken r) doc old = old
-memory_checked Valid doc old = cond (ltb (length old) (token_count doc)) old (records_of doc ++ drop (token_count doc) old)
+abbrev pub memory_checked : Result ⊤ Refusal → List ℕ → List (List ℕ) → List (List ℕ)
+memory_checked (Err r) doc old = old
+memory_checked (Ok _) doc old = cond (ltb (length old) (token_count doc)) old (records_of doc ++ drop (token_count doc) old)
 
 unfoldable pub lex_memory : List ℕ → List (List ℕ) → List (List ℕ)
 lex_memory doc old = memory_checked (check_of doc) doc old

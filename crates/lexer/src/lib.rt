@@ -1,25 +1,23 @@
-// The lexer: a document's tokens one at a time, by a cursor, or all at once, into lent records; by either of two engines, which
+// The lexer: a document's tokens one at a time, by a cursor, or all at once, into lent records; by any engine: engines
 // differ in how they read a token's bytes and in nothing else. Rules: specs/Lines.antt, Table.antt, Tokens.antt, Steps.antt, Whole.antt.
 #![tactic(auto)]
 
 mod lines;
-mod table;
 
 ghost use Rattle.std.specs.Prelude.{◌≡◌, true, false, ◌+◌, ◌≤◌, ◌<◌, length, drop, get_or};
-ghost use Rattle.text.specs.Told.{check_fault};
+ghost use Rattle.text_refusals.specs.Told.{told_number, told_value, told_length, told_count};
 ghost use Rattle.lexer_token.specs.Records.{token_of};
 ghost use Rattle.lexer.specs.Lines.{line_of};
 ghost use Rattle.lexer.specs.Tokens.{has_bom, start_of, token_by, line_after};
 ghost use Rattle.lexer.specs.Table.{kind_of};
 ghost use Rattle.lexer.specs.Steps.{cursor_of, start_answer};
-ghost use Rattle.lexer.specs.Told.{start_number, start_value, start_refusal, start_returned, step_number, step_value, step_refusal, step_returned, lexed_number, lexed_value, lexed_length, lex_refusal, lex_returned};
+ghost use Rattle.lexer.specs.Told.{start_refusal, start_returned, step_refusal, step_returned, lex_refusal, lex_returned, lex_fault};
 ghost use Rattle.lexer.specs.Steps.{step_of};
 ghost use Rattle.lexer.specs.Whole.{token_count, lex_answer, lex_memory};
 ghost use Rattle.lexer.specs.Loops.{TokenStands, GoesOn, Before, step_over, next_of, next_at, tokens_until, line_until, store, records_over};
 
 use lexer_token::{Record, Span, Token, TokenKind};
-use table_classes::Engine;
-use text::Utf8Check;
+pub use lines::line_feeds;
 use text_classes::{APOSTROPHE, COMMENT_START_SYMBOL, QUOTATION_MARK, is_at, is_triple};
 use text_refusals::{LIMIT, Refusal};
 
@@ -31,70 +29,42 @@ pub struct Cursor {
     pub ended: bool,
 }
 
-// What a start answers.
-#[derive(Clone, Copy)]
-pub enum Start {
-    At(Cursor),
-    Refused(Refusal),
-}
-
-// What a step answers: a token and the next cursor, the end, or why there is neither.
-#[derive(Clone, Copy)]
-pub enum Step {
-    Token(Token, Cursor),
-    End,
-    Refused(Refusal),
-}
-
-// What whole lexing answers: how many tokens, Eof counted.
-#[derive(Clone, Copy)]
-pub enum Lexed {
-    Tokens(usize),
-    Refused(Refusal),
-}
-
 impl Cursor {
     // The starting cursor: past a byte order mark, on line 1, not ended.
-    pub fn start(doc: &[u8]) -> Start
+    pub fn start(doc: &[u8]) -> Result<Cursor, Refusal>
         ensures answer { result ≡ start_answer doc.now }
-        ensures number { start_number result ≡ start_refusal doc.now }
-        ensures value { start_value result ≡ start_returned doc.now }
+        ensures number { told_number result ≡ start_refusal doc.now }
+        ensures value { told_value result ≡ start_returned doc.now }
     {
         if LIMIT < doc.len() {
-            return Start::Refused(Refusal::TooLong);
+            return Err(Refusal::TooLong);
         }
-        Start::At(Cursor {
+        Ok(Cursor {
             place: start_of(doc),
             line: 1,
             ended: false,
         })
     }
 
-    // One token at the cursor, with the next cursor.
-    pub fn step(self, doc: &[u8]) -> Step
+    // One token at the cursor, with the next cursor; none after Eof.
+    pub fn step(self, doc: &[u8]) -> Result<Option<(Token, Cursor)>, Refusal>
         ensures answer { result ≡ step_of doc.now self }
-        ensures number { step_number result ≡ step_refusal doc.now self }
-        ensures value { step_value result ≡ step_returned doc.now self }
+        ensures number { told_number result ≡ step_refusal doc.now self }
+        ensures value { told_value result ≡ step_returned doc.now self }
     {
-        if self.is_before_the_end(doc) {
-            return step_of(token_at(doc, self.place, self.line), self.ended);
-        }
-        self.step_at_the_end(doc)
+        self.step_by::<Ranges>(doc)
     }
 
-    // The same, by either engine: for calls that walk a document themselves. `step` is for a caller that
-    // is handed one token, and is compiled into it, with `token_at`: both have that one caller, and `step_by` has the others.
-    pub fn step_by(self, engine: Engine, doc: &[u8]) -> Step
+    // The same by any engine. It is compiled into its callers: `step` is for one that is handed a token at a time, and the calls that
+    // walk a document themselves have it in their loops.
+    #[inline(always)]
+    pub fn step_by<E: StepEngine>(self, doc: &[u8]) -> Result<Option<(Token, Cursor)>, Refusal>
         ensures answer { result ≡ step_of doc.now self }
-        ensures number { step_number result ≡ step_refusal doc.now self }
-        ensures value { step_value result ≡ step_returned doc.now self }
+        ensures number { told_number result ≡ step_refusal doc.now self }
+        ensures value { told_value result ≡ step_returned doc.now self }
     {
-        let table = is_table(engine);
         if self.is_before_the_end(doc) {
-            if table {
-                return step_of(table::table_token(doc, self.place, self.line), self.ended);
-            }
-            return step_of(token_apart(doc, self.place, self.line), self.ended);
+            return step_of(E::step_token(doc, self.place, self.line), self.ended);
         }
         self.step_at_the_end(doc)
     }
@@ -115,44 +85,36 @@ impl Cursor {
         false
     }
 
-    fn step_at_the_end(self, doc: &[u8]) -> Step
+    fn step_at_the_end(self, doc: &[u8]) -> Result<Option<(Token, Cursor)>, Refusal>
         requires { Before doc.now self → ⊥ }
         ensures answer { result ≡ step_of doc.now self }
-        ensures number { step_number result ≡ step_refusal doc.now self }
-        ensures value { step_value result ≡ step_returned doc.now self }
+        ensures number { told_number result ≡ step_refusal doc.now self }
+        ensures value { told_value result ≡ step_returned doc.now self }
     {
         if LIMIT < doc.len() {
-            return Step::Refused(Refusal::TooLong);
+            return Err(Refusal::TooLong);
         }
         if doc.len() < self.place {
-            return Step::Refused(Refusal::OutOfPlace { length: doc.len() });
+            return Err(Refusal::OutOfPlace { length: doc.len() });
         }
         if self.place + 1 < self.line {
-            return Step::Refused(Refusal::OutOfPlace { length: doc.len() });
+            return Err(Refusal::OutOfPlace { length: doc.len() });
         }
         if self.ended {
-            return Step::End;
+            return Ok(None);
         }
         let eof = token_of(TokenKind::Eof, self.place, self.place, self.line);
-        Step::Token(eof, cursor_of(self.place, self.line, true))
+        Ok(Some((eof, cursor_of(self.place, self.line, true))))
     }
 }
 
 // The step over a token: the next cursor stands after it.
-fn step_of(next: Next, ended: bool) -> Step
+fn step_of(next: Next, ended: bool) -> Result<Option<(Token, Cursor)>, Refusal>
     ensures { result ≡ step_over next ended }
 {
     let token = next.token;
     let end = token.span.end;
-    Step::Token(token, cursor_of(end, next.line, ended))
-}
-
-// The engine as a bool, which is passed by value: so the compiler sees which of the two a library has, and leaves the other one out.
-fn is_table(engine: Engine) -> bool {
-    match engine {
-        Engine::Ranges => false,
-        Engine::Table => true,
-    }
+    Ok(Some((token, cursor_of(end, next.line, ended))))
 }
 
 fn cursor_of(place: usize, line: usize, ended: bool) -> Cursor
@@ -161,55 +123,49 @@ fn cursor_of(place: usize, line: usize, ended: bool) -> Cursor
     Cursor { place, line, ended }
 }
 
-// Whole lexing: every token into the lent records, from the front.
-pub fn lex(doc: &[u8], records: &mut [Record]) -> Lexed
+// Whole lexing: every token into the lent records, from the front; how many, Eof counted.
+pub fn lex(doc: &[u8], records: &mut [Record]) -> Result<usize, Refusal>
     ensures answer { result ≡ lex_answer doc.now (length records.old) }
-    ensures number { lexed_number result ≡ lex_refusal doc.now (length records.old) }
-    ensures value { lexed_value result ≡ lex_returned doc.now }
-    ensures length { lexed_length result ≡ check_fault doc.now }
+    ensures number { told_number result ≡ lex_refusal doc.now (length records.old) }
+    ensures value { told_count result ≡ lex_returned doc.now }
+    ensures length { told_length result ≡ lex_fault doc.now }
     ensures memory { records.new ≡ lex_memory doc.now records.old }
 {
-    lex_by(Engine::Ranges, doc, records)
+    lex_by::<Ranges>(doc, records)
 }
 
-// The same by either engine.
-pub fn lex_by(engine: Engine, doc: &[u8], records: &mut [Record]) -> Lexed
+// The same by any engine.
+pub fn lex_by<E: Engine>(doc: &[u8], records: &mut [Record]) -> Result<usize, Refusal>
     ensures answer { result ≡ lex_answer doc.now (length records.old) }
-    ensures number { lexed_number result ≡ lex_refusal doc.now (length records.old) }
-    ensures value { lexed_value result ≡ lex_returned doc.now }
-    ensures length { lexed_length result ≡ check_fault doc.now }
+    ensures number { told_number result ≡ lex_refusal doc.now (length records.old) }
+    ensures value { told_count result ≡ lex_returned doc.now }
+    ensures length { told_length result ≡ lex_fault doc.now }
     ensures memory { records.new ≡ lex_memory doc.now records.old }
 {
-    let table = is_table(engine);
-    if let Utf8Check::Refused(refusal) = text::check_utf8(doc) {
-        return Lexed::Refused(refusal);
-    }
+    text::check_utf8(doc)?;
     // No document has more tokens than bytes and one: so many records need no counting.
     if doc.len() < records.len() {
-        return Lexed::Tokens(fill(table, doc, records));
+        return Ok(fill::<E>(doc, records));
     }
-    let needed = count(table, doc);
+    let needed = count::<E>(doc);
     if records.len() < needed {
-        return Lexed::Refused(Refusal::FewTokens { needed });
+        return Err(Refusal::FewTokens { needed });
     }
-    Lexed::Tokens(fill(table, doc, records))
+    Ok(fill::<E>(doc, records))
 }
 
 // How many tokens the document has, Eof counted: in parts of 64 bytes, whose records are let go.
-fn count(table: bool, doc: &[u8]) -> usize
+fn count<E: Engine>(doc: &[u8]) -> usize
     ensures { result ≡ token_count doc.now }
 {
     let mut spare = [[0usize; 4]; 64];
     let mut at = start_of(doc);
     let mut line: usize = 1;
     let mut passed: usize = 0;
+    // no iterator: a part ends where its last token does
     while at < doc.len() {
-        let stop = if 64 < doc.len() - at {
-            at + 64
-        } else {
-            doc.len()
-        };
-        let part = lex_until(table, doc, at, line, stop, &mut spare);
+        let stop = doc.len().min(at + 64);
+        let part = lex_until::<E>(doc, at, line, stop, &mut spare);
         passed += part.count;
         line = part.line;
         at = part.place;
@@ -218,12 +174,12 @@ fn count(table: bool, doc: &[u8]) -> usize
 }
 
 // The tokens into records that are enough: how many.
-fn fill(table: bool, doc: &[u8], records: &mut [Record]) -> usize
+fn fill<E: Engine>(doc: &[u8], records: &mut [Record]) -> usize
     requires { token_count doc.now ≤ length records.old }
     ensures count { result ≡ token_count doc.now }
     ensures memory { records.new ≡ records_over doc.now records.old }
 {
-    let all = lex_until(table, doc, start_of(doc), 1, doc.len(), records);
+    let all = lex_until::<E>(doc, start_of(doc), 1, doc.len(), records);
     let n = all.count;
     records[n] = token_of(TokenKind::Eof, doc.len(), doc.len(), all.line).as_record();
     n + 1
@@ -231,83 +187,103 @@ fn fill(table: bool, doc: &[u8], records: &mut [Record]) -> usize
 
 // A token, and the line after it.
 #[derive(Clone, Copy)]
-struct Next {
-    token: Token,
-    line: usize,
+pub struct Next {
+    pub token: Token,
+    pub line: usize,
 }
 
-// One token for a step. What is soon read is read here, without the loop of `lex_until`, which sets up more before its
-// first token than such a token costs.
-fn token_at(doc: &[u8], at: usize, line: usize) -> Next
-    requires { (at < length doc.now) × (line ≤ at + 1) }
-    ensures { result ≡ next_at at line (drop at doc.now) }
-{
-    let b = doc[at];
-    match b {
-        b'.' => same_line(lex_ascii_char(doc, at, line, TokenKind::Dot)),
-        b'=' => same_line(lex_ascii_char(doc, at, line, TokenKind::Equals)),
-        b',' => same_line(lex_ascii_char(doc, at, line, TokenKind::Comma)),
-        b'[' => same_line(lex_ascii_char(doc, at, line, TokenKind::LeftSquareBracket)),
-        b']' => same_line(lex_ascii_char(doc, at, line, TokenKind::RightSquareBracket)),
-        b'{' => same_line(lex_ascii_char(doc, at, line, TokenKind::LeftCurlyBracket)),
-        b'}' => same_line(lex_ascii_char(doc, at, line, TokenKind::RightCurlyBracket)),
-        b' ' => same_line(lex_whitespace(doc, at, line)),
-        b'\t' => same_line(lex_whitespace(doc, at, line)),
-        COMMENT_START_SYMBOL => by_loop(doc, at, line, TokenKind::Comment),
-        b'\r' => by_loop(doc, at, line, TokenKind::Newline),
-        b'\n' => lex_lf(doc, at, line),
-        APOSTROPHE => {
-            if is_triple(doc, at, APOSTROPHE) {
-                by_loop(doc, at, line, TokenKind::MlLiteralString)
-            } else {
-                by_loop(doc, at, line, TokenKind::LiteralString)
-            }
-        }
-        QUOTATION_MARK => {
-            if is_triple(doc, at, QUOTATION_MARK) {
-                by_loop(doc, at, line, TokenKind::MlBasicString)
-            } else {
-                by_loop(doc, at, line, TokenKind::BasicString)
-            }
-        }
-        _ => same_line(lex_atom(doc, at, line)),
+// How a token's bytes are read in the loop over a document, into which it is compiled: the token that begins at a place of the
+// document, and the line after it.
+// Document, place and line stay parameters: a struct of them holds a reference, and clauses would say `here.entry.at` for `at`.
+pub trait Engine {
+    fn token(doc: &[u8], at: usize, line: usize) -> Next
+        requires { (at < length doc.now) × (line ≤ at + 1) }
+        ensures { result ≡ next_at at line (drop at doc.now) };
+}
+
+// And in one step, the same token. A trait of its own: that of `Ranges` goes over some tokens by the loop, which stands on `Engine`.
+pub trait StepEngine: Engine {
+    fn step_token(doc: &[u8], at: usize, line: usize) -> Next
+        requires { (at < length doc.now) × (line ≤ at + 1) }
+        ensures { result ≡ next_at at line (drop at doc.now) }
+    {
+        Self::token(doc, at, line)
     }
 }
 
-// The same for `step_by`: a function of its own, since `token_at` would no longer be compiled into `step` if it had a second caller.
-fn token_apart(doc: &[u8], at: usize, line: usize) -> Next
-    requires { (at < length doc.now) × (line ≤ at + 1) }
-    ensures { result ≡ next_at at line (drop at doc.now) }
-{
-    let b = doc[at];
-    match b {
-        b'.' => same_line(lex_ascii_char(doc, at, line, TokenKind::Dot)),
-        b'=' => same_line(lex_ascii_char(doc, at, line, TokenKind::Equals)),
-        b',' => same_line(lex_ascii_char(doc, at, line, TokenKind::Comma)),
-        b'[' => same_line(lex_ascii_char(doc, at, line, TokenKind::LeftSquareBracket)),
-        b']' => same_line(lex_ascii_char(doc, at, line, TokenKind::RightSquareBracket)),
-        b'{' => same_line(lex_ascii_char(doc, at, line, TokenKind::LeftCurlyBracket)),
-        b'}' => same_line(lex_ascii_char(doc, at, line, TokenKind::RightCurlyBracket)),
-        b' ' => same_line(lex_whitespace(doc, at, line)),
-        b'\t' => same_line(lex_whitespace(doc, at, line)),
-        COMMENT_START_SYMBOL => by_loop(doc, at, line, TokenKind::Comment),
-        b'\r' => by_loop(doc, at, line, TokenKind::Newline),
-        b'\n' => lex_lf(doc, at, line),
-        APOSTROPHE => {
-            if is_triple(doc, at, APOSTROPHE) {
-                by_loop(doc, at, line, TokenKind::MlLiteralString)
-            } else {
-                by_loop(doc, at, line, TokenKind::LiteralString)
+// The engine that tests ranges of bytes.
+pub struct Ranges;
+
+impl Engine for Ranges {
+    #[inline(always)]
+    fn token(doc: &[u8], at: usize, line: usize) -> Next {
+        let b = doc[at];
+        match b {
+            b'.' => same_line(lex_ascii_char(doc, at, line, TokenKind::Dot)),
+            b'=' => same_line(lex_ascii_char(doc, at, line, TokenKind::Equals)),
+            b',' => same_line(lex_ascii_char(doc, at, line, TokenKind::Comma)),
+            b'[' => same_line(lex_ascii_char(doc, at, line, TokenKind::LeftSquareBracket)),
+            b']' => same_line(lex_ascii_char(doc, at, line, TokenKind::RightSquareBracket)),
+            b'{' => same_line(lex_ascii_char(doc, at, line, TokenKind::LeftCurlyBracket)),
+            b'}' => same_line(lex_ascii_char(doc, at, line, TokenKind::RightCurlyBracket)),
+            b' ' => same_line(lex_whitespace(doc, at, line)),
+            b'\t' => same_line(lex_whitespace(doc, at, line)),
+            COMMENT_START_SYMBOL => same_line(lex_comment(doc, at, line)),
+            b'\r' => lex_crlf(doc, at, line),
+            b'\n' => lex_lf(doc, at, line),
+            APOSTROPHE => {
+                if is_triple(doc, at, APOSTROPHE) {
+                    over_lines(doc, lex_ml_literal_string(doc, at, line))
+                } else {
+                    same_line(lex_literal_string(doc, at, line))
+                }
             }
-        }
-        QUOTATION_MARK => {
-            if is_triple(doc, at, QUOTATION_MARK) {
-                by_loop(doc, at, line, TokenKind::MlBasicString)
-            } else {
-                by_loop(doc, at, line, TokenKind::BasicString)
+            QUOTATION_MARK => {
+                if is_triple(doc, at, QUOTATION_MARK) {
+                    over_lines(doc, lex_ml_basic_string(doc, at, line))
+                } else {
+                    same_line(lex_basic_string(doc, at, line))
+                }
             }
+            _ => same_line(lex_atom(doc, at, line)),
         }
-        _ => same_line(lex_atom(doc, at, line)),
+    }
+}
+
+impl StepEngine for Ranges {
+    // What is soon read is read here: the loop of `lex_until` sets up more before its first token than such a token costs.
+    #[inline(always)]
+    fn step_token(doc: &[u8], at: usize, line: usize) -> Next {
+        let b = doc[at];
+        match b {
+            b'.' => same_line(lex_ascii_char(doc, at, line, TokenKind::Dot)),
+            b'=' => same_line(lex_ascii_char(doc, at, line, TokenKind::Equals)),
+            b',' => same_line(lex_ascii_char(doc, at, line, TokenKind::Comma)),
+            b'[' => same_line(lex_ascii_char(doc, at, line, TokenKind::LeftSquareBracket)),
+            b']' => same_line(lex_ascii_char(doc, at, line, TokenKind::RightSquareBracket)),
+            b'{' => same_line(lex_ascii_char(doc, at, line, TokenKind::LeftCurlyBracket)),
+            b'}' => same_line(lex_ascii_char(doc, at, line, TokenKind::RightCurlyBracket)),
+            b' ' => same_line(lex_whitespace(doc, at, line)),
+            b'\t' => same_line(lex_whitespace(doc, at, line)),
+            COMMENT_START_SYMBOL => by_loop(doc, at, line, TokenKind::Comment),
+            b'\r' => by_loop(doc, at, line, TokenKind::Newline),
+            b'\n' => lex_lf(doc, at, line),
+            APOSTROPHE => {
+                if is_triple(doc, at, APOSTROPHE) {
+                    by_loop(doc, at, line, TokenKind::MlLiteralString)
+                } else {
+                    by_loop(doc, at, line, TokenKind::LiteralString)
+                }
+            }
+            QUOTATION_MARK => {
+                if is_triple(doc, at, QUOTATION_MARK) {
+                    by_loop(doc, at, line, TokenKind::MlBasicString)
+                } else {
+                    by_loop(doc, at, line, TokenKind::BasicString)
+                }
+            }
+            _ => same_line(lex_atom(doc, at, line)),
+        }
     }
 }
 
@@ -317,7 +293,7 @@ fn by_loop(doc: &[u8], at: usize, line: usize, kind: TokenKind) -> Next
     ensures { result ≡ next_at at line (drop at doc.now) }
 {
     let mut one = [[0usize; 4]; 1];
-    let passed = lex_until(false, doc, at, line, at + 1, &mut one);
+    let passed = lex_until::<Ranges>(doc, at, line, at + 1, &mut one);
     next_of(token_of(kind, at, passed.place, line), passed.line)
 }
 
@@ -330,9 +306,8 @@ struct TokensPassed {
 }
 
 // The tokens that begin at `start` or after it, and before `stop`: how many, each written into its
-// record. The only caller of `token_by`, and so of `process_token`, which is compiled into this loop.
-fn lex_until(
-    table: bool,
+// record.
+fn lex_until<E: Engine>(
     doc: &[u8],
     start: usize,
     first: usize,
@@ -348,8 +323,9 @@ fn lex_until(
     let mut at = start;
     let mut line = first;
     let mut n: usize = 0;
+    // no iterator: a turn goes over a token, as far as it reaches
     while at < stop {
-        let next = token_by(table, doc, at, line);
+        let next = E::token(doc, at, line);
         let token = next.token;
         records[n] = token.as_record();
         n += 1;
@@ -360,18 +336,6 @@ fn lex_until(
         count: n,
         place: at,
         line,
-    }
-}
-
-// One token for the loop, by the table or not.
-fn token_by(table: bool, doc: &[u8], at: usize, line: usize) -> Next
-    requires { (at < length doc.now) × (line ≤ at + 1) }
-    ensures { result ≡ next_at at line (drop at doc.now) }
-{
-    if table {
-        table::table_token(doc, at, line)
-    } else {
-        process_token(doc, at, line)
     }
 }
 
@@ -386,62 +350,20 @@ pub fn start_of(doc: &[u8]) -> usize
 pub fn line_of(doc: &[u8], offset: usize) -> usize
     ensures { result ≡ line_of doc.now offset }
 {
-    let end = if offset < doc.len() {
-        offset
-    } else {
-        doc.len()
-    };
-    1 + lines::line_feeds(doc, 0, end)
+    1 + line_feeds(&doc[..offset.min(doc.len())])
 }
 
 // BOM
 fn has_bom(doc: &[u8]) -> bool
     ensures { result ≡ has_bom doc.now }
 {
-    is_at(doc, 0, 0xEF) && (is_at(doc, 1, 0xBB) && is_at(doc, 2, 0xBF))
+    doc.starts_with(b"\xEF\xBB\xBF")
 }
 
 fn token_of(kind: TokenKind, start: usize, end: usize, line: usize) -> Token
     ensures { result ≡ token_of kind start end line }
 {
     Token::new(kind, Span::new(start, end), line)
-}
-
-// The token that begins at a place of the document, by the byte there, and the line after it.
-fn process_token(doc: &[u8], at: usize, line: usize) -> Next
-    requires { (at < length doc.now) × (line ≤ at + 1) }
-    ensures { result ≡ next_at at line (drop at doc.now) }
-{
-    let b = doc[at];
-    match b {
-        b'.' => same_line(lex_ascii_char(doc, at, line, TokenKind::Dot)),
-        b'=' => same_line(lex_ascii_char(doc, at, line, TokenKind::Equals)),
-        b',' => same_line(lex_ascii_char(doc, at, line, TokenKind::Comma)),
-        b'[' => same_line(lex_ascii_char(doc, at, line, TokenKind::LeftSquareBracket)),
-        b']' => same_line(lex_ascii_char(doc, at, line, TokenKind::RightSquareBracket)),
-        b'{' => same_line(lex_ascii_char(doc, at, line, TokenKind::LeftCurlyBracket)),
-        b'}' => same_line(lex_ascii_char(doc, at, line, TokenKind::RightCurlyBracket)),
-        b' ' => same_line(lex_whitespace(doc, at, line)),
-        b'\t' => same_line(lex_whitespace(doc, at, line)),
-        COMMENT_START_SYMBOL => same_line(lex_comment(doc, at, line)),
-        b'\r' => lex_crlf(doc, at, line),
-        b'\n' => lex_lf(doc, at, line),
-        APOSTROPHE => {
-            if is_triple(doc, at, APOSTROPHE) {
-                over_lines(doc, lex_ml_literal_string(doc, at, line))
-            } else {
-                same_line(lex_literal_string(doc, at, line))
-            }
-        }
-        QUOTATION_MARK => {
-            if is_triple(doc, at, QUOTATION_MARK) {
-                over_lines(doc, lex_ml_basic_string(doc, at, line))
-            } else {
-                same_line(lex_basic_string(doc, at, line))
-            }
-        }
-        _ => same_line(lex_atom(doc, at, line)),
-    }
 }
 
 fn next_of(token: Token, line: usize) -> Next

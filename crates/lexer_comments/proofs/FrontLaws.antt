@@ -1,10 +1,11 @@
 -- What going over a comment keeps, and that its text is UTF-8 where whole characters stand up to its end.
 -- Assumes nothing.
-use Rattle.std.proofs.Common.{◌≡◌, ℕ, zero, suc, ◌+◌, ◌-◌, ◌%◌, ◌^◌, ◌<◌, ◌≤◌, Bool, true, false, ltb, leb, List, [], ◌∷◌, length, get_or, take, drop, refl, ap, ◌∙◌, inl, inr, add-zero, arith, length-drop, length-take-le, get_or-drop, get_or-take, take-take, drop-drop, ltb-true, lt-ltb, ne_eqb, le-leb, leb-true}
+use Rattle.std.proofs.Common.{◌≡◌, ℕ, zero, suc, Some, ◌+◌, ◌-◌, ◌%◌, ◌^◌, ◌<◌, ◌≤◌, Bool, true, false, ltb, leb, List, [], ◌∷◌, length, get_or, take, drop, refl, ap, ◌∙◌, inl, inr, add-zero, arith, length-drop, length-take-le, get_or-drop, get_or-take, take-take, drop-drop, ltb-true, lt-ltb, ne_eqb, le-leb, leb-true}
 use native.Mathlib.Decide.{dec_lt}
 use lib.ListN.{get_or-eq_default}
 use Rattle.text_classes.specs.Runs.{run}
 use Rattle.text_classes.proofs.Conds.{both_left, both_right, not_both}
+use Rattle.text_classes.proofs.ByteTable.{classes_agree}
 use Rattle.text_classes.proofs.RunLaws.{SameEnd, run_le, run_step, run_stop, run_halts, same_end_start, same_end_byte}
 use Rattle.text_scalars.specs.Utf8.{Utf8}
 use Rattle.text_scalars.specs.Utf8Read.{Along, valid_prefix}
@@ -31,8 +32,8 @@ own_on : (b : ℕ) → own_byte b ≡ true → in_comment b ≡ true
 own_on b e = on_from b (leb-true 0x0E b (both_left (leb 0x0E b) (ltb b 0x80) e))
 
 -- the sum by which it is told
-pub own_sum : (b sum : ℕ) → b < 2 ^ 8 → sum ≡ (b + 0x80) % 2 ^ 8 → 0x8E ≤ sum → own_byte b ≡ true
-own_sum b sum byte is h = own_of b (omega arith) (omega arith)
+pub own_sum : (b sum : ℕ) → b < 2 ^ 8 → sum ≡ (b + 0x80) % 2 ^ 8 → leb 0x8E sum ≡ own_byte b
+own_sum b sum byte is = ap (leb 0x8E) is ∙ classes_agree (λ n. leb 0x8E ((n + 0x80) % 2 ^ 8)) own_byte 0 256 tt b (omega arith) byte
 
 -- ---- going over it
 
@@ -86,10 +87,10 @@ module _ (doc : List ℕ) (start : ℕ) where
       (same_end_byte in_comment doc start i (omega arith) first same))
 
   -- over a character beyond ASCII
-  pub wide_over : (i n : ℕ) → 0 < n → WideAt doc i n → Fronted doc start i → Fronted doc start (i + n)
-  wide_over i n some wide to =
-      let fits = (wide some).0 in
-      let char = (wide some).1 in
+  pub wide_over : (i n : ℕ) → WideAt doc i (Some n) → Fronted doc start i → Fronted doc start (i + n)
+  wide_over i n wide to =
+      let fits = wide.0 in
+      let char = wide.1 in
       record {
         along = along_whole doc start i n fits char to.along;
         same = same_over n i fits (λ k h. on_from (get_or doc (i + k) 0) (omega (arith, wide_high doc i n k char h))) to.same;
@@ -99,7 +100,7 @@ module _ (doc : List ℕ) (start : ℕ) where
   pub twos_over : (i : ℕ) → i + 4 ≤ length doc → CharacterAt doc i 2 → CharacterAt doc (i + 2) 2 → Fronted doc start i → Fronted doc start (i + 4)
   twos_over i h one two to =
       let next : i + 2 + 2 ≡ i + 4 = omega arith in
-      rw next at (wide_over (i + 2) 2 (omega arith) (λ _. (omega arith, two)) (wide_over i 2 (omega arith) (λ _. (omega arith, one)) to))
+      rw next at (wide_over (i + 2) 2 (omega arith, two) (wide_over i 2 (omega arith, one) to))
 
 -- ---- a character of two bytes, told by their ranges
 

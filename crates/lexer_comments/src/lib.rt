@@ -1,16 +1,19 @@
 // A comment's bytes, looked at for where it ends and for UTF-8 at the same time: of most comments one look tells both.
 #![tactic(auto)]
 
-ghost use Rattle.std.specs.Prelude.{◌≡◌, ℕ, ◌+◌, ◌<◌, ◌≤◌, true, false, length, drop};
+ghost use Rattle.std.specs.Prelude.{◌≡◌, ℕ, ◌≤◌, true, length, drop};
+ghost use Rattle.std.proofs.Common.{refl, ltb-true};
 ghost use Rattle.text_classes.specs.Runs.{run};
-ghost use Rattle.text_classes.proofs.RunLaws.{Block};
 ghost use Rattle.text_characters.specs.Lead.{Character};
 ghost use Rattle.lexer_scans.specs.Extents.{in_comment};
+ghost use Rattle.lexer_scans.specs.Scans.{GoesOn};
 ghost use Rattle.lexer_comments.specs.Fronts.{own_byte, Fronted, Onward};
 
+use lexer_scans::{Passed, find_in_blocks};
 use std::num::wrapping_add_u8;
 use text_ascii::is_ascii_word;
 use text_characters::{is_among, wide_at};
+use text_classes::ByteSet;
 
 // From `start` on, over whole characters: a place up to which the comment goes on and is UTF-8. ASCII is passed over in blocks; where a block
 // meets something else characters are taken one by one, since others like it are often near.
@@ -18,6 +21,7 @@ pub fn comment_front(doc: &[u8], start: usize) -> usize
     ensures { start ≤ length doc.now → Fronted doc.now start result }
 {
     let mut i = start;
+    // no iterator: a turn goes over whole blocks, and then over characters
     loop {
         i = own_blocks(doc, i);
         if is_comment_end(doc, i) {
@@ -41,10 +45,7 @@ pub fn is_comment_end(doc: &[u8], i: usize) -> bool
     if doc.len() <= i {
         return true;
     }
-    match doc[i] {
-        b'\r' | b'\n' => true,
-        _ => false,
-    }
+    matches!(doc[i], b'\r' | b'\n')
 }
 
 // Over own bytes and characters beyond ASCII while four bytes are left to be read, up to eight bytes of ASCII in a row, over which a block
@@ -57,13 +58,14 @@ fn own_chars(doc: &[u8], start: usize) -> usize
     }
     let last = doc.len() - 4;
     let mut i = start;
+    // no iterator: a turn goes over one to four bytes
     while i <= last {
         let a = doc[i];
         if a < 0x80 {
             if a < 0x0E {
                 return i;
             }
-            if is_own(doc[i + 1]) {
+            if OwnByte.holds(doc[i + 1]) {
                 if is_ascii_word(doc, i) {
                     return i;
                 }
@@ -81,10 +83,9 @@ fn own_chars(doc: &[u8], start: usize) -> usize
                 i += 2;
             }
         } else {
-            let n = wide_at(doc, i);
-            if n == 0 {
+            let Some(n) = wide_at(doc, i) else {
                 return i;
-            }
+            };
             i += n;
         }
     }
@@ -103,54 +104,32 @@ fn is_two(a: u8, b: u8) -> bool
 
 // Over own bytes in blocks, as long as whole ones are left: a place before which all are.
 fn own_blocks(doc: &[u8], start: usize) -> usize
-    ensures { (start ≤ result) × (result + run own_byte (drop result doc.now) ≡ start + run own_byte (drop start doc.now)) }
+    ensures { GoesOn own_byte doc.now start result }
 {
-    if doc.len() < 64 {
-        return start;
+    match find_in_blocks(OwnByte, doc, start) {
+        Ok(found) => found,
+        Err(rest) => rest,
     }
-    let last = doc.len() - 64;
-    let mut i = start;
-    while i <= last {
-        let n = own_bytes(doc, i);
-        if n < 64 {
-            return i + n;
-        }
-        i += 64;
+}
+
+// ASCII but the few bytes below 0E.
+#[derive(Clone, Copy)]
+struct OwnByte;
+
+impl ByteSet for OwnByte {
+    ghost holds = { λ _. own_byte };
+
+    // one comparison, which the compiler makes of bytes with a sign: those from 80 on are below 0
+    fn holds(self, b: u8) -> bool {
+        0x8E <= wrapping_add_u8(b, 0x80)
     }
-    i
 }
 
-// How many bytes of the block from i on stand before the first that is none: the least of their places, counted in a byte, so
-// that the compiler takes sixteen at once. In shorter blocks it takes them one by one.
-fn own_bytes(doc: &[u8], i: usize) -> usize
-    requires { i + 64 ≤ length doc.now }
-    ensures { (result ≤ 64) × Block own_byte doc.now i result }
-{
-    let mut first: u8 = 64;
-    let mut k: u8 = 0;
-    while k < 64 {
-        first = least(place_of(doc[i + k as usize], k), first);
-        k += 1;
-    }
-    first as usize
-}
+impl Passed for OwnByte {
+    // in shorter blocks the compiler takes the bytes one by one
+    const BLOCK: u8 = 64;
 
-// The place k where b is none, else one beyond the block.
-fn place_of(b: u8, k: u8) -> u8
-    ensures { k < result → own_byte b ≡ true }
-{
-    if is_own(b) { 0xFF } else { k }
-}
+    ghost BLOCK = { 64 };
 
-// One comparison, which the compiler makes of bytes with a sign: those from 80 on are below 0.
-fn is_own(b: u8) -> bool
-    ensures { result ≡ true → own_byte b ≡ true }
-{
-    0x8E <= wrapping_add_u8(b, 0x80)
-}
-
-fn least(a: u8, b: u8) -> u8
-    ensures { (result ≤ a) × (result ≤ b) }
-{
-    if a < b { a } else { b }
+    ghost some = { ltb-true 0 64 refl };
 }

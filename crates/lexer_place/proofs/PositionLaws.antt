@@ -1,35 +1,23 @@
--- Columns at a place, for the loop that counts them, and what a column is of any bytes, UTF-8 or not.
+-- What a column is of any bytes, UTF-8 or not, and that it is counted on the last line alone.
 -- Assumes nothing.
-use Prim.Native.Nat.{ℕ, zero, suc, ◌+◌, ◌-◌, ◌≤◌, ◌<◌}
-use mathlib.Core.Path.{◌≡◌, ap, ◌∙◌}
-use mathlib.Core.Bool.{Bool, true, false, cond}
+use Prim.Native.Nat.{ℕ, zero, suc, ◌+◌, ◌-◌, ◌<◌}
+use mathlib.Core.Path.{◌≡◌, refl, sym, ap, ◌∙◌}
+use mathlib.Core.Bool.{Bool, true, false, cond, not}
 use mathlib.Core.List.{List, [], ◌∷◌, ◌++◌}
 use native.Mathlib.Omega.{arith}
-use native.Mathlib.Numerals.{add-one}
+use Rattle.std.specs.Prelude.{count_by}
+use Rattle.std.proofs.lemmas.List.{take_all}
+use Rattle.std.proofs.lemmas.List.Recursion.{is_count_by}
 use borrow.Author.Tests.{eq-eqb, ne_eqb}
 use lib.Dec.{eqb}
-use lib.ListN.{length, get_or, drop, drop_of_length-le}
-use lib.Seq.{drop-cons, drop-drop, get_or-drop}
+use lib.ListN.{length, get_or, take, drop, length-drop}
+use lib.Seq.{drop-drop, get_or-drop}
 use Rattle.text_classes.specs.Classes.{continuation}
 use Rattle.lexer_place.specs.Positions.{column_behind}
 
 -- what one byte does to the column
 abbrev pub turned : ℕ → ℕ → ℕ
 turned b c = cond (eqb b 10) 1 (cond (continuation b) c (c + 1))
-
-module _ (s : List ℕ) (i : ℕ) (h : i < length s) where
-  column_at : (c d : ℕ) → turned (get_or s i 0) c ≡ d → column_behind c (drop i s) ≡ column_behind d (drop (i + 1) s)
-  unfolding column_behind
-  column_at c d e = rw (add-one, drop-cons s i 0) (ap (λ (k : ℕ). column_behind k (drop (suc i) s)) e)
-
-  -- a byte that begins a character, and one inside a character
-  pub column_at_char : (c : ℕ) → (get_or s i 0 ≡ 10 → ⊥) → continuation (get_or s i 0) ≡ false
-      → column_behind c (drop i s) ≡ column_behind (c + 1) (drop (i + 1) s)
-  column_at_char c e t = column_at c (c + 1) (rw (ne_eqb (get_or s i 0) 10 e, t))
-
-  pub column_inside : (c : ℕ) → (get_or s i 0 ≡ 10 → ⊥) → continuation (get_or s i 0) ≡ true
-      → column_behind c (drop i s) ≡ column_behind c (drop (i + 1) s)
-  column_inside c e t = column_at c c (rw (ne_eqb (get_or s i 0) 10 e, t))
 
 -- the column after an LF does not depend on what stands before it
 lf_resets : (k c : ℕ) (s : List ℕ) → get_or s k 0 ≡ 10 → column_behind c s ≡ column_behind 1 (drop (suc k) s)
@@ -46,10 +34,6 @@ column_after_lf s a i c h e =
     let on : a + suc k ≡ i = omega arith in
     lf_resets k c (drop a s) (get_or-drop a s k 0 ∙ ap (λ (n : ℕ). get_or s n 0) same ∙ e)
     ∙ ap (column_behind 1) (drop-drop (suc k) a s ∙ ap (λ (n : ℕ). drop n s) on)
-
-pub column_end : (s : List ℕ) (i : ℕ) → length s ≤ i → (c : ℕ) → column_behind c (drop i s) ≡ c
-unfolding column_behind
-column_end s i h c = rw (drop_of_length-le s h)
 
 -- ---- what a column is, of any bytes
 
@@ -78,3 +62,32 @@ pub column_since : (s t : List ℕ) (c : ℕ) → WithoutLf t → column_behind 
 unfolding column_behind
 column_since [] t c h = column_plain t 1 h
 column_since (b ∷ s) t c h = column_since s t (turned b c) h
+
+-- the characters that begin, counted one by one
+begins_counted : (s : List ℕ) → begins s ≡ count_by (λ (b : ℕ). not (continuation b)) s
+unfolding begins
+begins_counted = is_count_by begins (λ (b : ℕ). not (continuation b)) refl (λ b s. go (continuation b) s)
+  where
+    go : (t : Bool) (s : List ℕ) → cond t (begins s) (suc (begins s)) ≡ cond (not t) (1 + begins s) (begins s)
+    go true s = refl
+    go false s = omega arith
+
+without_lf : (s : List ℕ) → ((k : ℕ) → k < length s → get_or s k 0 ≡ 10 → ⊥) → WithoutLf s
+without_lf [] h = tt
+without_lf (b ∷ s) h = (h 0 (omega arith), without_lf s (λ k l. h (suc k) (omega arith)))
+
+-- on one line, and behind the last LF
+pub column_one_line : (s : List ℕ) → ((k : ℕ) → k < length s → get_or s k 0 ≡ 10 → ⊥)
+    → column_behind 1 s ≡ 1 + count_by (λ (b : ℕ). not (continuation b)) s
+column_one_line s h = column_plain s 1 (without_lf s h) ∙ ap (λ (n : ℕ). 1 + n) (begins_counted s)
+
+pub column_last_line : (s : List ℕ) (i : ℕ) → i < length s → get_or s i 0 ≡ 10
+    → ((k : ℕ) → i < k → k < length s → get_or s k 0 ≡ 10 → ⊥)
+    → column_behind 1 s ≡ 1 + count_by (λ (b : ℕ). not (continuation b)) (drop (i + 1) s)
+column_last_line s i l e h =
+    column_after_lf s 0 (i + 1) 1 (omega arith) (ap (λ (n : ℕ). get_or s n 0) (omega arith) ∙ e)
+    ∙ column_one_line (drop (i + 1) s) (λ k m f. h (i + 1 + k) (omega arith) (omega (arith, length-drop (i + 1) s)) (sym (get_or-drop (i + 1) s k 0) ∙ f))
+
+-- a part up to the end
+pub up_to_end : (s : List ℕ) (n : ℕ) → take (length s - n) (drop n s) ≡ drop n s
+up_to_end s n = take_all (length s - n) (drop n s) (omega (arith, length-drop n s))

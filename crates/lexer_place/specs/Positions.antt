@@ -1,13 +1,13 @@
 -- RULE. The line and column of an offset; what a line is stands in crate `lexer`, whose tokens bear it too.
-use Rattle.std.specs.Prelude.{ℕ, ◌+◌, ◌-◌}
+use Rattle.std.specs.Prelude.{ℕ, ◌+◌, ◌-◌, Result, Ok, Err}
 use mathlib.Core.{Bool.cond, List.List, List.[], List.◌∷◌}
 use lib.{ListN.length, ListN.take, ListN.drop, Dec.ltb, Dec.eqb}
 use Rattle.text_classes.specs.{Classes.continuation}
 use Rattle.text_refusals.specs.{Refusals.limit}
 use Rattle.text_scalars.specs.{Utf8.encode_scalar}
-use Rattle.text_refusals.specs.declared.{Refusal.TheVariants.TooLong, Refusal.TheVariants.OutOfPlace}
+use Rattle.text_refusals.specs.declared.{Refusal.Refusal, Refusal.TheVariants.TooLong, Refusal.TheVariants.OutOfPlace}
 use Rattle.lexer.specs.{Lines.line_of, Tokens.start_of}
-use Rattle.lexer_place.specs.declared.{Position.Position, Position.TheVariants.At, Position.TheVariants.Refused}
+use Rattle.lexer_place.specs.declared.{Position.Position}
 
 -- the column after some bytes, where c is the column before them: an LF sets it to 1, a byte inside a character, 80 to BF,
 -- adds nothing, and any other byte, with which a character begins, adds one
@@ -20,11 +20,11 @@ abbrev pub column_of : List ℕ → ℕ → ℕ
 column_of doc offset = column_behind 1 (drop (start_of doc) (take offset doc))
 
 -- the position: refusal 2, then 6 with the document's length for an offset beyond it
-unfoldable pub position_answer : List ℕ → ℕ → Position
+unfoldable pub position_answer : List ℕ → ℕ → Result Position Refusal
 position_answer doc offset =
-    cond (ltb limit (length doc)) (Refused TooLong)
-    (cond (ltb (length doc) offset) (Refused (OutOfPlace (length doc)))
-    (At (line_of doc offset) (column_of doc offset)))
+    cond (ltb limit (length doc)) (Err TooLong)
+    (cond (ltb (length doc) offset) (Err (OutOfPlace (length doc)))
+    (Ok (record { line = line_of doc offset; column = column_of doc offset })))
 
 -- What a column says of a document that is UTF-8: it counts scalar values. `column_means` in proofs/ColumnLaws.antt proves it,
 -- over what follows.

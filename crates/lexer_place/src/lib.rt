@@ -2,45 +2,40 @@
 // line and column of an offset. Rules: specs/Spans.antt, Positions.antt.
 #![tactic(auto)]
 
-ghost use Rattle.std.specs.Prelude.{◌≡◌, ◌≤◌, length, get_or};
+ghost use Rattle.std.specs.Prelude.{◌≡◌, ◌≢◌, ℕ, not, ◌+◌, ◌≤◌, ◌<◌, length, count_by, slice_index, EachIndex, MatchOption};
+ghost use Rattle.text_classes.specs.Classes.{continuation};
+ghost use Rattle.text_refusals.specs.Told.{told_number, told_value};
 ghost use Rattle.lexer_place.specs.Spans.{inside, span_answer, span_text};
-ghost use Rattle.lexer_place.specs.Told.{span_number, span_value, span_refusal, span_returned, position_number, position_value, position_refusal, position_returned};
-ghost use Rattle.lexer_place.specs.Positions.{column_of, position_answer};
+ghost use Rattle.lexer_place.specs.Told.{span_refusal, span_returned, position_refusal, position_returned};
+ghost use Rattle.lexer_place.specs.Positions.{column_behind, column_of, position_answer};
 
 use lexer_token::Span;
 use text_refusals::{LIMIT, Refusal};
 
-// What the span check answers.
-#[derive(Clone, Copy)]
-pub enum SpanCheck {
-    Whole,
-    Refused(Refusal),
-}
-
 // Does the span lie within the document, and cut no character?
-pub fn check_span(doc: &[u8], span: Span) -> SpanCheck
+pub fn check_span(doc: &[u8], span: Span) -> Result<(), Refusal>
     ensures answer { result ≡ span_answer doc.now span }
-    ensures number { span_number result ≡ span_refusal doc.now span }
-    ensures value { span_value result ≡ span_returned doc.now span }
+    ensures number { told_number result ≡ span_refusal doc.now span }
+    ensures value { told_value result ≡ span_returned doc.now span }
 {
     let start = span.start;
     let end = span.end;
     if LIMIT < doc.len() {
-        return SpanCheck::Refused(Refusal::TooLong);
+        return Err(Refusal::TooLong);
     }
     if doc.len() < end {
-        return SpanCheck::Refused(Refusal::OutOfPlace { length: doc.len() });
+        return Err(Refusal::OutOfPlace { length: doc.len() });
     }
     if end < start {
-        return SpanCheck::Refused(Refusal::OutOfPlace { length: doc.len() });
+        return Err(Refusal::OutOfPlace { length: doc.len() });
     }
     if is_inside(doc, start) {
-        return SpanCheck::Refused(Refusal::OutOfPlace { length: doc.len() });
+        return Err(Refusal::OutOfPlace { length: doc.len() });
     }
     if is_inside(doc, end) {
-        return SpanCheck::Refused(Refusal::OutOfPlace { length: doc.len() });
+        return Err(Refusal::OutOfPlace { length: doc.len() });
     }
-    SpanCheck::Whole
+    Ok(())
 }
 
 // Does the place `at` lie inside a character? The byte there tells; the end of the document does not lie inside one.
@@ -59,59 +54,72 @@ fn is_inside(doc: &[u8], at: usize) -> bool
 pub fn text_of(doc: &[u8], span: Span) -> &[u8]
     ensures { result.now ≡ span_text doc.now span }
 {
-    let start = span.start;
-    let end = span.end;
-    if let SpanCheck::Refused(_) = check_span(doc, span) {
-        return &doc[..0];
+    match check_span(doc, span) {
+        Ok(()) => &doc[span.start..span.end],
+        Err(_) => &doc[..0],
     }
-    &doc[start..end]
 }
 
 // Line and column, both counted from 1; a column counts characters.
 #[derive(Clone, Copy)]
-pub enum Position {
-    At { line: usize, column: usize },
-    Refused(Refusal),
+pub struct Position {
+    pub line: usize,
+    pub column: usize,
 }
 
 // The line and column of `offset`, which may be the document's end.
-pub fn position_of(doc: &[u8], offset: usize) -> Position
+pub fn position_of(doc: &[u8], offset: usize) -> Result<Position, Refusal>
     ensures answer { result ≡ position_answer doc.now offset }
-    ensures number { position_number result ≡ position_refusal doc.now offset }
-    ensures value { position_value result ≡ position_returned doc.now offset }
+    ensures number { told_number result ≡ position_refusal doc.now offset }
+    ensures value { told_value result ≡ position_returned doc.now offset }
 {
     if LIMIT < doc.len() {
-        return Position::Refused(Refusal::TooLong);
+        return Err(Refusal::TooLong);
     }
     if doc.len() < offset {
-        return Position::Refused(Refusal::OutOfPlace { length: doc.len() });
+        return Err(Refusal::OutOfPlace { length: doc.len() });
     }
     let line = lexer::line_of(doc, offset);
     let column = column_of(doc, offset);
-    Position::At { line, column }
+    Ok(Position { line, column })
 }
 
 // What ends a line.
 const LINE_END: u8 = b'\n';
 
-// The column of `offset`: 1 plus the characters that begin between the last LF before it and it,
-// counted from the offset back. A byte order mark is not counted, and has no LF in it.
+// The column of `offset`: 1 plus the characters that begin before it on its line. A byte order mark is not counted, and has no LF in
+// it.
 fn column_of(doc: &[u8], offset: usize) -> usize
     requires { offset ≤ length doc.now }
     ensures { result ≡ column_of doc.now offset }
 {
-    let first = lexer::start_of(doc);
-    let mut column: usize = 1;
-    let mut i = offset;
-    while first < i {
-        let b = doc[i - 1];
-        if b == LINE_END {
-            return column;
-        }
-        if !text_classes::is_continuation(b) {
-            column += 1;
-        }
-        i -= 1;
+    let before = &doc[..offset];
+    let text = &before[lexer::start_of(doc).min(before.len())..];
+    1 + begun(last_line(text))
+}
+
+// What stands after the last LF; all where there is none.
+fn last_line(s: &[u8]) -> &[u8]
+    ensures { column_behind 1 s.now ≡ 1 + count_by (λ b. not (continuation b)) result.now }
+{
+    match last_lf(s) {
+        Some(at) => &s[at + 1..],
+        None => s,
     }
-    column
+}
+
+// The place of the last LF.
+fn last_lf(s: &[u8]) -> Option<usize>
+    ensures { MatchOption result (EachIndex s.now (λ k. slice_index s.now k ≢ 10)) (λ i. (i < length s.now) × (slice_index s.now i ≡ 10) × ((k : ℕ) → i < k → k < length s.now → slice_index s.now k ≢ 10)) }
+{
+    s.iter().rposition(|b| *b == LINE_END)
+}
+
+// How many characters begin.
+fn begun(s: &[u8]) -> usize
+    ensures { result ≡ count_by (λ b. not (continuation b)) s.now }
+{
+    s.iter()
+        .filter(|b| !text_classes::is_continuation(**b))
+        .count()
 }

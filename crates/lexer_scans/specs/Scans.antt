@@ -1,7 +1,8 @@
 -- What the helpers promise: what a search is for, and what it knows of a block. None of it is a rule: no promise of a public
 -- function cites it.
 -- Assumes nothing.
-use Rattle.std.specs.Prelude.{ℕ, ◌+◌, ◌≤◌, ◌<◌, ◌≡◌, Bool, true, false, not, ◌||◌, List, eqb, get_or}
+use Rattle.std.specs.Prelude.{ℕ, ◌+◌, ◌≤◌, ◌<◌, ◌≡◌, Bool, false, not, ◌||◌, List, eqb, get_or, drop}
+use Rattle.text_classes.specs.Runs.{run}
 use Rattle.text_classes.proofs.RunLaws.{Block}
 
 -- x is one of two bytes, or of three
@@ -25,6 +26,6 @@ but_three a b c x = not (is_three a b c x)
 abbrev pub Clear : (ℕ → Bool) → List ℕ → ℕ → ℕ → ℕ → Type 0
 Clear p s i w n = (n ≤ w) × Block p s i n × (n < w → p (get_or s (i + n) 0) ≡ false)
 
--- a place that tells of the byte at the place k whether it passes: it is k where the byte does not, and 255 where it does
-abbrev pub PlaceTold : Bool → ℕ → ℕ → Type 0
-PlaceTold passes k place = (k < place → passes ≡ true) × (place < 255 → (passes ≡ false) × (place ≡ k))
+-- a search that has gone over all before the place i ends where it did from `start` on
+abbrev pub GoesOn : (ℕ → Bool) → List ℕ → ℕ → ℕ → Type 0
+GoesOn p s start i = (start ≤ i) × (i + run p (drop i s) ≡ start + run p (drop start s))

@@ -10,14 +10,12 @@ use lib.Dec.{ltb}
 use lib.ListN.{length, take, drop, length-map}
 use lib.Seq.{take-append-le}
 use Rattle.text.specs.CheckMeans.{check_of}
+use Rattle.std.specs.Prelude.{Result, Ok, Err, ⊤}
+use Rattle.text_refusals.specs.declared.Refusal.{Refusal}
 use Rattle.text_refusals.specs.declared.Refusal.TheVariants.{FewTokens}
-use Rattle.text.specs.declared.utf8.Utf8Check.{Utf8Check}
-use Rattle.text.specs.declared.utf8.Utf8Check.TheVariants.{Valid, Refused as Broken}
 use Rattle.lexer_token.specs.declared.Token.{Token}
 use Rattle.lexer_token.specs.Records.{record_of}
 use Rattle.lexer.specs.Tokens.{tokens_of}
-use Rattle.lexer.specs.declared.Lexed.{Lexed}
-use Rattle.lexer.specs.declared.Lexed.TheVariants.{Tokens, Refused}
 use Rattle.lexer.specs.Whole.{records_of, token_count, lex_checked, lex_answer, memory_checked, lex_memory}
 use Rattle.lexer_structs.specs.TokenMemory.{tokens_checked, token_memory}
 use Rattle.lexer_structs.specs.Turns.{writes_of}
@@ -46,14 +44,14 @@ memories_agree doc old = by_check (check_of doc)
         map-append record_of (tokens_of doc) (drop (token_count doc) old)
         ∙ ap (λ (r : List (List ℕ)). map record_of (tokens_of doc) ++ r) (map_drop (token_count doc) old)
 
-    by_check : (c : Utf8Check) → map record_of (tokens_checked c doc old) ≡ memory_checked c doc (map record_of old)
-    by_check (Broken r) = refl
-    by_check Valid = rw (length-map old record_of) (by_room (ltb (length old) (token_count doc)))
+    by_check : (c : Result ⊤ Refusal) → map record_of (tokens_checked c doc old) ≡ memory_checked c doc (map record_of old)
+    by_check (Err r) = refl
+    by_check (Ok _) = rw (length-map old record_of) (by_room (ltb (length old) (token_count doc)))
 
 -- what is written does not depend on what stood there
 new_in_front : {A : Type 0} (new old : List A) (n : ℕ) (t : Bool) → length new ≡ n
-    → take (writes_of (cond t (Refused (FewTokens n)) (Tokens n))) (cond t old (new ++ drop n old))
-    ≡ take (writes_of (cond t (Refused (FewTokens n)) (Tokens n))) new
+    → take (writes_of (cond t (Err (FewTokens n)) (Ok n))) (cond t old (new ++ drop n old))
+    ≡ take (writes_of (cond t (Err (FewTokens n)) (Ok n))) new
 new_in_front new old n true e = refl
 new_in_front new old n false e = take-append-le n new (drop n old) (omega (arith, e))
 
@@ -63,11 +61,11 @@ tokens_written : (doc : List ℕ) (old : List Token)
 unfolding lex_answer token_memory
 tokens_written doc old = by_check (check_of doc)
   where
-    by_check : (c : Utf8Check)
+    by_check : (c : Result ⊤ Refusal)
         → take (writes_of (lex_checked c doc (length old))) (tokens_checked c doc old)
         ≡ take (writes_of (lex_checked c doc (length old))) (tokens_of doc)
-    by_check (Broken r) = refl
-    by_check Valid = new_in_front (tokens_of doc) old (token_count doc) (ltb (length old) (token_count doc)) refl
+    by_check (Err r) = refl
+    by_check (Ok _) = new_in_front (tokens_of doc) old (token_count doc) (ltb (length old) (token_count doc)) refl
 
 records_written : (doc : List ℕ) (old : List (List ℕ))
     → take (writes_of (lex_answer doc (length old))) (lex_memory doc old)
@@ -75,11 +73,11 @@ records_written : (doc : List ℕ) (old : List (List ℕ))
 unfolding lex_answer lex_memory records_of
 records_written doc old = by_check (check_of doc)
   where
-    by_check : (c : Utf8Check)
+    by_check : (c : Result ⊤ Refusal)
         → take (writes_of (lex_checked c doc (length old))) (memory_checked c doc old)
         ≡ take (writes_of (lex_checked c doc (length old))) (records_of doc)
-    by_check (Broken r) = refl
-    by_check Valid =
+    by_check (Err r) = refl
+    by_check (Ok _) =
         let n = token_count doc in new_in_front (records_of doc) old n (ltb (length old) n) (length-map (tokens_of doc) record_of)
 
 pub same_records : SameRecords
@@ -101,12 +99,12 @@ same_written doc ts us xs ys r s e a b =
       same,
       -- the tokens that are written are the first n of the document's, read into records its first n records, which are
       -- those that are written
-      ap (λ (y : Lexed). map record_of (take (writes_of y) us)) a.0
+      ap (λ (y : Result ℕ Refusal). map record_of (take (writes_of y) us)) a.0
           ∙ ap (λ (l : List Token). map record_of (take n l)) a.1
           ∙ ap (map record_of) (tokens_written doc ts)
           ∙ as_records doc n
           ∙ ap (λ (k : ℕ). take (writes_of (lex_answer doc k)) (records_of doc)) e
           ∙ sym (records_written doc xs)
           ∙ ap (take m) (sym b.1)
-          ∙ ap (λ (y : Lexed). take (writes_of y) ys) (sym b.0),
+          ∙ ap (λ (y : Result ℕ Refusal). take (writes_of y) ys) (sym b.0),
     )

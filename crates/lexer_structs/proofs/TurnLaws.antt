@@ -2,28 +2,24 @@
 -- a turn stores it, and as many turns as the answer says leave what the rule says.
 -- Assumes nothing.
 use Prim.Native.Nat.{ℕ, zero, suc, ◌+◌, ◌≤◌, ◌<◌}
+use Rattle.std.specs.Prelude.{Result, Ok, Err, Some, None, ⊤}
 use mathlib.Core.Path.{◌≡◌, refl, sym, ap, ◌∙◌}
 use mathlib.Core.List.{List, [], ◌∷◌, ◌++◌, append_assoc}
 use native.Mathlib.Omega.{arith}
 use native.Mathlib.Numerals.{add-one}
 use native.Mathlib.Decide.{dec_lt}
 use borrow.Author.Tests.{lt-ltb, le-ltb}
-use lib.ListN.{length, get_or, set, take, drop, length-append, length-drop}
+use lib.ListN.{length, get_or, set, take, drop}
 use lib.Seq.{take-suc, take-length, length-take-le, drop-cons, set_at}
 use Rattle.text_refusals.specs.Refusals.{limit}
 use Rattle.text.specs.CheckMeans.{check_of}
 use Rattle.text_refusals.specs.declared.Refusal.{Refusal}
-use Rattle.text.specs.declared.utf8.Utf8Check.{Utf8Check}
-use Rattle.text.specs.declared.utf8.Utf8Check.TheVariants.{Valid, Refused as Broken}
 use Rattle.text.proofs.AnswerLaws.{checked}
 use Rattle.lexer_token.specs.declared.Token.{Token}
 use Rattle.lexer.specs.Tokens.{tokens_of, eof_at}
-use Rattle.lexer.specs.Steps.{start_answer, start_cursor, step_of}
+use Rattle.lexer.specs.Steps.{start_answer, start_cursor, Step, step_of}
 use Rattle.lexer.specs.Whole.{token_count, lex_answer}
 use Rattle.lexer.specs.declared.Cursor.{Cursor}
-use Rattle.lexer.specs.declared.Step.{Step}
-use Rattle.lexer.specs.declared.Step.TheVariants.{Token as Next, End, Refused as Unstepped}
-use Rattle.lexer.specs.declared.Lexed.TheVariants.{Refused}
 use Rattle.theorems_tokens.specs.Lexing.{next_cursor, steps_from, Gives}
 use Rattle.theorems_tokens.proofs.Lexing.{steps_whole}
 use Rattle.lexer_structs.specs.TokenMemory.{token_memory}
@@ -31,11 +27,11 @@ use Rattle.lexer_structs.specs.Turns.{room_for, writes_of, token_given, next_of,
 
 -- ---- what is written: nothing, or every token
 
-pub answer_valid : (doc : List ℕ) (room : ℕ) → check_of doc ≡ Valid → lex_answer doc room ≡ room_for (token_count doc) room
+pub answer_valid : (doc : List ℕ) (room : ℕ) → check_of doc ≡ Ok tt → lex_answer doc room ≡ room_for (token_count doc) room
 unfolding lex_answer
 answer_valid doc room e = rw e
 
-pub answer_broken : (doc : List ℕ) (room : ℕ) (r : Refusal) → check_of doc ≡ Broken r → lex_answer doc room ≡ Refused r
+pub answer_broken : (doc : List ℕ) (room : ℕ) (r : Refusal) → check_of doc ≡ Err r → lex_answer doc room ≡ Err r
 unfolding lex_answer
 answer_broken doc room r e = rw e
 
@@ -52,7 +48,7 @@ pub writes : (doc : List ℕ) (old : List Token) → Writes doc old
 unfolding token_memory
 writes doc old = by_check (check_of doc) refl
   where
-    by_room : check_of doc ≡ Valid → Writes doc old
+    by_room : check_of doc ≡ Ok tt → Writes doc old
     by_room e =
         elim (dec_lt (length old) (token_count doc)) [
           | yes h ↦ let t = lt-ltb (length old) (token_count doc) h in
@@ -61,9 +57,9 @@ writes doc old = by_check (check_of doc) refl
               whole (ap writes_of (answer_valid doc (length old) e) ∙ rw t) k (checked doc e).0 (rw (e, t))
         ]
 
-    by_check : (r : Utf8Check) → check_of doc ≡ r → Writes doc old
-    by_check Valid e = by_room e
-    by_check (Broken r) e = nothing (ap writes_of (answer_broken doc (length old) r e)) (rw e)
+    by_check : (r : Result ⊤ Refusal) → check_of doc ≡ r → Writes doc old
+    by_check (Ok _) e = by_room e
+    by_check (Err r) e = nothing (ap writes_of (answer_broken doc (length old) r e)) (rw e)
 
 -- no more records are written than are lent
 pub writes_fit : (doc : List ℕ) (old : List Token) → written doc old ≤ length old
@@ -76,16 +72,16 @@ writes_fit doc old = go (writes doc old)
 -- ---- a step, by its answer
 
 module _ (doc : List ℕ) (c : Cursor) where
-  pub next_given : (t : Token) (d : Cursor) → step_of doc c ≡ Next t d → record { token = t; cursor = d } ≡ next_of doc c
+  pub next_given : (t : Token) (d : Cursor) → step_of doc c ≡ Ok (Some (t, d)) → record { token = t; cursor = d } ≡ next_of doc c
   unfolding next_of
   next_given t d e = rw e
 
   module _ (t : Token) (blank : t ≡ eof_at 0 0) where
-    pub next_end : step_of doc c ≡ End → record { token = t; cursor = c } ≡ next_of doc c
+    pub next_end : step_of doc c ≡ Ok None → record { token = t; cursor = c } ≡ next_of doc c
     unfolding next_of
     next_end e = rw (blank, e)
 
-    pub next_refused : (r : Refusal) → step_of doc c ≡ Unstepped r → record { token = t; cursor = c } ≡ next_of doc c
+    pub next_refused : (r : Refusal) → step_of doc c ≡ Err r → record { token = t; cursor = c } ≡ next_of doc c
     unfolding next_of
     next_refused r e = rw (blank, e)
 
@@ -106,14 +102,14 @@ next_cursor_lem doc k =
     go (suc k) c = go k (next_of doc c).cursor
 
 head_given : (t : Token) (ts : List Token) (s : Step) (rest : List Step) → Gives (t ∷ ts) (s ∷ rest) → token_given s ≡ t
-head_given t ts (Next u c) rest g = g.0
-head_given t ts End rest g = absurd g
-head_given t ts (Unstepped r) rest g = absurd g
+head_given t ts (Ok (Some w)) rest g = g.0
+head_given t ts (Ok None) rest g = absurd g
+head_given t ts (Err r) rest g = absurd g
 
 tail_given : (t : Token) (ts : List Token) (s : Step) (rest : List Step) → Gives (t ∷ ts) (s ∷ rest) → Gives ts rest
-tail_given t ts (Next u c) rest g = g.1
-tail_given t ts End rest g = absurd g
-tail_given t ts (Unstepped r) rest g = absurd g
+tail_given t ts (Ok (Some w)) rest g = g.1
+tail_given t ts (Ok None) rest g = absurd g
+tail_given t ts (Err r) rest g = absurd g
 
 step_given : (doc : List ℕ) (ts : List Token) (k i : ℕ) (c : Cursor) → Gives ts (steps_from k doc c) → i < k → i < length ts
     → (next_of doc (stepped i doc c)).token ≡ get_or ts i (eof_at 0 0)
@@ -158,19 +154,6 @@ module _ (doc : List ℕ) (old : List Token) where
       go (whole e r l m) =
           ap (set (take k (tokens_of doc) ++ drop k old) k) (next_token doc k l (omega (arith, e, h)))
           ∙ store_next (tokens_of doc) old k (eof_at 0 0) (omega (arith, e, h)) (omega (arith, e, h, r))
-
-  pub length_stored : (k : ℕ) → k ≤ written doc old → length (stored doc old k) ≡ length old
-  unfolding stored
-  length_stored k h = go (writes doc old)
-    where
-      sum : k ≤ token_count doc → k ≤ length old → length (stored doc old k) ≡ length old
-      sum l r =
-          let e = length-take-le k (tokens_of doc) l in
-          length-append (take k (tokens_of doc)) (drop k old) ∙ omega (arith, e, length-drop k old)
-
-      go : Writes doc old → length (stored doc old k) ≡ length old
-      go (nothing e m) = sum (omega (arith, e, h)) (omega (arith, e, h))
-      go (whole e r l m) = sum (omega (arith, e, h)) (omega (arith, e, h, r))
 
   pub stored_all : stored doc old (written doc old) ≡ token_memory doc old
   unfolding stored

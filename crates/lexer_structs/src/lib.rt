@@ -9,9 +9,9 @@ ghost use Rattle.lexer.specs.Steps.{start_answer, start_cursor};
 ghost use Rattle.lexer.specs.Whole.{lex_answer};
 ghost use Rattle.lexer_structs.specs.TokenMemory.{token_memory};
 ghost use Rattle.lexer_structs.specs.Eight.{eight_of};
-ghost use Rattle.lexer_structs.specs.Turns.{room_for, writes_of, next_of};
+ghost use Rattle.lexer_structs.specs.Turns.{room_for, next_of};
 
-use lexer::{Cursor, Lexed, Start, Step};
+use lexer::Cursor;
 use lexer_token::{Span, Token, TokenKind};
 use text_refusals::Refusal;
 
@@ -26,27 +26,25 @@ struct Turn {
 // are an Eof at place 0 of line 0.
 #[derive(Clone, Copy)]
 pub struct LexedEight {
-    pub answer: Lexed,
+    pub answer: Result<usize, Refusal>,
     pub tokens: [Token; 8],
 }
 
 // Whole lexing: every token into the lent records, from the front. Whatever is
 // decided is decided in the functions below.
-pub fn lex_tokens(doc: &[u8], records: &mut [Token]) -> Lexed
+pub fn lex_tokens(doc: &[u8], records: &mut [Token]) -> Result<usize, Refusal>
     ensures answer { result ≡ lex_answer doc.now (length records.old) }
     ensures memory { records.new ≡ token_memory doc.now records.old }
 {
-    let a = plan(doc, records.len());
-    let n = writes(a);
-    let mut c = first(doc);
-    let mut i = 0;
-    while i < n {
-        let s = advance(doc, c);
-        records[i] = s.token;
-        c = s.cursor;
-        i += 1;
+    let answer = plan(doc, records.len());
+    let written = answer.unwrap_or(0);
+    let mut cursor = first(doc);
+    for i in 0..written {
+        let turn = advance(doc, cursor);
+        records[i] = turn.token;
+        cursor = turn.cursor;
     }
-    a
+    answer
 }
 
 // Whole lexing into eight records of its own, by value.
@@ -59,51 +57,38 @@ pub fn lex_eight(doc: &[u8]) -> LexedEight
 }
 
 // What is answered where `room` records are lent.
-fn plan(doc: &[u8], room: usize) -> Lexed
+fn plan(doc: &[u8], room: usize) -> Result<usize, Refusal>
     ensures { result ≡ lex_answer doc.now room }
 {
     let mut spare = [[0usize; 4]; 1];
     match lexer::lex(doc, &mut spare) {
-        Lexed::Tokens(needed) => within(needed, room),
-        Lexed::Refused(refusal) => match refusal {
+        Ok(needed) => within(needed, room),
+        Err(refusal) => match refusal {
             Refusal::FewTokens { needed } => within(needed, room),
-            _ => Lexed::Refused(refusal),
+            _ => Err(refusal),
         },
     }
 }
 
 // The answer where `needed` tokens are needed and `room` records are lent.
-fn within(needed: usize, room: usize) -> Lexed
+fn within(needed: usize, room: usize) -> Result<usize, Refusal>
     ensures { result ≡ room_for needed room }
 {
     if room < needed {
-        return Lexed::Refused(Refusal::FewTokens { needed });
+        return Err(Refusal::FewTokens { needed });
     }
-    Lexed::Tokens(needed)
-}
-
-// How many records are written where `a` is answered.
-fn writes(a: Lexed) -> usize
-    ensures { result ≡ writes_of a }
-{
-    match a {
-        Lexed::Tokens(n) => n,
-        Lexed::Refused(_) => 0,
-    }
+    Ok(needed)
 }
 
 // The starting cursor; all zero where it is refused.
 fn first(doc: &[u8]) -> Cursor
     ensures { result ≡ start_cursor (start_answer doc.now) }
 {
-    match Cursor::start(doc) {
-        Start::At(c) => c,
-        Start::Refused(_) => Cursor {
-            place: 0,
-            line: 0,
-            ended: false,
-        },
-    }
+    Cursor::start(doc).unwrap_or(Cursor {
+        place: 0,
+        line: 0,
+        ended: false,
+    })
 }
 
 // One step; where it gives no token, an Eof at place 0 of line 0 and the same cursor.
@@ -111,12 +96,12 @@ fn advance(doc: &[u8], c: Cursor) -> Turn
     ensures { result ≡ next_of doc.now c }
 {
     match c.step(doc) {
-        Step::Token(token, cursor) => Turn { token, cursor },
-        Step::End => Turn {
+        Ok(Some((token, cursor))) => Turn { token, cursor },
+        Ok(None) => Turn {
             token: blank(),
             cursor: c,
         },
-        Step::Refused(_) => Turn {
+        Err(_) => Turn {
             token: blank(),
             cursor: c,
         },

@@ -4,9 +4,9 @@ use mathlib.Core.Path.{◌≡◌, refl}
 use Rattle.lexer_token.specs.KindNumbers.{kind_number, kind_of_number}
 use Rattle.lexer_token.specs.declared.TokenKind.{TokenKind}
 use Rattle.lexer_token.specs.declared.TokenKind.TheVariants.{Dot, Equals, Comma, LeftSquareBracket, RightSquareBracket, LeftCurlyBracket, RightCurlyBracket, Whitespace, Comment, Newline, LiteralString, BasicString, MlLiteralString, MlBasicString, Atom, Eof}
-use Rattle.lexer_token.specs.declared.KindRead.TheVariants.{Kind}
+use Rattle.std.specs.Prelude.{Ok}
 
-pub kind_back : (k : TokenKind) → kind_of_number (kind_number k) ≡ Kind k
+pub kind_back : (k : TokenKind) → kind_of_number (kind_number k) ≡ Ok k
 unfolding kind_of_number
 kind_back Dot = refl
 kind_back Equals = refl

@@ -1,4 +1,2 @@
-pub mod CopyLaws
 pub mod KindLaws
-pub mod NumberLaws
 pub mod OneAnswer

@@ -1,11 +1,11 @@
 -- RULE. What a kind is called, in ASCII: at most 25 bytes.
-use Rattle.std.specs.Prelude.{ℕ, ◌-◌}
+use Rattle.std.specs.Prelude.{ℕ, Result, Ok, Err}
 use Prim.Native.Char.{code}
 use Prim.Native.String.{String, [] as none, ◌∷◌ as ◌then◌}
-use mathlib.Core.{List.List, List.[], List.◌∷◌, List.◌++◌}
-use lib.{ListN.length, ListN.replicate}
+use mathlib.Core.{List.List, List.[], List.◌∷◌}
+use Rattle.text_refusals.specs.declared.{Refusal.Refusal}
 use Rattle.lexer_token.specs.{KindNumbers.kind_of_number}
-use Rattle.lexer_token.specs.declared.{TokenKind.TokenKind, KindRead.KindRead, KindRead.TheVariants.Kind, KindRead.TheVariants.Refused as Unread, Answer.TheVariants.Found, Answer.TheVariants.Refused, Description.Description}
+use Rattle.lexer_token.specs.declared.{TokenKind.TokenKind}
 use Rattle.lexer_token.specs.declared.TokenKind.TheVariants.{Dot, Equals, Comma, LeftSquareBracket, RightSquareBracket, LeftCurlyBracket, RightCurlyBracket, Whitespace, Comment, Newline, LiteralString, BasicString, MlLiteralString, MlBasicString, Atom, Eof}
 
 -- the code points of a text, which are its bytes where it is ASCII
@@ -32,14 +32,10 @@ kind_text MlBasicString = codes "multi-line basic string"
 kind_text Atom = codes "token"
 kind_text Eof = codes "end-of-input"
 
--- words at the front of an array of 25 bytes, zeros after them
-abbrev pub described_by : List ℕ → Description
-described_by text = record { answer = Found; len = length text; bytes = text ++ replicate (25 - length text) 0 }
+abbrev pub description_by : Result TokenKind Refusal → Result (List ℕ) Refusal
+description_by (Ok k) = Ok (kind_text k)
+description_by (Err r) = Err r
 
-abbrev pub description_by : KindRead → Description
-description_by (Kind k) = described_by (kind_text k)
-description_by (Unread r) = record { answer = Refused r; len = 0; bytes = replicate 25 0 }
-
--- the description of the kind that has a number; refusal 7, a length of 0 and zeros where none has it
-unfoldable pub description_of : ℕ → Description
+-- the description of the kind that has a number; refusal 7 where none has it
+unfoldable pub description_of : ℕ → Result (List ℕ) Refusal
 description_of n = description_by (kind_of_number n)

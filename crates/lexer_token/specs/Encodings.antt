@@ -1,6 +1,7 @@
 -- RULE. The encoding of a kind: the number by which a decoder is chosen.
-use Rattle.std.specs.Prelude.{ℕ}
-use Rattle.lexer_token.specs.declared.{TokenKind.TokenKind, KindRead.KindRead, KindRead.TheVariants.Kind, KindRead.TheVariants.Refused as Unread, Answer.TheVariants.Found, Answer.TheVariants.Refused, KindEncoding.KindEncoding}
+use Rattle.std.specs.Prelude.{ℕ, Result, Ok, Err}
+use Rattle.text_refusals.specs.declared.{Refusal.Refusal}
+use Rattle.lexer_token.specs.declared.{TokenKind.TokenKind}
 use Rattle.lexer_token.specs.declared.TokenKind.TheVariants.{Dot, Equals, Comma, LeftSquareBracket, RightSquareBracket, LeftCurlyBracket, RightCurlyBracket, Whitespace, Comment, Newline, LiteralString, BasicString, MlLiteralString, MlBasicString, Atom, Eof}
 use Rattle.lexer_token.specs.{KindNumbers.kind_number, KindNumbers.kind_of_number}
 
@@ -23,10 +24,10 @@ kind_encoding MlBasicString = kind_number MlBasicString
 kind_encoding Atom = 0
 kind_encoding Eof = 0
 
-abbrev pub encoding_by : KindRead → KindEncoding
-encoding_by (Kind k) = record { answer = Found; number = kind_encoding k }
-encoding_by (Unread r) = record { answer = Refused r; number = 0 }
+abbrev pub encoding_by : Result TokenKind Refusal → Result ℕ Refusal
+encoding_by (Ok k) = Ok (kind_encoding k)
+encoding_by (Err r) = Err r
 
--- the encoding of the kind that has a number; refusal 7 and 0 where none has it
-unfoldable pub encoding_of : ℕ → KindEncoding
+-- the encoding of the kind that has a number; refusal 7 where none has it
+unfoldable pub encoding_of : ℕ → Result ℕ Refusal
 encoding_of n = encoding_by (kind_of_number n)

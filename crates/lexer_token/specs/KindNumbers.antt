@@ -1,9 +1,9 @@
 -- RULE. The sixteen kinds of token and their numbers.
-use Rattle.std.specs.Prelude.{ℕ}
+use Rattle.std.specs.Prelude.{ℕ, Result, Ok, Err}
 use mathlib.Core.{Bool.cond, List.List, List.[], List.◌∷◌}
 use lib.{Dec.eqb}
-use Rattle.text_refusals.specs.declared.{Refusal.TheVariants.NoKind}
-use Rattle.lexer_token.specs.declared.{TokenKind.TokenKind, KindRead.KindRead, KindRead.TheVariants.Kind, KindRead.TheVariants.Refused}
+use Rattle.text_refusals.specs.declared.{Refusal.Refusal, Refusal.TheVariants.NoKind}
+use Rattle.lexer_token.specs.declared.{TokenKind.TokenKind}
 use Rattle.lexer_token.specs.declared.TokenKind.TheVariants.{Dot, Equals, Comma, LeftSquareBracket, RightSquareBracket, LeftCurlyBracket, RightCurlyBracket, Whitespace, Comment, Newline, LiteralString, BasicString, MlLiteralString, MlBasicString, Atom, Eof}
 
 -- the number of a kind: a byte with which it begins; 1 to 4 for the multi-line strings, the atom and the end
@@ -32,10 +32,10 @@ kinds =
     ∷ Newline ∷ LiteralString ∷ BasicString ∷ MlLiteralString ∷ MlBasicString ∷ Atom ∷ Eof ∷ []
 
 -- of some kinds the one that has the number n; refusal 7 with n itself where none has it
-abbrev pub kind_among : List TokenKind → ℕ → KindRead
-kind_among [] n = Refused (NoKind n)
-kind_among (k ∷ ks) n = cond (eqb n (kind_number k)) (Kind k) (kind_among ks n)
+abbrev pub kind_among : List TokenKind → ℕ → Result TokenKind Refusal
+kind_among [] n = Err (NoKind n)
+kind_among (k ∷ ks) n = cond (eqb n (kind_number k)) (Ok k) (kind_among ks n)
 
 -- the kind of a number
-unfoldable pub kind_of_number : ℕ → KindRead
+unfoldable pub kind_of_number : ℕ → Result TokenKind Refusal
 kind_of_number n = kind_among kinds n

@@ -3,10 +3,11 @@
 // Rules: specs/KindNumbers.antt, Descriptions.antt, Encodings.antt, Records.antt.
 #![tactic(auto)]
 
-ghost use Rattle.std.specs.Prelude.{◌≡◌, [], ◌∷◌, ◌≤◌, length};
-ghost use Rattle.lexer_token.specs.KindNumbers.{kind_number, kind_of_number};
-ghost use Rattle.lexer_token.specs.Descriptions.{described_by, kind_text, description_of};
-ghost use Rattle.lexer_token.specs.Told.{kind_read_number, kind_read_value, kind_refusal, kind_returned, answer_number, answer_value};
+ghost use Rattle.std.specs.Prelude.{◌≡◌, MatchResult};
+ghost use Rattle.text_refusals.specs.Told.{told_number, told_value};
+ghost use Rattle.lexer_token.specs.KindNumbers.{kind_number};
+ghost use Rattle.lexer_token.specs.Descriptions.{kind_text, description_of};
+ghost use Rattle.lexer_token.specs.Told.{KindGives, kind_refusal, kind_returned};
 ghost use Rattle.lexer_token.specs.Encodings.{kind_encoding, encoding_of};
 ghost use Rattle.lexer_token.specs.Records.{span_of, token_of, record_of};
 
@@ -16,7 +17,7 @@ use text_refusals::Refusal;
 pub type Record = [usize; 4];
 
 // A piece of the document that was lexed, not yet judged, and the line of its first byte.
-#[derive(Clone, Copy)]
+#[derive(Clone, Copy, Debug, PartialEq, Eq)]
 pub struct Token {
     pub kind: TokenKind,
     pub span: Span,
@@ -41,7 +42,7 @@ impl Token {
 }
 
 // The bytes from `start` up to `end`, which is not included.
-#[derive(Clone, Copy)]
+#[derive(Clone, Copy, Debug, PartialEq, Eq)]
 pub struct Span {
     pub start: usize,
     pub end: usize,
@@ -62,61 +63,63 @@ impl Span {
     }
 }
 
-#[derive(Clone, Copy)]
+// The sixteen kinds, each with its number: a byte with which it begins; 1 to 4 for the multi-line strings, the atom and the end.
+#[derive(Clone, Copy, Debug, PartialEq, Eq)]
 pub enum TokenKind {
     // within a dotted key or a float
-    Dot,
+    Dot = 46,
     // between a key and its value
-    Equals,
+    Equals = 61,
     // between values
-    Comma,
+    Comma = 44,
     // before an array or a table's name
-    LeftSquareBracket,
+    LeftSquareBracket = 91,
     // after an array or a table's name
-    RightSquareBracket,
+    RightSquareBracket = 93,
     // before an inline table
-    LeftCurlyBracket,
+    LeftCurlyBracket = 123,
     // after an inline table
-    RightCurlyBracket,
-    Whitespace,
-    Comment,
-    Newline,
-    LiteralString,
-    BasicString,
-    MlLiteralString,
-    MlBasicString,
+    RightCurlyBracket = 125,
+    Whitespace = 32,
+    Comment = 35,
+    Newline = 10,
+    LiteralString = 39,
+    BasicString = 34,
+    MlLiteralString = 1,
+    MlBasicString = 2,
     // all else
-    Atom,
-    Eof,
+    Atom = 3,
+    Eof = 4,
 }
 
-// What a number is read as.
-#[derive(Clone, Copy)]
-pub enum KindRead {
-    Kind(TokenKind),
-    Refused(Refusal),
-}
+// The kind that has a number.
+impl TryFrom<usize> for TokenKind {
+    type Error = Refusal;
 
-// Whether a call answered; the values that it answers stand beside this.
-#[derive(Clone, Copy)]
-pub enum Answer {
-    Found,
-    Refused(Refusal),
-}
+    ghost try_from_gives = { KindGives };
 
-// A kind in words: the first `len` of `bytes`, the rest zero; all zero where refused.
-#[derive(Clone, Copy)]
-pub struct Description {
-    pub answer: Answer,
-    pub len: usize,
-    pub bytes: [u8; 25],
-}
-
-// The number that a decoder takes for a kind: 0 for a kind that is no string, and where refused.
-#[derive(Clone, Copy)]
-pub struct KindEncoding {
-    pub answer: Answer,
-    pub number: usize,
+    #[tactic(auto, unfolding(crate::specs::KindNumbers::kind_of_number))]
+    fn try_from(number: usize) -> Result<Self, Refusal> {
+        match number {
+            TokenKind::DOT => Ok(TokenKind::Dot),
+            TokenKind::EQUALS => Ok(TokenKind::Equals),
+            TokenKind::COMMA => Ok(TokenKind::Comma),
+            TokenKind::LEFT_SQUARE_BRACKET => Ok(TokenKind::LeftSquareBracket),
+            TokenKind::RIGHT_SQUARE_BRACKET => Ok(TokenKind::RightSquareBracket),
+            TokenKind::LEFT_CURLY_BRACKET => Ok(TokenKind::LeftCurlyBracket),
+            TokenKind::RIGHT_CURLY_BRACKET => Ok(TokenKind::RightCurlyBracket),
+            TokenKind::WHITESPACE => Ok(TokenKind::Whitespace),
+            TokenKind::COMMENT => Ok(TokenKind::Comment),
+            TokenKind::NEWLINE => Ok(TokenKind::Newline),
+            TokenKind::LITERAL_STRING => Ok(TokenKind::LiteralString),
+            TokenKind::BASIC_STRING => Ok(TokenKind::BasicString),
+            TokenKind::ML_LITERAL_STRING => Ok(TokenKind::MlLiteralString),
+            TokenKind::ML_BASIC_STRING => Ok(TokenKind::MlBasicString),
+            TokenKind::ATOM => Ok(TokenKind::Atom),
+            TokenKind::EOF => Ok(TokenKind::Eof),
+            _ => Err(Refusal::NoKind { number }),
+        }
+    }
 }
 
 impl TokenKind {
@@ -156,157 +159,61 @@ impl TokenKind {
     pub fn number(self) -> usize
         ensures { result ≡ kind_number self }
     {
-        match self {
-            TokenKind::Dot => TokenKind::DOT,
-            TokenKind::Equals => TokenKind::EQUALS,
-            TokenKind::Comma => TokenKind::COMMA,
-            TokenKind::LeftSquareBracket => TokenKind::LEFT_SQUARE_BRACKET,
-            TokenKind::RightSquareBracket => TokenKind::RIGHT_SQUARE_BRACKET,
-            TokenKind::LeftCurlyBracket => TokenKind::LEFT_CURLY_BRACKET,
-            TokenKind::RightCurlyBracket => TokenKind::RIGHT_CURLY_BRACKET,
-            TokenKind::Whitespace => TokenKind::WHITESPACE,
-            TokenKind::Comment => TokenKind::COMMENT,
-            TokenKind::Newline => TokenKind::NEWLINE,
-            TokenKind::LiteralString => TokenKind::LITERAL_STRING,
-            TokenKind::BasicString => TokenKind::BASIC_STRING,
-            TokenKind::MlLiteralString => TokenKind::ML_LITERAL_STRING,
-            TokenKind::MlBasicString => TokenKind::ML_BASIC_STRING,
-            TokenKind::Atom => TokenKind::ATOM,
-            TokenKind::Eof => TokenKind::EOF,
-        }
-    }
-
-    // The kind that has a number.
-    // The kind that has a number.
-    #[tactic(auto, unfolding(crate::specs::KindNumbers::kind_of_number))]
-    pub fn from_number(number: usize) -> KindRead
-        ensures answer { result ≡ kind_of_number number }
-        ensures number { kind_read_number result ≡ kind_refusal number }
-        ensures value { kind_read_value result ≡ kind_returned number }
-    {
-        match number {
-            TokenKind::DOT => KindRead::Kind(TokenKind::Dot),
-            TokenKind::EQUALS => KindRead::Kind(TokenKind::Equals),
-            TokenKind::COMMA => KindRead::Kind(TokenKind::Comma),
-            TokenKind::LEFT_SQUARE_BRACKET => KindRead::Kind(TokenKind::LeftSquareBracket),
-            TokenKind::RIGHT_SQUARE_BRACKET => KindRead::Kind(TokenKind::RightSquareBracket),
-            TokenKind::LEFT_CURLY_BRACKET => KindRead::Kind(TokenKind::LeftCurlyBracket),
-            TokenKind::RIGHT_CURLY_BRACKET => KindRead::Kind(TokenKind::RightCurlyBracket),
-            TokenKind::WHITESPACE => KindRead::Kind(TokenKind::Whitespace),
-            TokenKind::COMMENT => KindRead::Kind(TokenKind::Comment),
-            TokenKind::NEWLINE => KindRead::Kind(TokenKind::Newline),
-            TokenKind::LITERAL_STRING => KindRead::Kind(TokenKind::LiteralString),
-            TokenKind::BASIC_STRING => KindRead::Kind(TokenKind::BasicString),
-            TokenKind::ML_LITERAL_STRING => KindRead::Kind(TokenKind::MlLiteralString),
-            TokenKind::ML_BASIC_STRING => KindRead::Kind(TokenKind::MlBasicString),
-            TokenKind::ATOM => KindRead::Kind(TokenKind::Atom),
-            TokenKind::EOF => KindRead::Kind(TokenKind::Eof),
-            _ => KindRead::Refused(Refusal::NoKind { number }),
-        }
+        self as usize
     }
 
     // The words for the kind that has a number.
-    pub fn description(number: usize) -> Description
-        ensures answer { result ≡ description_of number }
-        ensures number { answer_number result.answer ≡ kind_refusal number }
-        ensures value { answer_value result.answer ≡ kind_returned number }
+    #[tactic(auto, unfolding(crate::specs::Descriptions::description_of))]
+    pub fn description(number: usize) -> Result<&'static [u8], Refusal>
+        ensures answer { MatchResult result (λ text. description_of number ≡ Ok text.now) (λ r. description_of number ≡ Err r) }
+        ensures number { told_number result ≡ kind_refusal number }
+        ensures value { told_value result ≡ kind_returned number }
     {
-        match TokenKind::from_number(number) {
-            KindRead::Kind(kind) => kind.described(),
-            KindRead::Refused(refusal) => Description {
-                answer: Answer::Refused(refusal),
-                len: 0,
-                bytes: [0; 25],
-            },
-        }
+        Ok(TokenKind::try_from(number)?.text())
     }
 
-    fn described(self) -> Description
-        ensures { result ≡ described_by (kind_text self) }
+    fn text(self) -> &'static [u8]
+        ensures { result.now ≡ kind_text self }
     {
         match self {
-            TokenKind::Dot => described_mark(b'.'),
-            TokenKind::Equals => described_mark(b'='),
-            TokenKind::Comma => described_mark(b','),
-            TokenKind::LeftSquareBracket => described_mark(b'['),
-            TokenKind::RightSquareBracket => described_mark(b']'),
-            TokenKind::LeftCurlyBracket => described_mark(b'{'),
-            TokenKind::RightCurlyBracket => described_mark(b'}'),
-            TokenKind::Whitespace => described_by(b"whitespace"),
-            TokenKind::Comment => described_by(b"comment"),
-            TokenKind::Newline => described_by(b"newline"),
-            TokenKind::LiteralString => described_by(b"literal string"),
-            TokenKind::BasicString => described_by(b"basic string"),
-            TokenKind::MlLiteralString => described_by(b"multi-line literal string"),
-            TokenKind::MlBasicString => described_by(b"multi-line basic string"),
-            TokenKind::Atom => described_by(b"token"),
-            TokenKind::Eof => described_by(b"end-of-input"),
+            TokenKind::Dot => b"`.`",
+            TokenKind::Equals => b"`=`",
+            TokenKind::Comma => b"`,`",
+            TokenKind::LeftSquareBracket => b"`[`",
+            TokenKind::RightSquareBracket => b"`]`",
+            TokenKind::LeftCurlyBracket => b"`{`",
+            TokenKind::RightCurlyBracket => b"`}`",
+            TokenKind::Whitespace => b"whitespace",
+            TokenKind::Comment => b"comment",
+            TokenKind::Newline => b"newline",
+            TokenKind::LiteralString => b"literal string",
+            TokenKind::BasicString => b"basic string",
+            TokenKind::MlLiteralString => b"multi-line literal string",
+            TokenKind::MlBasicString => b"multi-line basic string",
+            TokenKind::Atom => b"token",
+            TokenKind::Eof => b"end-of-input",
         }
     }
 
-    // The encoding of the kind that has a number.
-    pub fn encoding(number: usize) -> KindEncoding
+    // The number by which a decoder takes the kind that has a number: 0 for a kind that is no string.
+    #[tactic(auto, unfolding(crate::specs::Encodings::encoding_of))]
+    pub fn encoding(number: usize) -> Result<usize, Refusal>
         ensures answer { result ≡ encoding_of number }
-        ensures number { answer_number result.answer ≡ kind_refusal number }
-        ensures value { answer_value result.answer ≡ kind_returned number }
+        ensures number { told_number result ≡ kind_refusal number }
+        ensures value { told_value result ≡ kind_returned number }
     {
-        match TokenKind::from_number(number) {
-            KindRead::Kind(kind) => KindEncoding {
-                answer: Answer::Found,
-                number: kind.encoded(),
-            },
-            KindRead::Refused(refusal) => KindEncoding {
-                answer: Answer::Refused(refusal),
-                number: 0,
-            },
-        }
+        Ok(TokenKind::try_from(number)?.encoded())
     }
 
     fn encoded(self) -> usize
         ensures { result ≡ kind_encoding self }
     {
         match self {
-            TokenKind::LiteralString => TokenKind::LITERAL_STRING,
-            TokenKind::BasicString => TokenKind::BASIC_STRING,
-            TokenKind::MlLiteralString => TokenKind::ML_LITERAL_STRING,
-            TokenKind::MlBasicString => TokenKind::ML_BASIC_STRING,
-            TokenKind::Dot => 0,
-            TokenKind::Equals => 0,
-            TokenKind::Comma => 0,
-            TokenKind::LeftSquareBracket => 0,
-            TokenKind::RightSquareBracket => 0,
-            TokenKind::LeftCurlyBracket => 0,
-            TokenKind::RightCurlyBracket => 0,
-            TokenKind::Whitespace => 0,
-            TokenKind::Comment => 0,
-            TokenKind::Newline => 0,
-            TokenKind::Atom => 0,
-            TokenKind::Eof => 0,
+            TokenKind::LiteralString
+            | TokenKind::BasicString
+            | TokenKind::MlLiteralString
+            | TokenKind::MlBasicString => self.number(),
+            _ => 0,
         }
-    }
-}
-
-// A description that shows a mark between backticks.
-fn described_mark(mark: u8) -> Description
-    ensures { result ≡ described_by (0x60 ∷ mark ∷ 0x60 ∷ []) }
-{
-    described_by(&[b'`', mark, b'`'])
-}
-
-// A description with the words `text`, of at most 25 bytes.
-fn described_by(text: &[u8]) -> Description
-    requires { length text.now ≤ 25 }
-    ensures { result ≡ described_by text.now }
-{
-    let mut bytes = [0u8; 25];
-    let mut i = 0;
-    while i < text.len() {
-        bytes[i] = text[i];
-        i += 1;
-    }
-    Description {
-        answer: Answer::Found,
-        len: text.len(),
-        bytes,
     }
 }

@@ -10,9 +10,6 @@ answer_of κs a x y s t p q = p ∙ sym q
 pub refused : OneAnswer promised.refused.Reads.Learnt
 refused κs a x y s t p q = p ∙ sym q
 
-pub checked : OneAnswer promised.checked.Reads.Learnt
-checked κs a x y s t p q = p ∙ sym q
-
 pub started : OneAnswer promised.started.Reads.Learnt
 started κs a x y s t p q = p ∙ sym q
 
@@ -21,12 +18,6 @@ cursor_of κs a x y s t p q = p ∙ sym q
 
 pub stepped : OneAnswer promised.stepped.Reads.Learnt
 stepped κs a x y s t p q = p ∙ sym q
-
-pub lexed : OneAnswer promised.lexed.Reads.Learnt
-lexed κs a x y s t p q = p ∙ sym q
-
-pub span_checked : OneAnswer promised.span_checked.Reads.Learnt
-span_checked κs a x y s t p q = p ∙ sym q
 
 pub part_of : OneAnswer promised.part_of.Reads.Learnt
 part_of κs a x y s t p q = p ∙ sym q
@@ -48,3 +39,16 @@ worded κs a x y s t p q = p ∙ sym q
 
 pub bit : OneAnswer promised.bit.Reads.Learnt
 bit κs a x y s t p q = p ∙ sym q
+
+-- of a call that answers with any value
+pub answered : (g : _) (laws : _) (value : _) (d : _) → OneAnswer (promised.answered.Reads.Learnt g laws value d)
+answered g laws value d κs a x y s t p q = p ∙ sym q
+
+pub padded : (n : _) (fits : _) → OneAnswer (promised.padded.Reads.Learnt n fits)
+padded n fits κs a x y s t p q = p ∙ sym q
+
+pub cursor_from : OneAnswer promised.CursorNumbersFromCursor.from.Reads.Learnt
+cursor_from κs a x y s t p q = p ∙ sym q
+
+pub token_from : OneAnswer promised.TokenNumbersFromToken.from.Reads.Learnt
+token_from κs a x y s t p q = p ∙ sym q

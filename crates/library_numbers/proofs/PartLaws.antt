@@ -4,16 +4,15 @@ use mathlib.Core.Path.{◌≡◌, refl, ap, ◌∙◌}
 use mathlib.Core.List.{List}
 use Rattle.lexer_token.specs.Records.{span_of}
 use Rattle.lexer_place.specs.Spans.{span_answer, text_checked, span_text}
-use Rattle.lexer_place.specs.declared.SpanCheck.{SpanCheck}
-use Rattle.lexer_place.specs.declared.SpanCheck.TheVariants.{Whole, Refused}
+use Rattle.std.specs.Prelude.{Result, Ok, Err, ⊤}
+use Rattle.text_refusals.specs.declared.Refusal.{Refusal}
 use Rattle.library_numbers.specs.Numbers.{part_of, part_text}
 use Rattle.library_numbers.specs.declared.PartNumbers.{PartNumbers}
 
-part_text_lem : (doc : List ℕ) (start end : ℕ) (s : SpanCheck)
+part_text_lem : (doc : List ℕ) (start end : ℕ) (s : Result ⊤ Refusal)
     → part_text doc (part_of s start end) ≡ text_checked s doc (span_of start end)
-unfolding part_of
-part_text_lem doc start end Whole = refl
-part_text_lem doc start end (Refused r) = refl
+part_text_lem doc start end (Ok done) = refl
+part_text_lem doc start end (Err r) = refl
 
 pub parted : (doc : List ℕ) (start end : ℕ) (r : PartNumbers) → r ≡ part_of (span_answer doc (span_of start end)) start end
     → (r ≡ part_of (span_answer doc (span_of start end)) start end) × (part_text doc r ≡ span_text doc (span_of start end))

@@ -1,73 +1,75 @@
--- The exported numbers are the numbers of the answers as Told.antt of each crate defines them: each field is the one of its name.
+-- The exported numbers are the numbers of the answers as Told.antt of crate `text_refusals`, and of each crate, defines them: each field is
+-- the one of its name.
+use Rattle.std.specs.Prelude.{ℕ, Bool, true, false, List, Result, Ok, Err, Option, Some, None, ⊤}
 use mathlib.Core.Path.{◌≡◌, refl}
-use Rattle.text.specs.Told.{check_number, check_value, check_length}
-use Rattle.text.specs.declared.utf8.Utf8Check.{Utf8Check}
-use Rattle.text.specs.declared.utf8.Utf8Check.TheVariants.{Valid, Refused as Broken}
-use Rattle.lexer_token.specs.Told.{answer_number, answer_value}
-use Rattle.lexer_token.specs.declared.Answer.{Answer}
-use Rattle.lexer_token.specs.declared.Answer.TheVariants.{Found as Told, Refused as Untold}
+use Rattle.text_refusals.specs.Told.{told_number, told_value, told_length, told_count, told_flag}
+use Rattle.text_refusals.specs.declared.Refusal.{Refusal}
+use Rattle.lexer_token.specs.declared.Token.{Token}
 use Rattle.lexer.specs.Steps.{start_cursor}
-use Rattle.lexer.specs.Told.{start_number, start_value, step_number, step_value, lexed_number, lexed_value, lexed_length}
-use Rattle.lexer.specs.declared.Start.{Start}
-use Rattle.lexer.specs.declared.Start.TheVariants.{At, Refused as Unstarted}
-use Rattle.lexer.specs.declared.Step.{Step}
-use Rattle.lexer.specs.declared.Step.TheVariants.{Token, End, Refused as Unstepped}
-use Rattle.lexer.specs.declared.Lexed.{Lexed}
-use Rattle.lexer.specs.declared.Lexed.TheVariants.{Tokens, Refused as Unlexed}
-use Rattle.lexer_place.specs.Told.{span_number, span_value, position_number, position_value, position_line}
-use Rattle.lexer_place.specs.declared.SpanCheck.{SpanCheck}
-use Rattle.lexer_place.specs.declared.SpanCheck.TheVariants.{Whole, Refused as Misplaced}
+use Rattle.lexer.specs.declared.Cursor.{Cursor}
+use Rattle.lexer_place.specs.Told.{position_line}
 use Rattle.lexer_place.specs.declared.Position.{Position}
-use Rattle.lexer_place.specs.declared.Position.TheVariants.{At as Placed, Refused as Unplaced}
-use Rattle.decoder_rules.specs.Told.{decoded_number, decoded_value, decoded_errors, decoded_length}
+use Rattle.decoder_rules.specs.Told.{decoded_value, decoded_errors}
 use Rattle.decoder_rules.specs.declared.Decoded.{Decoded}
-use Rattle.decoder_rules.specs.declared.Decoded.TheVariants.{Written, Refused as Undecoded}
-use Rattle.library_numbers.specs.Numbers.{check_numbers, cursor_numbers, start_numbers, step_numbers, lex_numbers, span_numbers, position_numbers, decode_numbers, told_by}
+use Rattle.decoder_words.specs.Words.{Spoken, Worded}
+use Rattle.library_numbers.specs.Numbers.{count_numbers, done_numbers, flag_numbers, cursor_numbers, start_numbers, step_numbers, position_numbers, decode_numbers}
+use Rattle.library_numbers.specs.Numbers.{described_numbers, encoded_numbers, words_of, words_numbers, answer_of}
+use Rattle.library_numbers.specs.declared.AnswerNumbers.{AnswerNumbers}
 
-pub check_told : (r : Utf8Check) → check_numbers r ≡ record { refusal = check_number r; value = check_value r; length = check_length r }
-unfolding check_numbers
-check_told Valid = refl
-check_told (Broken r) = refl
+-- of a call that answers with nothing, with a count, and with a flag
+pub done_told : (r : Result ⊤ Refusal) → done_numbers r ≡ record { refusal = told_number r; value = told_value r; length = told_length r }
+done_told (Ok done) = refl
+done_told (Err r) = refl
 
-pub start_told : (r : Start) → ((start_numbers r).answer.refusal ≡ start_number r) × ((start_numbers r).answer.value ≡ start_value r)
-    × ((start_numbers r).cursor ≡ cursor_numbers (start_cursor r))
-unfolding start_numbers
-start_told (At c) = (refl, refl, refl)
-start_told (Unstarted r) = (refl, refl, refl)
+pub count_told : (r : Result ℕ Refusal) → count_numbers r ≡ record { refusal = told_number r; value = told_count r; length = told_length r }
+count_told (Ok n) = refl
+count_told (Err r) = refl
 
-pub step_told : (r : Step) → ((step_numbers r).answer.refusal ≡ step_number r) × ((step_numbers r).answer.value ≡ step_value r)
-unfolding step_numbers
-step_told (Token t c) = (refl, refl)
-step_told End = (refl, refl)
-step_told (Unstepped r) = (refl, refl)
+pub flag_told : (r : Result Bool Refusal) → flag_numbers r ≡ record { refusal = told_number r; value = told_flag r; length = told_length r }
+flag_told (Ok true) = refl
+flag_told (Ok false) = refl
+flag_told (Err r) = refl
 
-pub lex_told : (r : Lexed) → lex_numbers r ≡ record { refusal = lexed_number r; value = lexed_value r; length = lexed_length r }
-unfolding lex_numbers
-lex_told (Tokens n) = refl
-lex_told (Unlexed r) = refl
+-- the answer of a call that has results of its own
+abbrev pub ToldBy : {A : Type 0} → Result A Refusal → AnswerNumbers → Type 0
+ToldBy r answer = answer ≡ record { refusal = told_number r; value = told_value r; length = told_length r }
 
-pub span_told : (r : SpanCheck) → ((span_numbers r).refusal ≡ span_number r) × ((span_numbers r).value ≡ span_value r)
-unfolding span_numbers
-span_told Whole = (refl, refl)
-span_told (Misplaced r) = (refl, refl)
+pub start_told : (r : Result Cursor Refusal)
+    → ToldBy r (start_numbers r).answer × ((start_numbers r).cursor ≡ cursor_numbers (start_cursor r))
+start_told (Ok c) = (refl, refl)
+start_told (Err r) = (refl, refl)
 
-pub position_told : (r : Position) → ((position_numbers r).answer.refusal ≡ position_number r)
-    × ((position_numbers r).answer.value ≡ position_value r) × ((position_numbers r).line ≡ position_line r)
-unfolding position_numbers
-position_told (Placed line column) = (refl, refl, refl)
-position_told (Unplaced r) = (refl, refl, refl)
+pub step_told : (r : Result (Option (Token × Cursor)) Refusal) → ToldBy r (step_numbers r).answer
+step_told (Ok (Some (t, c))) = refl
+step_told (Ok None) = refl
+step_told (Err r) = refl
 
-pub decode_told : (r : Decoded)
+pub position_told : (r : Result Position Refusal)
+    → ToldBy r (position_numbers r).answer × ((position_numbers r).line ≡ position_line r)
+position_told (Ok p) = (refl, refl)
+position_told (Err r) = (refl, refl)
+
+pub decode_told : (r : Result Decoded Refusal)
     → decode_numbers r
     ≡ record {
-      answer = record { refusal = decoded_number r; value = decoded_value r; length = decoded_length r };
+      answer = record { refusal = told_number r; value = decoded_value r; length = told_length r };
       errors = decoded_errors r;
     }
-unfolding decode_numbers
-decode_told (Written bytes errors) = refl
-decode_told (Undecoded r) = refl
+decode_told (Ok d) = refl
+decode_told (Err r) = refl
 
-pub kind_told : (a : Answer) → ((told_by a).refusal ≡ answer_number a) × ((told_by a).value ≡ answer_value a)
-unfolding told_by
-kind_told Told = (refl, refl)
-kind_told (Untold r) = (refl, refl)
+pub described_told : (r : Result (List ℕ) Refusal) → ToldBy r (described_numbers r).answer
+described_told (Ok text) = refl
+described_told (Err r) = refl
+
+pub encoded_told : (r : Result ℕ Refusal) → ToldBy r (encoded_numbers r).answer
+encoded_told (Ok n) = refl
+encoded_told (Err r) = refl
+
+pub said_told : (n : ℕ) (p : Option Spoken) → (words_of n p).answer ≡ answer_of 0
+said_told n (Some p) = refl
+said_told n None = refl
+
+pub words_told : (r : Result Worded Refusal) → ToldBy r (words_numbers r).answer
+words_told (Ok w) = said_told w.expected w.phrase
+words_told (Err r) = refl

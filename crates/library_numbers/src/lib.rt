@@ -1,26 +1,28 @@
 // The answers of the reader's calls as numbers, in structs that C and Rust can be handed. A function
 // goes by the cases of one answer, and decides nothing. Definitions: specs/Numbers.antt.
+// The structs of numbers are the C interface, and so they hold numbers where Rust has an enum.
 #![tactic(auto)]
 
-ghost use Rattle.std.specs.Prelude.{◌≡◌};
+ghost use Rattle.std.specs.Prelude.{◌≡◌, ℕ};
+ghost use Rattle.decoder_words.specs.Words.{worded};
 ghost use Rattle.lexer.specs.Steps.{cursor_of};
 ghost use Rattle.lexer.specs.Told.{bit_of};
-ghost use Rattle.library_numbers.specs.Numbers.{flag, answer_of, refused_by, told_by, cursor_numbers, no_token, part_from, part_of};
-ghost use Rattle.library_numbers.specs.Numbers.{check_numbers, start_numbers, step_numbers, lex_numbers, span_numbers, position_numbers};
-ghost use Rattle.library_numbers.specs.Numbers.{decode_numbers, described_numbers, encoded_numbers, said_number, words_numbers};
+ghost use Rattle.library_numbers.specs.Numbers.{flag, answer_of, refused_by, answer_numbers, cursor_numbers, token_numbers, no_token, part_of};
+ghost use Rattle.library_numbers.specs.Numbers.{start_numbers, step_numbers, position_numbers, decode_numbers};
+ghost use Rattle.library_numbers.specs.Numbers.{padded, text_by, described_numbers, encoded_numbers, said_number, no_text, words_numbers};
 
 use decoder_rules::Decoded;
 use decoder_words::{Said, Words};
-use lexer::{Cursor, Lexed, Start, Step};
-use lexer_place::{Position, SpanCheck};
-use lexer_token::{Answer, Description, KindEncoding};
-use text::Utf8Check;
+use lexer::Cursor;
+use lexer_place::Position;
+use lexer_token::Token;
+use std::cmp::min;
 use text_refusals::Refusal;
 
 // `refusal` is 0 where the call answered, else the refusal's number; `value` is the value returned with
 // it; `length` is the length of the faulty sequence with refusal 1, else 0.
 #[repr(C)]
-#[derive(Clone, Copy)]
+#[derive(Clone, Copy, Default)]
 pub struct AnswerNumbers {
     pub refusal: usize,
     pub value: usize,
@@ -29,7 +31,7 @@ pub struct AnswerNumbers {
 
 // A cursor; `ended` is 1 where it is ended, else 0.
 #[repr(C)]
-#[derive(Clone, Copy)]
+#[derive(Clone, Copy, Default)]
 pub struct CursorNumbers {
     pub place: usize,
     pub ended: usize,
@@ -44,7 +46,7 @@ pub struct StartNumbers {
 }
 
 #[repr(C)]
-#[derive(Clone, Copy)]
+#[derive(Clone, Copy, Default)]
 pub struct TokenNumbers {
     pub kind: usize,
     pub start: usize,
@@ -54,7 +56,7 @@ pub struct TokenNumbers {
 
 // `found` is 1 with a token; without one it is 0, and so are all fields after it.
 #[repr(C)]
-#[derive(Clone, Copy)]
+#[derive(Clone, Copy, Default)]
 pub struct StepNumbers {
     pub answer: AnswerNumbers,
     pub found: usize,
@@ -64,7 +66,7 @@ pub struct StepNumbers {
 
 // A part of a document: `length` bytes from `start` on.
 #[repr(C)]
-#[derive(Clone, Copy)]
+#[derive(Clone, Copy, Default)]
 pub struct PartNumbers {
     pub start: usize,
     pub length: usize,
@@ -88,13 +90,14 @@ pub struct DecodeNumbers {
 
 // An error: its number, and from where to where it goes, counted from the start of the text; zeros where there is none.
 #[repr(C)]
-#[derive(Clone, Copy)]
+#[derive(Clone, Copy, Default)]
 pub struct ErrorNumbers {
     pub number: usize,
     pub start: usize,
     pub end: usize,
 }
 
+// Bytes with a length beside: the C interface, as in `WordsNumbers`.
 #[repr(C)]
 #[derive(Clone, Copy)]
 pub struct DescribedNumbers {
@@ -121,6 +124,65 @@ pub struct WordsNumbers {
     pub bytes: [u8; 43],
 }
 
+impl From<Cursor> for CursorNumbers {
+    ghost from_gives = { λ c n. n ≡ cursor_numbers c };
+
+    fn from(cursor: Cursor) -> CursorNumbers {
+        CursorNumbers {
+            place: cursor.place,
+            ended: bit(cursor.ended),
+            line: cursor.line,
+        }
+    }
+}
+
+impl From<Token> for TokenNumbers {
+    ghost from_gives = { λ t n. n ≡ token_numbers t };
+
+    fn from(token: Token) -> TokenNumbers {
+        let kind = token.kind;
+        TokenNumbers {
+            kind: kind.number(),
+            start: token.span.start,
+            end: token.span.end,
+            line: token.line,
+        }
+    }
+}
+
+// What a call answers with, as the one number that is returned.
+pub trait Value {
+    ghost value: { Self → ℕ };
+
+    fn value(self) -> usize
+        ensures { result ≡ value self };
+}
+
+impl Value for usize {
+    ghost value = { λ n. n };
+
+    fn value(self) -> usize {
+        self
+    }
+}
+
+// 1 for true, 0 for false.
+impl Value for bool {
+    ghost value = { bit_of };
+
+    fn value(self) -> usize {
+        bit(self)
+    }
+}
+
+impl Value for () {
+    ghost value = { λ _. 0 };
+
+    fn value(self) -> usize {
+        0
+    }
+}
+
 // A call that answered, with its value.
 pub fn answer_of(value: usize) -> AnswerNumbers
     ensures { result ≡ answer_of value }
@@ -143,26 +205,26 @@ pub fn refused(r: Refusal) -> AnswerNumbers
     }
 }
 
-pub fn checked(check: Utf8Check) -> AnswerNumbers
-    ensures { result ≡ check_numbers check }
+pub fn answered<A: Value>(answer: Result<A, Refusal>) -> AnswerNumbers
+    ensures { result ≡ answer_numbers A.value answer }
 {
-    match check {
-        Utf8Check::Valid => answer_of(0),
-        Utf8Check::Refused(r) => refused(r),
+    match answer {
+        Ok(a) => answer_of(a.value()),
+        Err(r) => refused(r),
     }
 }
 
-pub fn started(start: Start) -> StartNumbers
+pub fn started(start: Result<Cursor, Refusal>) -> StartNumbers
     ensures { result ≡ start_numbers start }
 {
     match start {
-        Start::At(cursor) => StartNumbers {
+        Ok(cursor) => StartNumbers {
             answer: answer_of(0),
-            cursor: cursor_numbers(cursor.place, cursor.line, cursor.ended),
+            cursor: cursor.into(),
         },
-        Start::Refused(r) => StartNumbers {
+        Err(r) => StartNumbers {
             answer: refused(r),
-            cursor: cursor_numbers(0, 0, false),
+            cursor: CursorNumbers::default(),
         },
     }
 }
@@ -178,71 +240,45 @@ pub fn cursor_of(place: usize, ended: usize, line: usize) -> Cursor
     }
 }
 
-pub fn stepped(step: Step) -> StepNumbers
+pub fn stepped(step: Result<Option<(Token, Cursor)>, Refusal>) -> StepNumbers
     ensures { result ≡ step_numbers step }
 {
     match step {
-        Step::Token(token, next) => {
-            let kind = token.kind;
-            StepNumbers {
-                answer: answer_of(0),
-                found: 1,
-                token: TokenNumbers {
-                    kind: kind.number(),
-                    start: token.span.start,
-                    end: token.span.end,
-                    line: token.line,
-                },
-                cursor: cursor_numbers(next.place, next.line, next.ended),
-            }
-        }
-        Step::End => no_token(answer_of(0)),
-        Step::Refused(r) => no_token(refused(r)),
-    }
-}
-
-pub fn lexed(lexed: Lexed) -> AnswerNumbers
-    ensures { result ≡ lex_numbers lexed }
-{
-    match lexed {
-        Lexed::Tokens(n) => answer_of(n),
-        Lexed::Refused(r) => refused(r),
-    }
-}
-
-pub fn span_checked(check: SpanCheck) -> AnswerNumbers
-    ensures { result ≡ span_numbers check }
-{
-    match check {
-        SpanCheck::Whole => answer_of(0),
-        SpanCheck::Refused(r) => refused(r),
+        Ok(Some((token, next))) => StepNumbers {
+            answer: answer_of(0),
+            found: 1,
+            token: token.into(),
+            cursor: next.into(),
+        },
+        Ok(None) => no_token(answer_of(0)),
+        Err(r) => no_token(refused(r)),
     }
 }
 
 // The text of the span from `start` up to `end`, which `check` was asked about: by its start and
-// length, since an exported function returns no reference.
-pub fn part_of(check: SpanCheck, start: usize, end: usize) -> PartNumbers
+// length, since an exported function returns no reference. It is empty where `end` is before `start`.
+pub fn part_of(check: Result<(), Refusal>, start: usize, end: usize) -> PartNumbers
     ensures { result ≡ part_of check start end }
 {
     match check {
-        SpanCheck::Whole => part_from(start, end),
-        SpanCheck::Refused(_) => PartNumbers {
-            start: 0,
-            length: 0,
+        Ok(()) => PartNumbers {
+            start,
+            length: end.saturating_sub(start),
         },
+        Err(_) => PartNumbers::default(),
     }
 }
 
-pub fn positioned(position: Position) -> PositionNumbers
+pub fn positioned(position: Result<Position, Refusal>) -> PositionNumbers
     ensures { result ≡ position_numbers position }
 {
     match position {
-        Position::At { line, column } => PositionNumbers {
+        Ok(Position { line, column }) => PositionNumbers {
             answer: answer_of(0),
             line,
             column,
         },
-        Position::Refused(r) => PositionNumbers {
+        Err(r) => PositionNumbers {
             answer: refused(r),
             line: 0,
             column: 0,
@@ -250,85 +286,109 @@ pub fn positioned(position: Position) -> PositionNumbers
     }
 }
 
-pub fn decoded(decoded: Decoded) -> DecodeNumbers
+pub fn decoded(decoded: Result<Decoded, Refusal>) -> DecodeNumbers
     ensures { result ≡ decode_numbers decoded }
 {
     match decoded {
-        Decoded::Written { bytes, errors } => DecodeNumbers {
+        Ok(Decoded { bytes, errors }) => DecodeNumbers {
             answer: answer_of(bytes),
             errors,
         },
-        Decoded::Refused(r) => DecodeNumbers {
+        Err(r) => DecodeNumbers {
             answer: refused(r),
             errors: 0,
         },
     }
 }
 
-pub fn described(description: Description) -> DescribedNumbers
-    ensures { result ≡ described_numbers description }
+pub fn described(description: Result<&[u8], Refusal>) -> DescribedNumbers
+    ensures { result ≡ described_numbers (text_by description.entry) }
 {
-    let answer = description.answer;
-    let bytes = description.bytes;
-    DescribedNumbers {
-        answer: told(answer),
-        length: description.len,
-        bytes,
+    match description {
+        Ok(text) => DescribedNumbers {
+            answer: answer_of(0),
+            length: text.len(),
+            bytes: padded(text),
+        },
+        Err(r) => DescribedNumbers {
+            answer: refused(r),
+            length: 0,
+            bytes: [0; 25],
+        },
     }
 }
 
-pub fn encoded(encoding: KindEncoding) -> EncodedNumbers
+pub fn encoded(encoding: Result<usize, Refusal>) -> EncodedNumbers
     ensures { result ≡ encoded_numbers encoding }
 {
-    let answer = encoding.answer;
-    EncodedNumbers {
-        answer: told(answer),
-        encoding: encoding.number,
+    match encoding {
+        Ok(encoding) => EncodedNumbers {
+            answer: answer_of(0),
+            encoding,
+        },
+        Err(r) => EncodedNumbers {
+            answer: refused(r),
+            encoding: 0,
+        },
     }
 }
 
-pub fn worded(words: Words) -> WordsNumbers
-    ensures { result ≡ words_numbers words }
+// The first `N` bytes of a text, with zeros behind them where it has fewer.
+pub fn padded<const N: usize>(text: &[u8]) -> [u8; N]
+    ensures { result ≡ padded N text.now }
 {
-    let answer = words.answer;
-    let said = words.said;
-    let bytes = words.bytes;
+    let mut bytes = [0; N];
+    let n = min(text.len(), N);
+    bytes[..n].copy_from_slice(&text[..n]);
+    bytes
+}
+
+pub fn worded(words: Result<Words, Refusal>) -> WordsNumbers
+    ensures { result ≡ words_numbers (worded words) }
+{
+    match words {
+        Ok(
+            Words {
+                expected,
+                phrase: Some(phrase),
+            },
+        ) => WordsNumbers {
+            answer: answer_of(0),
+            expected,
+            said: said_number(phrase.said),
+            length: phrase.text.len(),
+            bytes: padded(phrase.text),
+        },
+        Ok(
+            Words {
+                expected,
+                phrase: None,
+            },
+        ) => no_text(answer_of(0), expected),
+        Err(r) => no_text(refused(r), 0),
+    }
+}
+
+fn no_text(answer: AnswerNumbers, expected: usize) -> WordsNumbers
+    ensures { result ≡ no_text answer expected }
+{
     WordsNumbers {
-        answer: told(answer),
-        expected: words.expected,
-        said: said_number(said),
-        length: words.len,
-        bytes,
+        answer,
+        expected,
+        said: 0,
+        length: 0,
+        bytes: [0; 43],
     }
 }
 
-fn told(a: Answer) -> AnswerNumbers
-    ensures { result ≡ told_by a }
-{
-    match a {
-        Answer::Found => answer_of(0),
-        Answer::Refused(r) => refused(r),
-    }
-}
-
+// The numbers are the C interface.
 fn said_number(said: Said) -> usize
     ensures { result ≡ said_number said }
 {
     match said {
-        Said::Nothing => 0,
         Said::Message => 1,
         Said::Literal => 2,
         Said::Description => 3,
-    }
-}
-
-fn cursor_numbers(place: usize, line: usize, ended: bool) -> CursorNumbers
-    ensures { result ≡ cursor_numbers (cursor_of place line ended) }
-{
-    CursorNumbers {
-        place,
-        ended: bit(ended),
-        line,
     }
 }
 
@@ -337,27 +397,7 @@ fn no_token(answer: AnswerNumbers) -> StepNumbers
 {
     StepNumbers {
         answer,
-        found: 0,
-        token: TokenNumbers {
-            kind: 0,
-            start: 0,
-            end: 0,
-            line: 0,
-        },
-        cursor: cursor_numbers(0, 0, false),
-    }
-}
-
-// The bytes from `start` up to `end`; none where `end` is before `start`.
-fn part_from(start: usize, end: usize) -> PartNumbers
-    ensures { result ≡ part_from start end }
-{
-    if end < start {
-        return PartNumbers { start, length: 0 };
-    }
-    PartNumbers {
-        start,
-        length: end - start,
+        ..StepNumbers::default()
     }
 }
 
@@ -365,5 +405,5 @@ fn part_from(start: usize, end: usize) -> PartNumbers
 pub fn bit(b: bool) -> usize
     ensures { result ≡ bit_of b }
 {
-    if b { 1 } else { 0 }
+    b as usize
 }

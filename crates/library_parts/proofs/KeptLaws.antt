@@ -1,6 +1,7 @@
 -- A state's numbers stand for that state: of each mode by computing, of a character in progress because more than none of its
 -- bytes are still to come and the bounds of the next are bytes, which holds from the first call on.
 use Prim.Native.Nat.{ℕ, ◌+◌, ◌-◌}
+use Rattle.std.specs.Prelude.{Option, Some, None, Result, Ok, Err}
 use native.Mathlib.Omega.{arith}
 use mathlib.Core.Path.{◌≡◌, refl}
 use mathlib.Core.Bool.{Bool, true, false, cond}
@@ -15,16 +16,14 @@ use Rattle.lexer.specs.Told.{bit_of}
 use Rattle.built_bytes.specs.declared.Quote.TheVariants.{Apostrophe, Quotation}
 use Rattle.built_bytes.specs.declared.Mode.{Mode}
 use Rattle.built_bytes.specs.declared.Mode.TheVariants.{Start, Bom1, Bom2, Idle, Blanks, Remark, Word, Return, One, Two, Line, Ml, MlOne, MlTwo, Shut, ShutOne}
-use Rattle.built_characters.specs.Characters.{led_by, as_asked, character_turn}
+use Rattle.built_characters.specs.Characters.{led, led_by, as_asked, character_turn}
 use Rattle.built_characters.specs.declared.Character.{Character}
 use Rattle.built_characters.specs.declared.Character.TheVariants.{Whole, Begun}
-use Rattle.built_characters.specs.declared.CharacterTurn.{CharacterTurn}
-use Rattle.built_characters.specs.declared.CharacterTurn.TheVariants.{Sound, Broken}
 use Rattle.built_lexing.specs.States.{given_by, last_tokens}
 use Rattle.built_parts.specs.Checking.{checked_by, on_good, valid_at, checked}
 use Rattle.built_parts.specs.Feeding.{no_parts, closed, is_over, checked_from, feed_checked, feed_of, close_checked, close_of}
 use Rattle.built_parts.specs.declared.checks.Checked.{Checked}
-use Rattle.built_parts.specs.declared.checks.Checked.TheVariants.{Good, Bad}
+use Rattle.built_parts.specs.declared.checks.Faulty.{Faulty}
 use Rattle.built_parts.specs.declared.Parts.{Parts}
 use Rattle.built_parts.specs.declared.Fed.{Fed}
 use Rattle.library_parts.specs.Numbers.{mode_number, mode_of, left_of, low_of, high_of, byte_from, character_from, is_ended, state_numbers, parts_from}
@@ -120,9 +119,9 @@ from_asks : (left low high : ℕ) → Asks (character_from left low high)
 from_asks left low high = cond_case Asks (eqb left 0) (λ _. tt) (λ e. (e, byte_from_lem low, byte_from_lem high))
 
 -- a byte more leaves it so
-abbrev TurnAsks : CharacterTurn → Type 0
-TurnAsks (Sound c) = Asks c
-TurnAsks Broken = Unit {0}
+abbrev TurnAsks : Option Character → Type 0
+TurnAsks (Some c) = Asks c
+TurnAsks None = Unit {0}
 
 by_test : {P : Type 0} (t : Bool) → (t ≡ true → P) → (t ≡ false → P) → P
 by_test true f g = f refl
@@ -162,14 +161,14 @@ turn_asks (Begun left low high) b =
     (λ _. cond_case Asks (ltb left 2) (λ _. tt) (λ e. (one_fewer left e, refl, refl))))
 
 -- and so do the bytes of a part
-abbrev CheckedAsks : Checked → Type 0
-CheckedAsks (Good c valid) = Asks c
-CheckedAsks (Bad valid len) = Unit {0}
+abbrev CheckedAsks : Result Checked Faulty → Type 0
+CheckedAsks (Ok g) = Asks g.character
+CheckedAsks (Err b) = Unit {0}
 
-then_asks : (t : CharacterTurn) (valid at : ℕ) (f : Character → ℕ → Checked) → TurnAsks t
+then_asks : (t : Option Character) (valid at : ℕ) (f : Character → ℕ → Result Checked Faulty) → TurnAsks t
     → ((c : Character) (v : ℕ) → Asks c → CheckedAsks (f c v)) → CheckedAsks (on_good (checked_by t valid at) f)
-then_asks (Sound c) valid at f h g = g c valid h
-then_asks Broken valid at f h g = tt
+then_asks (Some c) valid at f h g = g c valid h
+then_asks None valid at f h g = tt
 
 checked_asks : (s : List ℕ) (c : Character) (valid at : ℕ) → Asks c → CheckedAsks (checked c valid at s)
 unfolding checked
@@ -199,9 +198,9 @@ parts_ask : (numbers : List ℕ) → PartsAsk (parts_from numbers)
 unfolding parts_from
 parts_ask numbers = from_asks (get_or numbers 5 0) (get_or numbers 6 0) (get_or numbers 7 0)
 
-part_asks : (k : Checked) (p : Parts) (s : List ℕ) (room : ℕ) → PartsAsk p → CheckedAsks k → FedAsks (feed_checked k p s room)
-part_asks (Bad valid len) p s room h k = h
-part_asks (Good c valid) p s room h k = cond_case FedAsks (ltb room (length (given_by p.lexing s))) (λ _. h) (λ _. k)
+part_asks : (k : Result Checked Faulty) (p : Parts) (s : List ℕ) (room : ℕ) → PartsAsk p → CheckedAsks k → FedAsks (feed_checked k p s room)
+part_asks (Err b) p s room h k = h
+part_asks (Ok g) p s room h k = cond_case FedAsks (ltb room (length (given_by p.lexing s))) (λ _. h) (λ _. k)
 
 feed_asks : (p : Parts) (s : List ℕ) (room : ℕ) → PartsAsk p → FedAsks (feed_of p s room)
 unfolding feed_of

@@ -10,7 +10,7 @@ use Rattle.built_characters.specs.declared.{Character.Character, Character.TheVa
 use Rattle.built_lexing.specs.{States.lexing_of}
 use Rattle.built_parts.specs.{Feeding.parts_of}
 use Rattle.built_parts.specs.declared.{Parts.Parts, Fed.Fed}
-use Rattle.library_numbers.specs.{Numbers.flag, Numbers.lex_numbers}
+use Rattle.library_numbers.specs.{Numbers.flag, Numbers.count_numbers}
 use Rattle.library_parts.specs.declared.{PartsNumbers.PartsNumbers, FedNumbers.FedNumbers}
 
 -- ---- modes
@@ -104,4 +104,4 @@ abbrev pub start_numbers : Parts → PartsNumbers
 start_numbers p = record { state = state_numbers p }
 
 abbrev pub fed_numbers : Fed → FedNumbers
-fed_numbers f = record { answer = lex_numbers f.answer; state = state_numbers f.parts }
+fed_numbers f = record { answer = count_numbers f.answer; state = state_numbers f.parts }

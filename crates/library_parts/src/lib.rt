@@ -1,10 +1,10 @@
 // The calls over a document that comes in parts, as numbers: the state, which a caller in another language keeps between two
 // calls, and the answers with the state after them. Definitions: specs/Numbers.antt. That the numbers of a state stand for that
-// very state: specs/Kept.antt.
+// very state: specs/Kept.antt. The structs are the C interface, as in library_numbers, and so a mode is a number in them.
 #![tactic(auto)]
 
 ghost use Rattle.std.specs.Prelude.{◌≡◌};
-ghost use Rattle.library_parts.specs.Numbers.{by_quote, mode_number, mode_of, left_of, low_of, high_of, byte_from, character_from, is_ended};
+ghost use Rattle.library_parts.specs.Numbers.{mode_number, mode_of, left_of, low_of, high_of, byte_from, character_from, is_ended};
 ghost use Rattle.library_parts.specs.Numbers.{state_numbers, parts_from, start_numbers, fed_numbers};
 
 use built_bytes::{Mode, Quote};
@@ -47,32 +47,35 @@ pub fn fed(fed: Fed) -> FedNumbers
     let parts = fed.parts;
     let state = numbers_of(parts);
     FedNumbers {
-        answer: library_numbers::lexed(answer),
+        answer: library_numbers::answered(answer),
         state,
     }
 }
 
+#[tactic(auto, unfolding(crate::specs::Numbers::state_numbers))]
 fn numbers_of(parts: Parts) -> StateNumbers
     ensures { result ≡ state_numbers parts }
 {
     let lexing = parts.lexing;
     let character = parts.character;
     let mode = lexing.mode;
+    let (left, low, high) = awaited(character);
     [
         mode_number(mode),
         lexing.start,
         lexing.first,
         lexing.at,
         lexing.line,
-        left_of(character),
-        low_of(character),
-        high_of(character),
+        left,
+        low,
+        high,
         parts.valid,
         bit(parts.ended),
     ]
 }
 
 // The state of a caller, who may make it of any numbers.
+#[tactic(auto, unfolding(crate::specs::Numbers::parts_from))]
 pub fn parts_of(state: StateNumbers) -> Parts
     ensures { result ≡ parts_from state }
 {
@@ -97,12 +100,11 @@ pub fn parts_of(state: StateNumbers) -> Parts
 fn is_ended(flag: usize, number: usize) -> bool
     ensures { result ≡ is_ended flag number }
 {
-    if flag != 0 {
-        return true;
-    }
-    27 < number
+    flag != 0 || 27 < number
 }
 
+// The numbers are the C interface.
+#[tactic(auto, unfolding(crate::specs::Numbers::mode_number))]
 fn mode_number(mode: Mode) -> usize
     ensures { result ≡ mode_number mode }
 {
@@ -115,39 +117,32 @@ fn mode_number(mode: Mode) -> usize
         Mode::Remark => 5,
         Mode::Word => 6,
         Mode::Return => 7,
-        Mode::One(q) => by_quote(q, 8, 9),
-        Mode::Two(q) => by_quote(q, 10, 11),
-        Mode::Line(q, hidden) => {
-            if hidden {
-                by_quote(q, 14, 15)
-            } else {
-                by_quote(q, 12, 13)
-            }
-        }
-        Mode::Ml(q, hidden) => {
-            if hidden {
-                by_quote(q, 18, 19)
-            } else {
-                by_quote(q, 16, 17)
-            }
-        }
-        Mode::MlOne(q) => by_quote(q, 20, 21),
-        Mode::MlTwo(q) => by_quote(q, 22, 23),
-        Mode::Shut(q) => by_quote(q, 24, 25),
-        Mode::ShutOne(q) => by_quote(q, 26, 27),
-    }
-}
-
-fn by_quote(q: Quote, apostrophe: usize, quotation: usize) -> usize
-    ensures { result ≡ by_quote q apostrophe quotation }
-{
-    match q {
-        Quote::Apostrophe => apostrophe,
-        Quote::Quotation => quotation,
+        Mode::One(Quote::Apostrophe) => 8,
+        Mode::One(Quote::Quotation) => 9,
+        Mode::Two(Quote::Apostrophe) => 10,
+        Mode::Two(Quote::Quotation) => 11,
+        Mode::Line(Quote::Apostrophe, false) => 12,
+        Mode::Line(Quote::Quotation, false) => 13,
+        Mode::Line(Quote::Apostrophe, true) => 14,
+        Mode::Line(Quote::Quotation, true) => 15,
+        Mode::Ml(Quote::Apostrophe, false) => 16,
+        Mode::Ml(Quote::Quotation, false) => 17,
+        Mode::Ml(Quote::Apostrophe, true) => 18,
+        Mode::Ml(Quote::Quotation, true) => 19,
+        Mode::MlOne(Quote::Apostrophe) => 20,
+        Mode::MlOne(Quote::Quotation) => 21,
+        Mode::MlTwo(Quote::Apostrophe) => 22,
+        Mode::MlTwo(Quote::Quotation) => 23,
+        Mode::Shut(Quote::Apostrophe) => 24,
+        Mode::Shut(Quote::Quotation) => 25,
+        Mode::ShutOne(Quote::Apostrophe) => 26,
+        Mode::ShutOne(Quote::Quotation) => 27,
     }
 }
 
 // The mode that has a number; between two tokens where none has it.
+// The numbers are the C interface.
+#[tactic(auto, unfolding(crate::specs::Numbers::mode_of, crate::specs::Numbers::mode_number))]
 fn mode_of(number: usize) -> Mode
     ensures { result ≡ mode_of number }
 {
@@ -183,42 +178,13 @@ fn mode_of(number: usize) -> Mode
     }
 }
 
-fn left_of(character: Character) -> usize
-    ensures { result ≡ left_of character }
+// How many bytes are still to come, and the least and the greatest that the next of them may be.
+fn awaited(character: Character) -> (usize, usize, usize)
+    ensures { result ≡ (left_of character, low_of character, high_of character) }
 {
     match character {
-        Character::Whole => 0,
-        Character::Begun {
-            left,
-            low: _,
-            high: _,
-        } => left,
-    }
-}
-
-fn low_of(character: Character) -> usize
-    ensures { result ≡ low_of character }
-{
-    match character {
-        Character::Whole => 0,
-        Character::Begun {
-            left: _,
-            low,
-            high: _,
-        } => low as usize,
-    }
-}
-
-fn high_of(character: Character) -> usize
-    ensures { result ≡ high_of character }
-{
-    match character {
-        Character::Whole => 0,
-        Character::Begun {
-            left: _,
-            low: _,
-            high,
-        } => high as usize,
+        Character::Whole => (0, 0, 0),
+        Character::Begun { left, low, high } => (left, low as usize, high as usize),
     }
 }
 
@@ -239,8 +205,5 @@ fn character_of(left: usize, low: usize, high: usize) -> Character
 fn byte_of(number: usize) -> u8
     ensures { result ≡ byte_from number }
 {
-    if number < 256 {
-        return number as u8;
-    }
-    255
+    u8::try_from(number).unwrap_or(255)
 }

@@ -9,3 +9,9 @@ open_in κs a x y s t p q = p ∙ sym q
 
 pub step_in : OneAnswer promised.step_in.Reads.Learnt
 step_in κs a x y s t p q = p ∙ sym q
+
+pub body_from : OneAnswer promised.BodyNumbersFromBody.from.Reads.Learnt
+body_from κs a x y s t p q = p ∙ sym q
+
+pub given_from : OneAnswer promised.GivenNumbersFromGiven.from.Reads.Learnt
+given_from κs a x y s t p q = p ∙ sym q

@@ -1,23 +1,21 @@
 // Decoding piece by piece as numbers, in structs that C and Rust can be handed: a text opened, and a step over its body.
-// Definitions: specs/Numbers.antt.
+// Definitions: specs/Numbers.antt. The structs are the C interface, as in library_numbers.
 #![tactic(auto)]
 
 ghost use Rattle.std.specs.Prelude.{◌≡◌};
 ghost use Rattle.lexer.specs.Told.{bit_of};
 ghost use Rattle.decoder_rules.specs.Encodings.{choice_by};
-ghost use Rattle.decoder_rules.specs.declared.Choice.TheVariants.{Known};
-ghost use Rattle.decoder_pieces.specs.declared.body.BodyStep.TheVariants.{Piece as Taken};
 ghost use Rattle.library_numbers.specs.Numbers.{flag};
-ghost use Rattle.library_pieces.specs.Numbers.{no_error, error_numbers, body_of, body_numbers, given_numbers, open_numbers, unopened, piece_numbers, no_piece, step_numbers};
+ghost use Rattle.library_pieces.specs.Numbers.{error_numbers, body_of, body_numbers, given_numbers, opened_numbers, open_numbers, piece_numbers, no_piece, step_numbers};
 
-use decoder_marks::{choice_by, open_text};
-use decoder_pieces::{Body, BodyStep};
-use decoder_rules::{Choice, Encoding, Given, Piece, Verdict};
+use decoder_marks::{Opened, choice_by, open_text};
+use decoder_pieces::Body;
+use decoder_rules::{Given, Piece, Wrong};
 use library_numbers::{AnswerNumbers, ErrorNumbers, answer_of, bit, refused};
 
 // What is still to be read of a text's body: the bytes from `at` to `end`. `dropping` is 1 within a line-ending escape, else 0.
 #[repr(C)]
-#[derive(Clone, Copy)]
+#[derive(Clone, Copy, Default)]
 pub struct BodyNumbers {
     pub at: usize,
     pub end: usize,
@@ -26,7 +24,7 @@ pub struct BodyNumbers {
 
 // What is wrong with a text's opening mark and with its closing one, and the body between them.
 #[repr(C)]
-#[derive(Clone, Copy)]
+#[derive(Clone, Copy, Default)]
 pub struct OpenNumbers {
     pub answer: AnswerNumbers,
     pub opening: ErrorNumbers,
@@ -36,7 +34,7 @@ pub struct OpenNumbers {
 
 // What a piece gives. `given` is 0 for nothing, 1 for the bytes that it takes, 2 for the character `scalar`.
 #[repr(C)]
-#[derive(Clone, Copy)]
+#[derive(Clone, Copy, Default)]
 pub struct GivenNumbers {
     pub given: usize,
     pub scalar: usize,
@@ -44,7 +42,7 @@ pub struct GivenNumbers {
 
 // `found` is 1 with a piece, of `take` bytes, and the body after it; at the end it is 0, and so are all fields after it.
 #[repr(C)]
-#[derive(Clone, Copy)]
+#[derive(Clone, Copy, Default)]
 pub struct PieceNumbers {
     pub answer: AnswerNumbers,
     pub found: usize,
@@ -54,20 +52,52 @@ pub struct PieceNumbers {
     pub body: BodyNumbers,
 }
 
+impl From<Body> for BodyNumbers {
+    ghost from_gives = { λ b n. n ≡ body_numbers b };
+
+    fn from(body: Body) -> BodyNumbers {
+        BodyNumbers {
+            at: body.at,
+            end: body.end,
+            dropping: bit(body.dropping),
+        }
+    }
+}
+
+impl From<Given> for GivenNumbers {
+    ghost from_gives = { λ g n. n ≡ given_numbers g };
+
+    fn from(given: Given) -> GivenNumbers {
+        match given {
+            Given::Nothing => GivenNumbers::default(),
+            Given::Copy => GivenNumbers {
+                given: 1,
+                scalar: 0,
+            },
+            Given::Char(c) => GivenNumbers {
+                given: 2,
+                scalar: c as usize,
+            },
+        }
+    }
+}
+
 // A text opened as the kind and the edition of two numbers.
 pub fn open_in(edition: usize, kind: usize, text: &[u8]) -> OpenNumbers
     ensures { result ≡ open_numbers (choice_by edition kind) text.now }
 {
     match choice_by(edition, kind) {
-        Choice::Known(e) => open_as(e, text),
-        Choice::Unknown(r) => no_text(refused(r)),
+        Ok(e) => opened(open_text(e, text)),
+        Err(r) => OpenNumbers {
+            answer: refused(r),
+            ..OpenNumbers::default()
+        },
     }
 }
 
-fn open_as(e: Encoding, text: &[u8]) -> OpenNumbers
-    ensures { result ≡ open_numbers (Known e) text.now }
+fn opened(opened: Opened) -> OpenNumbers
+    ensures { result ≡ opened_numbers opened }
 {
-    let opened = open_text(e, text);
     let opening = opened.opening;
     let closing = opened.closing;
     let body = opened.body;
@@ -75,55 +105,20 @@ fn open_as(e: Encoding, text: &[u8]) -> OpenNumbers
         answer: answer_of(0),
         opening: error_numbers(opening),
         closing: error_numbers(closing),
-        body: body_numbers(body),
+        body: body.into(),
     }
 }
 
-fn no_text(answer: AnswerNumbers) -> OpenNumbers
-    ensures { result ≡ unopened answer }
-{
-    OpenNumbers {
-        answer,
-        opening: no_error(),
-        closing: no_error(),
-        body: BodyNumbers {
-            at: 0,
-            end: 0,
-            dropping: 0,
-        },
-    }
-}
-
-fn no_error() -> ErrorNumbers
-    ensures { result ≡ no_error }
-{
-    ErrorNumbers {
-        number: 0,
-        start: 0,
-        end: 0,
-    }
-}
-
-fn error_numbers(verdict: Verdict) -> ErrorNumbers
+fn error_numbers(verdict: Option<Wrong>) -> ErrorNumbers
     ensures { result ≡ error_numbers verdict }
 {
     match verdict {
-        Verdict::Clean => no_error(),
-        Verdict::Wrong { error, start, end } => ErrorNumbers {
+        Some(Wrong { error, start, end }) => ErrorNumbers {
             number: error.number(),
             start,
             end,
         },
-    }
-}
-
-fn body_numbers(body: Body) -> BodyNumbers
-    ensures { result ≡ body_numbers body }
-{
-    BodyNumbers {
-        at: body.at,
-        end: body.end,
-        dropping: bit(body.dropping),
+        None => ErrorNumbers::default(),
     }
 }
 
@@ -138,62 +133,30 @@ pub fn step_in(
 ) -> PieceNumbers
     ensures { result ≡ step_numbers (choice_by edition kind) text.now (body_of at end (flag dropping)) }
 {
-    match choice_by(edition, kind) {
-        Choice::Known(e) => stepped(body_of(at, end, dropping).step(e, text)),
-        Choice::Unknown(r) => no_piece(refused(r)),
-    }
-}
-
-fn body_of(at: usize, end: usize, dropping: usize) -> Body
-    ensures { result ≡ body_of at end (flag dropping) }
-{
-    Body {
+    let body = Body {
         at,
         end,
         dropping: dropping != 0,
+    };
+    match choice_by(edition, kind) {
+        Ok(e) => stepped(body.step(e, text)),
+        Err(r) => no_piece(refused(r)),
     }
 }
 
-fn stepped(step: BodyStep) -> PieceNumbers
+fn stepped(step: Option<(Piece, Body)>) -> PieceNumbers
     ensures { result ≡ piece_numbers step }
 {
     match step {
-        BodyStep::Piece(piece, next) => piece_of(piece, next),
-        BodyStep::End => no_piece(answer_of(0)),
-    }
-}
-
-fn piece_of(piece: Piece, next: Body) -> PieceNumbers
-    ensures { result ≡ piece_numbers (Taken piece next) }
-{
-    let given = piece.given;
-    let verdict = piece.verdict;
-    PieceNumbers {
-        answer: answer_of(0),
-        found: 1,
-        take: piece.take,
-        gives: given_numbers(given),
-        error: error_numbers(verdict),
-        body: body_numbers(next),
-    }
-}
-
-fn given_numbers(given: Given) -> GivenNumbers
-    ensures { result ≡ given_numbers given }
-{
-    match given {
-        Given::Nothing => GivenNumbers {
-            given: 0,
-            scalar: 0,
+        Some((piece, next)) => PieceNumbers {
+            answer: answer_of(0),
+            found: 1,
+            take: piece.take,
+            gives: piece.given.into(),
+            error: error_numbers(piece.verdict),
+            body: next.into(),
         },
-        Given::Copy => GivenNumbers {
-            given: 1,
-            scalar: 0,
-        },
-        Given::Char(c) => GivenNumbers {
-            given: 2,
-            scalar: c as usize,
-        },
+        None => no_piece(answer_of(0)),
     }
 }
 
@@ -202,17 +165,6 @@ fn no_piece(answer: AnswerNumbers) -> PieceNumbers
 {
     PieceNumbers {
         answer,
-        found: 0,
-        take: 0,
-        gives: GivenNumbers {
-            given: 0,
-            scalar: 0,
-        },
-        error: no_error(),
-        body: BodyNumbers {
-            at: 0,
-            end: 0,
-            dropping: 0,
-        },
+        ..PieceNumbers::default()
     }
 }

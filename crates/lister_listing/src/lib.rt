@@ -6,7 +6,6 @@
 
 ghost use Rattle.std.specs.Prelude.{◌≡◌, ◌+◌, ◌≤◌, IfErr, IfOk, length};
 
-use lexer::Lexed;
 use program_io::{Console, decimal, print_decimal, read_full};
 use std::io;
 
@@ -42,13 +41,8 @@ pub fn list<C: Console>(console: &C, doc: &[u8]) -> io::Result<()>
     // One record more than bytes: enough for every document that comes here.
     let mut records = [[0usize; 4]; 65537];
     match lexer::lex(doc, &mut records) {
-        Lexed::Tokens(count) => print_records(console, &records, count),
-        Lexed::Refused(refusal) => print_refused(
-            console,
-            refusal.number(),
-            refusal.value(),
-            refusal.length(),
-        ),
+        Ok(count) => print_records(console, &records, count),
+        Err(refusal) => print_refused(console, refusal.number(), refusal.value(), refusal.length()),
     }
 }
 
@@ -58,15 +52,9 @@ fn print_records<C: Console>(console: &C, records: &[[usize; 4]], count: usize) 
     let mut space = [0u8; ROOM];
     let lines: &mut [u8] = &mut space;
     let mut at: usize = 0;
-    let mut i = 0;
-    while i < records.len() {
-        if count <= i {
-            break;
-        }
-        let r = records[i];
+    for r in records.iter().take(count) {
         at = make_room(console, lines, at)?;
-        at = put_line(lines, at, r);
-        i += 1;
+        at = put_line(lines, at, *r);
     }
     write_lines(console, lines, at)
 }
@@ -127,19 +115,8 @@ fn put_number(out: &mut [u8], at: usize, n: usize, last: u8) -> usize
     ensures { result ≤ at + 21 }
 {
     let mut digits = [0u8; 20];
-    let k = at_most_twenty(decimal(n as u64, &mut digits));
-    let mut i = 0;
-    while i < k {
-        out[at + i] = digits[i];
-        i += 1;
-    }
+    let k = decimal(n as u64, &mut digits);
+    out[at..at + k].copy_from_slice(&digits[..k]);
     out[at + k] = last;
     at + k + 1
-}
-
-// The count `k`, but 20 at the most: so many digits fit.
-fn at_most_twenty(k: usize) -> usize
-    ensures { result ≤ 20 }
-{
-    if k < 20 { k } else { 20 }
 }

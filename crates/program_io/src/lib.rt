@@ -62,6 +62,7 @@ pub fn read_full<C: Console>(console: &C, buffer: &mut [u8]) -> Result<usize>
     ensures error { IfErr result C.fails }
 {
     let mut done = 0;
+    // no iterator: a read says how many bytes it has read
     while done < buffer.len() {
         let count = console.read_bytes(&mut buffer[done..])?;
         if count == 0 {

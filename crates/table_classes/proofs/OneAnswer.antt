@@ -22,3 +22,7 @@ is_triple κs a x y s t p q = p ∙ sym q
 
 pub class_run : OneAnswer promised.class_run.Reads.Learnt
 class_run κs a x y s t p q = p ∙ sym q
+
+-- a set as one of bytes
+pub holds : OneAnswer promised.SetByteSet.holds.Reads.Learnt
+holds κs a x y s t p q = p ∙ sym q

@@ -10,12 +10,7 @@ ghost use Rattle.text_classes.specs.Runs.{run, stands, triple};
 ghost use Rattle.table_classes.specs.Classed.{set_of, byte_of, class_of};
 ghost use Rattle.table_classes.specs.Masks.{mask_of, has_class, alone_of};
 
-// Which of the two engines reads bytes: one tests ranges, one looks each byte up in the table. All else is shared between them.
-#[derive(Clone, Copy)]
-pub enum Engine {
-    Ranges,
-    Table,
-}
+use text_classes::{ByteSet, run_of};
 
 // The byte sets.
 #[derive(Clone, Copy)]
@@ -47,37 +42,37 @@ pub enum Set {
     Skipped,
 }
 
-// The single bytes that a rule names.
+// The single bytes that a rule names, each with its class, which has that byte alone.
 #[derive(Clone, Copy)]
 pub enum Sign {
-    Tab,
-    Lf,
-    Cr,
-    Space,
-    QuotationMark,
-    NumberSign,
-    Apostrophe,
-    Comma,
-    Dot,
-    Equals,
-    BigU,
-    LeftSquare,
-    Backslash,
-    RightSquare,
-    SmallB,
-    SmallE,
-    SmallF,
-    SmallN,
-    SmallR,
-    SmallT,
-    SmallU,
-    SmallX,
-    LeftCurly,
-    RightCurly,
+    Tab = 7,
+    Lf = 8,
+    Cr = 9,
+    Space = 10,
+    QuotationMark = 11,
+    NumberSign = 12,
+    Apostrophe = 13,
+    Comma = 14,
+    Dot = 15,
+    Equals = 16,
+    BigU = 17,
+    LeftSquare = 18,
+    Backslash = 19,
+    RightSquare = 20,
+    SmallB = 21,
+    SmallE = 22,
+    SmallF = 23,
+    SmallN = 24,
+    SmallR = 25,
+    SmallT = 26,
+    SmallU = 27,
+    SmallX = 28,
+    LeftCurly = 29,
+    RightCurly = 30,
 }
 
 // The class of each byte: row b / 16, column b % 16.
-const CLASSES: [[u8; 16]; 16] = [
+static CLASSES: [[u8; 16]; 16] = [
     [0, 0, 0, 0, 0, 0, 0, 0, 0, 7, 8, 0, 0, 9, 0, 0],
     [0, 0, 0, 0, 0, 0, 0, 0, 0, 0, 0, 0, 0, 0, 0, 0],
     [10, 1, 11, 12, 1, 1, 1, 13, 1, 1, 1, 1, 14, 2, 15, 1],
@@ -125,27 +120,26 @@ pub fn is_at(s: &[u8], i: usize, sign: Sign) -> bool
 }
 
 // Do three of it stand from place i on?
+// The tests of `text_classes` asked of the table: a trait of a byte and a sign is longer than these two functions.
 pub fn is_triple(s: &[u8], i: usize, sign: Sign) -> bool
     ensures { result ≡ triple (byte_of sign) (drop i s.now) }
 {
     is_at(s, i, sign) && (is_at(s, i + 1, sign) && is_at(s, i + 2, sign))
 }
 
-// The place of the first byte from `start` on that is not in the set, or the end; beyond the end, `start` itself. The one loop for
-// every run of bytes. The table is taken before the loop, since the compiler stores a constant array anew wherever it is named.
+impl ByteSet for Set {
+    ghost holds = { set_of };
+
+    fn holds(self, b: u8) -> bool {
+        is_in(self, b)
+    }
+}
+
+// The place of the first byte from `start` on that is not in the set, or the end; beyond the end, `start` itself.
 pub fn class_run(set: Set, s: &[u8], start: usize) -> usize
     ensures { result ≡ start + run (set_of set) (drop start s.now) }
 {
-    let classes = CLASSES;
-    let mut i = start;
-    while i < s.len() {
-        let b = s[i];
-        if !has_class(mask_of(set), classes[(b / 16) as usize][(b % 16) as usize]) {
-            return i;
-        }
-        i += 1;
-    }
-    i
+    run_of(set, s, start)
 }
 
 // Does the mask have the class?
@@ -190,30 +184,5 @@ fn mask_of(set: Set) -> u32
 fn alone_of(sign: Sign) -> u8
     ensures { result ≡ alone_of sign }
 {
-    match sign {
-        Sign::Tab => class::TAB,
-        Sign::Lf => class::LF,
-        Sign::Cr => class::CR,
-        Sign::Space => class::SPACE,
-        Sign::QuotationMark => class::QUOTATION_MARK,
-        Sign::NumberSign => class::NUMBER_SIGN,
-        Sign::Apostrophe => class::APOSTROPHE,
-        Sign::Comma => class::COMMA,
-        Sign::Dot => class::DOT,
-        Sign::Equals => class::EQUALS,
-        Sign::BigU => class::BIG_U,
-        Sign::LeftSquare => class::LEFT_SQUARE,
-        Sign::Backslash => class::BACKSLASH,
-        Sign::RightSquare => class::RIGHT_SQUARE,
-        Sign::SmallB => class::SMALL_B,
-        Sign::SmallE => class::SMALL_E,
-        Sign::SmallF => class::SMALL_F,
-        Sign::SmallN => class::SMALL_N,
-        Sign::SmallR => class::SMALL_R,
-        Sign::SmallT => class::SMALL_T,
-        Sign::SmallU => class::SMALL_U,
-        Sign::SmallX => class::SMALL_X,
-        Sign::LeftCurly => class::LEFT_CURLY,
-        Sign::RightCurly => class::RIGHT_CURLY,
-    }
+    sign as u8
 }

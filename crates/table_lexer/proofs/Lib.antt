@@ -1,1 +1,2 @@
+pub mod TagLaws
 pub mod OneAnswer

@@ -9,6 +9,45 @@ use table_classes::{Set, class_of, is_in};
 // How many classes there are.
 const CLASSES: u8 = 31;
 
+// The sets that bear a name in crate `text_classes`.
+const NAMED: [(&[u8], Set); 11] = [
+    (b"wschar", Set::Wschar),
+    (b"token-start", Set::TokenStart),
+    (b"non-ascii", Set::NonAscii),
+    (b"literal-char", Set::LiteralChar),
+    (b"mll-char", Set::MllChar),
+    (b"basic-unescaped", Set::BasicUnescaped),
+    (b"mlb-unescaped", Set::MlbUnescaped),
+    (b"DIGIT", Set::Digit),
+    (b"HEXDIG", Set::Hexdig),
+    (b"unquoted-key", Set::UnquotedChar),
+    (b"continuation", Set::Continuation),
+];
+
+// The other sets that are asked for.
+const OTHERS: [(&[u8], Set); 11] = [
+    (b"in an atom", Set::InAtom),
+    (b"in a comment", Set::InComment),
+    (b"in a literal string, up to a mark or LF", Set::InLiteral),
+    (
+        b"in a basic string, up to a mark, backslash or LF",
+        Set::InBasic,
+    ),
+    (
+        b"in a multi-line literal string, up to a mark",
+        Set::InMlLiteral,
+    ),
+    (
+        b"in a multi-line basic string, up to a mark or backslash",
+        Set::InMlBasic,
+    ),
+    (b"plain in a multi-line literal body", Set::MllPlain),
+    (b"plain in a multi-line basic body", Set::MlbPlain),
+    (b"error 7, in a basic body", Set::BasicInvalid),
+    (b"error 12, in a multi-line basic body", Set::MlbInvalid),
+    (b"dropped by a line-ending escape", Set::Skipped),
+];
+
 fn main(rt: HostRuntime) -> io::Result<()> {
     print(
         &rt,
@@ -26,37 +65,10 @@ fn main(rt: HostRuntime) -> io::Result<()> {
     print(&rt, b"\n| class | bytes | sets |\n|---|---|---|\n")?;
     classes(&rt)?;
     print(&rt, b"\n| other sets | classes |\n|---|---|\n")?;
-    members(&rt, b"in an atom", Set::InAtom)?;
-    members(&rt, b"in a comment", Set::InComment)?;
-    members(
-        &rt,
-        b"in a literal string, up to a mark or LF",
-        Set::InLiteral,
-    )?;
-    members(
-        &rt,
-        b"in a basic string, up to a mark, backslash or LF",
-        Set::InBasic,
-    )?;
-    members(
-        &rt,
-        b"in a multi-line literal string, up to a mark",
-        Set::InMlLiteral,
-    )?;
-    members(
-        &rt,
-        b"in a multi-line basic string, up to a mark or backslash",
-        Set::InMlBasic,
-    )?;
-    members(&rt, b"plain in a multi-line literal body", Set::MllPlain)?;
-    members(&rt, b"plain in a multi-line basic body", Set::MlbPlain)?;
-    members(&rt, b"error 7, in a basic body", Set::BasicInvalid)?;
-    members(
-        &rt,
-        b"error 12, in a multi-line basic body",
-        Set::MlbInvalid,
-    )?;
-    members(&rt, b"dropped by a line-ending escape", Set::Skipped)
+    for (name, set) in OTHERS {
+        members(&rt, name, set)?;
+    }
+    Ok(())
 }
 
 fn print(console: &impl Console, words: &[u8]) -> io::Result<()> {
@@ -69,33 +81,24 @@ fn hex(console: &impl Console, lead: &[u8], n: u8) -> io::Result<()> {
 }
 
 fn table(console: &impl Console) -> io::Result<()> {
-    let mut row: u8 = 0;
-    while row < 16 {
+    for row in 0..16 {
         console.write_bytes(b"    ")?;
         print_hex(console, row as u64, 1)?;
         console.write_bytes(b" ")?;
         line(console, row)?;
-        row += 1;
     }
     Ok(())
 }
 
 fn line(console: &impl Console, row: u8) -> io::Result<()> {
-    let mut column: u8 = 0;
-    while column < 16 {
-        hex(console, b" ", class_of(byte_at(row, column)))?;
-        column += 1;
+    for column in 0..16 {
+        hex(console, b" ", class_of(row % 16 * 16 + column))?;
     }
     print(console, b"\n")
 }
 
-fn byte_at(row: u8, column: u8) -> u8 {
-    (row % 16) * 16 + column % 16
-}
-
 fn classes(console: &impl Console) -> io::Result<()> {
-    let mut class: u8 = 0;
-    while class < CLASSES {
+    for class in 0..CLASSES {
         hex(console, b"| ", class)?;
         print(console, b" |")?;
         bytes(console, class)?;
@@ -103,7 +106,6 @@ fn classes(console: &impl Console) -> io::Result<()> {
         print(console, b" |")?;
         sets(console, first_of(class))?;
         print(console, b" |\n")?;
-        class += 1;
     }
     Ok(())
 }
@@ -111,10 +113,8 @@ fn classes(console: &impl Console) -> io::Result<()> {
 // The bytes of a class, as ranges.
 fn bytes(console: &impl Console, class: u8) -> io::Result<()> {
     let mut before = false;
-    let mut n: usize = 0;
-    while n < 256 {
-        before = next(console, class, (n % 256) as u8, before)?;
-        n += 1;
+    for b in 0..=255 {
+        before = next(console, class, b, before)?;
     }
     if before {
         hex(console, b"-", 255)?;
@@ -159,42 +159,23 @@ fn sign(console: &impl Console, class: u8, b: u8) -> io::Result<()> {
 }
 
 fn quoted(console: &impl Console, b: u8) -> io::Result<()> {
-    let one = [b; 1];
     print(console, b" `")?;
-    print(console, &one)?;
+    print(console, &[b])?;
     print(console, b"`")
 }
 
 // The first byte of a class.
 fn first_of(class: u8) -> u8 {
-    let mut b: u8 = 0;
-    while b < 255 {
-        if class_of(b) == class {
-            return b;
-        }
-        b += 1;
-    }
-    b
+    (0..255).find(|b| class_of(*b) == class).unwrap_or(255)
 }
 
-// The sets that have a byte, and so its whole class: those that bear a name in crate `text_classes`.
+// The sets that have a byte, and so its whole class.
 fn sets(console: &impl Console, b: u8) -> io::Result<()> {
-    held(console, b, Set::Wschar, b" wschar")?;
-    held(console, b, Set::TokenStart, b" token-start")?;
-    held(console, b, Set::NonAscii, b" non-ascii")?;
-    held(console, b, Set::LiteralChar, b" literal-char")?;
-    held(console, b, Set::MllChar, b" mll-char")?;
-    held(console, b, Set::BasicUnescaped, b" basic-unescaped")?;
-    held(console, b, Set::MlbUnescaped, b" mlb-unescaped")?;
-    held(console, b, Set::Digit, b" DIGIT")?;
-    held(console, b, Set::Hexdig, b" HEXDIG")?;
-    held(console, b, Set::UnquotedChar, b" unquoted-key")?;
-    held(console, b, Set::Continuation, b" continuation")
-}
-
-fn held(console: &impl Console, b: u8, set: Set, name: &[u8]) -> io::Result<()> {
-    if is_in(set, b) {
-        print(console, name)?;
+    for (name, set) in NAMED {
+        if is_in(set, b) {
+            print(console, b" ")?;
+            print(console, name)?;
+        }
     }
     Ok(())
 }
@@ -204,12 +185,10 @@ fn members(console: &impl Console, name: &[u8], set: Set) -> io::Result<()> {
     print(console, b"| ")?;
     print(console, name)?;
     print(console, b" |")?;
-    let mut class: u8 = 0;
-    while class < CLASSES {
+    for class in 0..CLASSES {
         if is_in(set, first_of(class)) {
             hex(console, b" ", class)?;
         }
-        class += 1;
     }
     print(console, b" |\n")
 }

@@ -1,11 +1,10 @@
 -- The letters of escapes by their classes: each letter's class has it alone.
 -- Assumes nothing.
 use Prim.Native.Nat.{ℕ, ◌<◌}
-use mathlib.Core.Path.{◌≡◌, refl, sym}
+use mathlib.Core.Path.{◌≡◌, refl}
 use Rattle.decoder_rules.specs.declared.Edition.{Edition}
 use Rattle.decoder_rules.specs.declared.Edition.TheVariants.{Toml10, Toml11}
 use Rattle.decoder_rules.specs.Escapes.{new_letter, letter_of}
-use Rattle.table_classes.specs.declared.Sign.{Sign}
 use Rattle.table_classes.specs.declared.Sign.TheVariants.{QuotationMark, Backslash, BigU, SmallB, SmallE, SmallF, SmallN, SmallR, SmallT, SmallU, SmallX}
 use Rattle.table_classes.specs.Classed.{class_of}
 use Rattle.table_classes.proofs.TableLaws.{is_alone}

@@ -1,4 +1,2 @@
-pub mod FrontLaws
 pub mod LetterLaws
 pub mod DigitLaws
-pub mod OneAnswer

@@ -1,6 +1,7 @@
 // Scanning by the table: how far a string reaches after its opening. Each function takes the document and any place, and answers the
 // place after, which beyond the end is that place itself. Rules: Extents.antt of crate `lexer_scans`; a run of bytes of one set is
 // `class_run` of crate `table_classes` with that set.
+// The loops of `lexer_scans` again: a trait of what both ask (four runs, four bytes, two triples) is longer than the three loops.
 #![tactic(auto)]
 
 ghost use Rattle.std.specs.Prelude.{◌≡◌, false, ◌+◌, ◌≤◌, length, drop};
@@ -25,6 +26,7 @@ pub fn basic_tail(doc: &[u8], start: usize) -> usize
     ensures { result ≡ start + line_tail 34 false (drop start doc.now) }
 {
     let mut i = start;
+    // no iterator: a turn goes over a run, and then over an escape
     while i < doc.len() {
         i = class_run(Set::InBasic, doc, i);
         if is_at(doc, i, Sign::QuotationMark) {
@@ -50,6 +52,7 @@ pub fn ml_literal_tail(doc: &[u8], start: usize) -> usize
     ensures { result ≡ start + ml_tail 39 false (drop start doc.now) }
 {
     let mut i = start;
+    // no iterator: a turn goes over a run, and then over a mark
     while i < doc.len() {
         i = class_run(Set::InMlLiteral, doc, i);
         if is_triple(doc, i, Sign::Apostrophe) {
@@ -68,6 +71,7 @@ pub fn ml_basic_tail(doc: &[u8], start: usize) -> usize
     ensures { result ≡ start + ml_tail 34 false (drop start doc.now) }
 {
     let mut i = start;
+    // no iterator: a turn goes over a run, and then over a mark or an escape
     while i < doc.len() {
         i = class_run(Set::InMlBasic, doc, i);
         if is_triple(doc, i, Sign::QuotationMark) {

@@ -5,136 +5,108 @@
 
 use program_io::{Console, print_decimal, print_hex};
 use std::io;
-use text::Utf8Check;
 use text_refusals::Refusal;
 
-fn main(rt: HostRuntime) -> io::Result<()> {
-    lengths(&rt)?;
-    no_scalars(&rt)?;
-    whole(&rt)?;
-    overlong(&rt)?;
-    surrogates(&rt)?;
-    too_large(&rt)?;
-    no_leads(&rt)?;
-    cut_short(&rt)?;
-    wrong_tails(&rt)?;
-    after_others(&rt)
-}
-
 // The first and the last scalar value of each length, those beside the surrogates, and U+FFFD.
-fn lengths(console: &impl Console) -> io::Result<()> {
-    encoding(console, 0)?;
-    encoding(console, 0x7F)?;
-    encoding(console, 0x80)?;
-    encoding(console, 0x7FF)?;
-    encoding(console, 0x800)?;
-    encoding(console, 0xD7FF)?;
-    encoding(console, 0xE000)?;
-    encoding(console, 0xFFFD)?;
-    encoding(console, 0xFFFF)?;
-    encoding(console, 0x10000)?;
-    encoding(console, 0x10FFFF)
+const LENGTHS: [u32; 11] = [
+    0, 0x7F, 0x80, 0x7FF, 0x800, 0xD7FF, 0xE000, 0xFFFD, 0xFFFF, 0x10000, 0x10FFFF,
+];
+
+const NO_SCALARS: [u32; 4] = [0xD800, 0xDFFF, 0x110000, 0xFFFF_FFFF];
+
+const WHOLE: [&[u8]; 12] = [
+    b"",
+    b"\x00",
+    b"\x7F",
+    b"\xC2\x80",
+    b"\xDF\xBF",
+    b"\xE0\xA0\x80",
+    b"\xED\x9F\xBF",
+    b"\xEE\x80\x80",
+    b"\xEF\xBF\xBF",
+    b"\xF0\x90\x80\x80",
+    b"\xF4\x8F\xBF\xBF",
+    b"\xEF\xBB\xBF",
+];
+
+const OVERLONG: [&[u8]; 6] = [
+    b"\xC0\x80",
+    b"\xC1\xBF",
+    b"\xE0\x80\x80",
+    b"\xE0\x9F\xBF",
+    b"\xF0\x80\x80\x80",
+    b"\xF0\x8F\xBF\xBF",
+];
+
+const SURROGATES: [&[u8]; 3] = [
+    b"\xED\xA0\x80",
+    b"\xED\xBF\xBF",
+    b"\xED\xA0\xBD\xED\xB8\x80",
+];
+
+const TOO_LARGE: [&[u8]; 2] = [b"\xF4\x90\x80\x80", b"\xF5\x80\x80\x80"];
+
+const CUT_SHORT: [&[u8]; 6] = [
+    b"\xC2",
+    b"\xE1",
+    b"\xE1\x80",
+    b"\xF1",
+    b"\xF1\x80",
+    b"\xF1\x80\x80",
+];
+
+const WRONG_TAILS: [&[u8]; 7] = [
+    b"\xC2\x7F",
+    b"\xC2\xC0",
+    b"\xE1\x7F\x80",
+    b"\xE1\x80\xC0",
+    b"\xF1\x7F\x80\x80",
+    b"\xF1\x80\x7F\x80",
+    b"\xF1\x80\x80\xC0",
+];
+
+// Faults after runs of ASCII that are about as long as a word or a block of the scan, and after characters.
+const AFTER_OTHERS: [&[u8]; 8] = [
+    b"1234567\xFF",
+    b"12345678\xFF",
+    b"123456789\xFF",
+    b"123456789012345678901234567890123456789012345678901234567890123\xFF",
+    b"1234567890123456789012345678901234567890123456789012345678901234\xFF",
+    b"12345678901234567890123456789012345678901234567890123456789012345\xFF5678",
+    b"\xC3\xA9=\xE2\x82\xAC\xF0\x9F\x98\x80 \xED\xA0\x80",
+    b"\xC3\xA912345678\xE2\x82\xAC123\xF0\x9F\x98",
+];
+
+fn main(rt: HostRuntime) -> io::Result<()> {
+    encodings(&rt, &LENGTHS)?;
+    encodings(&rt, &NO_SCALARS)?;
+    checks(&rt, &WHOLE)?;
+    checks(&rt, &OVERLONG)?;
+    checks(&rt, &SURROGATES)?;
+    checks(&rt, &TOO_LARGE)?;
+    no_leads(&rt)?;
+    checks(&rt, &CUT_SHORT)?;
+    checks(&rt, &WRONG_TAILS)?;
+    checks(&rt, &AFTER_OTHERS)
 }
 
-fn no_scalars(console: &impl Console) -> io::Result<()> {
-    encoding(console, 0xD800)?;
-    encoding(console, 0xDFFF)?;
-    encoding(console, 0x110000)?;
-    encoding(console, 0xFFFF_FFFF)
-}
-
-fn whole(console: &impl Console) -> io::Result<()> {
-    check(console, b"")?;
-    check(console, b"\x00")?;
-    check(console, b"\x7F")?;
-    check(console, b"\xC2\x80")?;
-    check(console, b"\xDF\xBF")?;
-    check(console, b"\xE0\xA0\x80")?;
-    check(console, b"\xED\x9F\xBF")?;
-    check(console, b"\xEE\x80\x80")?;
-    check(console, b"\xEF\xBF\xBF")?;
-    check(console, b"\xF0\x90\x80\x80")?;
-    check(console, b"\xF4\x8F\xBF\xBF")?;
-    check(console, b"\xEF\xBB\xBF")
-}
-
-fn overlong(console: &impl Console) -> io::Result<()> {
-    check(console, b"\xC0\x80")?;
-    check(console, b"\xC1\xBF")?;
-    check(console, b"\xE0\x80\x80")?;
-    check(console, b"\xE0\x9F\xBF")?;
-    check(console, b"\xF0\x80\x80\x80")?;
-    check(console, b"\xF0\x8F\xBF\xBF")
-}
-
-fn surrogates(console: &impl Console) -> io::Result<()> {
-    check(console, b"\xED\xA0\x80")?;
-    check(console, b"\xED\xBF\xBF")?;
-    check(console, b"\xED\xA0\xBD\xED\xB8\x80")
-}
-
-fn too_large(console: &impl Console) -> io::Result<()> {
-    check(console, b"\xF4\x90\x80\x80")?;
-    check(console, b"\xF5\x80\x80\x80")
-}
-
-// Bytes that begin no character: 80 to BF and F5 to FF. (C0 and C1 are among the overlong.)
+// Bytes that begin no character: 80 to BF and F5 to FF, each with three continuation bytes after it. (C0 and C1 are among the
+// overlong.)
 fn no_leads(console: &impl Console) -> io::Result<()> {
-    lone(console, 0x80, 0xC0)?;
-    lone(console, 0xF5, 0x100)
-}
-
-// Each byte from `a` up to `e`, which is not included, with three continuation bytes after it.
-fn lone(console: &impl Console, a: usize, e: usize) -> io::Result<()> {
-    let mut b = a;
-    while b < e {
-        check(console, &[(b % 256) as u8, 0x80, 0x80, 0x80])?;
-        b += 1;
+    for b in 0x80..=0xBF {
+        check(console, &[b, 0x80, 0x80, 0x80])?;
+    }
+    for b in 0xF5..=0xFF {
+        check(console, &[b, 0x80, 0x80, 0x80])?;
     }
     Ok(())
 }
 
-fn cut_short(console: &impl Console) -> io::Result<()> {
-    check(console, b"\xC2")?;
-    check(console, b"\xE1")?;
-    check(console, b"\xE1\x80")?;
-    check(console, b"\xF1")?;
-    check(console, b"\xF1\x80")?;
-    check(console, b"\xF1\x80\x80")
-}
-
-fn wrong_tails(console: &impl Console) -> io::Result<()> {
-    check(console, b"\xC2\x7F")?;
-    check(console, b"\xC2\xC0")?;
-    check(console, b"\xE1\x7F\x80")?;
-    check(console, b"\xE1\x80\xC0")?;
-    check(console, b"\xF1\x7F\x80\x80")?;
-    check(console, b"\xF1\x80\x7F\x80")?;
-    check(console, b"\xF1\x80\x80\xC0")
-}
-
-// Faults after runs of ASCII that are about as long as a word or a block of the scan, and after characters.
-fn after_others(console: &impl Console) -> io::Result<()> {
-    check(console, b"1234567\xFF")?;
-    check(console, b"12345678\xFF")?;
-    check(console, b"123456789\xFF")?;
-    check(
-        console,
-        b"123456789012345678901234567890123456789012345678901234567890123\xFF",
-    )?;
-    check(
-        console,
-        b"1234567890123456789012345678901234567890123456789012345678901234\xFF",
-    )?;
-    check(
-        console,
-        b"12345678901234567890123456789012345678901234567890123456789012345\xFF5678",
-    )?;
-    check(
-        console,
-        b"\xC3\xA9=\xE2\x82\xAC\xF0\x9F\x98\x80 \xED\xA0\x80",
-    )?;
-    check(console, b"\xC3\xA912345678\xE2\x82\xAC123\xF0\x9F\x98")
+fn encodings(console: &impl Console, numbers: &[u32]) -> io::Result<()> {
+    for c in numbers {
+        encoding(console, *c)?;
+    }
+    Ok(())
 }
 
 // The number, the length and all four bytes.
@@ -145,23 +117,23 @@ fn encoding(console: &impl Console, c: u32) -> io::Result<()> {
     let e = text_scalars::encode(c);
     let bytes = e.bytes;
     print_decimal(console, e.len as u64)?;
-    four(console, &bytes)?;
+    hex(console, &bytes)?;
     console.write_bytes(b"\n")
 }
 
-fn four(console: &impl Console, bytes: &[u8; 4]) -> io::Result<()> {
-    byte(console, bytes[0])?;
-    byte(console, bytes[1])?;
-    byte(console, bytes[2])?;
-    byte(console, bytes[3])
+fn checks(console: &impl Console, texts: &[&[u8]]) -> io::Result<()> {
+    for text in texts {
+        check(console, text)?;
+    }
+    Ok(())
 }
 
 fn check(console: &impl Console, s: &[u8]) -> io::Result<()> {
     console.write_bytes(b"check")?;
     hex(console, s)?;
     match text::check_utf8(s) {
-        Utf8Check::Valid => console.write_bytes(b" valid\n"),
-        Utf8Check::Refused(r) => refused(console, r),
+        Ok(()) => console.write_bytes(b" valid\n"),
+        Err(r) => refused(console, r),
     }
 }
 
@@ -176,15 +148,9 @@ fn refused(console: &impl Console, r: Refusal) -> io::Result<()> {
 }
 
 fn hex(console: &impl Console, s: &[u8]) -> io::Result<()> {
-    let mut i = 0;
-    while i < s.len() {
-        byte(console, s[i])?;
-        i += 1;
+    for b in s {
+        console.write_bytes(b" ")?;
+        print_hex(console, *b as u64, 2)?;
     }
     Ok(())
-}
-
-fn byte(console: &impl Console, b: u8) -> io::Result<()> {
-    console.write_bytes(b" ")?;
-    print_hex(console, b as u64, 2)
 }

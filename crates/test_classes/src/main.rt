@@ -7,67 +7,37 @@ use program_io::{Console, print_hex};
 use std::io;
 
 fn main(rt: HostRuntime) -> io::Result<()> {
-    ranges(&rt, 0, b"wschar")?;
-    ranges(&rt, 1, b"token-start")?;
-    ranges(&rt, 2, b"non-ascii")?;
-    ranges(&rt, 3, b"literal-char")?;
-    ranges(&rt, 4, b"mll-char")?;
-    ranges(&rt, 5, b"basic-unescaped")?;
-    ranges(&rt, 6, b"mlb-unescaped")?;
-    ranges(&rt, 7, b"DIGIT")?;
-    ranges(&rt, 8, b"HEXDIG")?;
-    ranges(&rt, 9, b"unquoted-key")?;
-    ranges(&rt, 10, b"continuation")
+    ranges(&rt, text_classes::is_wschar, b"wschar")?;
+    ranges(&rt, text_classes::is_token_start, b"token-start")?;
+    ranges(&rt, text_classes::is_non_ascii, b"non-ascii")?;
+    ranges(&rt, text_classes::is_literal_char, b"literal-char")?;
+    ranges(&rt, text_classes::is_mll_char, b"mll-char")?;
+    ranges(&rt, text_classes::is_basic_unescaped, b"basic-unescaped")?;
+    ranges(&rt, text_classes::is_mlb_unescaped, b"mlb-unescaped")?;
+    ranges(&rt, text_classes::is_digit, b"DIGIT")?;
+    ranges(&rt, text_classes::is_hexdig, b"HEXDIG")?;
+    ranges(&rt, text_classes::is_unquoted_char, b"unquoted-key")?;
+    ranges(&rt, text_classes::is_continuation, b"continuation")
 }
 
-fn in_class(class: u8, b: u8) -> bool {
-    match class {
-        0 => text_classes::is_wschar(b),
-        1 => text_classes::is_token_start(b),
-        2 => text_classes::is_non_ascii(b),
-        3 => text_classes::is_literal_char(b),
-        4 => text_classes::is_mll_char(b),
-        5 => text_classes::is_basic_unescaped(b),
-        6 => text_classes::is_mlb_unescaped(b),
-        7 => text_classes::is_digit(b),
-        8 => text_classes::is_hexdig(b),
-        9 => text_classes::is_unquoted_char(b),
-        _ => text_classes::is_continuation(b),
-    }
-}
-
-fn ranges(console: &impl Console, class: u8, name: &[u8]) -> io::Result<()> {
+// A range is printed in two parts, where it opens and after its last byte.
+fn ranges<F: Fn(u8) -> bool>(console: &impl Console, in_class: F, name: &[u8]) -> io::Result<()>
+    requires { F.IsAlwaysCallable in_class }
+{
     console.write_bytes(name)?;
-    let mut before = false;
-    let mut n: usize = 0;
-    while n < 256 {
-        before = next(console, class, (n % 256) as u8, before)?;
-        n += 1;
+    let mut before = None;
+    for b in 0..=255 {
+        match (before, in_class(b)) {
+            (None, true) => byte(console, b" ", b)?,
+            (Some(last), false) => byte(console, b"-", last)?,
+            _ => {}
+        }
+        before = if in_class(b) { Some(b) } else { None };
     }
-    if before {
-        byte(console, b"-", 255)?;
+    if let Some(last) = before {
+        byte(console, b"-", last)?;
     }
     console.write_bytes(b"\n")
-}
-
-// Opens or closes a range at `b`, and answers whether `b` is in the class.
-fn next(console: &impl Console, class: u8, b: u8, before: bool) -> io::Result<bool> {
-    let yes = in_class(class, b);
-    if yes && !before {
-        byte(console, b" ", b)?;
-    }
-    if before && !yes {
-        last(console, b)?;
-    }
-    Ok(yes)
-}
-
-// Prints the byte before `b`, with which a range ends.
-fn last(console: &impl Console, b: u8) -> io::Result<()> {
-    if 0 < b {
-        byte(console, b"-", b - 1)?;
-    }
-    Ok(())
 }
 
 fn byte(console: &impl Console, lead: &[u8], b: u8) -> io::Result<()> {

@@ -6,9 +6,10 @@
 
 ghost use Rattle.std.specs.Prelude.{◌≤◌, ◌<◌};
 
-use decoder::Decoded;
+use decoder_rules::Decoded;
 use program_io::{Console, print_decimal};
 use std::io;
+use text_refusals::Refusal;
 
 fn number(console: &impl Console, n: usize) -> io::Result<()> {
     console.write_bytes(b" ")?;
@@ -26,37 +27,30 @@ fn hex_digit(n: u8) -> u8
 }
 
 fn print_bytes(console: &impl Console, output: &[u8]) -> io::Result<()> {
-    let mut i = 0;
-    while i < output.len() {
-        let b = output[i];
-        let pair = [b' ', hex_digit(b / 16), hex_digit(b % 16)];
-        console.write_bytes(&pair)?;
-        i += 1;
+    for b in output {
+        console.write_bytes(&[b' ', hex_digit(b / 16), hex_digit(b % 16)])?;
     }
     line(console)
 }
 
 fn print_records(console: &impl Console, errors: &[[usize; 3]]) -> io::Result<()> {
-    let mut i = 0;
-    while i < errors.len() {
-        let r = errors[i];
-        number(console, r[0])?;
-        number(console, r[1])?;
-        number(console, r[2])?;
+    for error in errors {
+        for n in error {
+            number(console, *n)?;
+        }
         line(console)?;
-        i += 1;
     }
     Ok(())
 }
 
-fn print_answer(console: &impl Console, answer: Decoded) -> io::Result<()> {
+fn print_answer(console: &impl Console, answer: Result<Decoded, Refusal>) -> io::Result<()> {
     match answer {
-        Decoded::Written { bytes, errors } => {
+        Ok(Decoded { bytes, errors }) => {
             number(console, 0)?;
             number(console, bytes)?;
             number(console, errors)?;
         }
-        Decoded::Refused(r) => {
+        Err(r) => {
             number(console, r.number())?;
             number(console, r.value())?;
             number(console, 0)?;

@@ -6,71 +6,29 @@
 #![tactic(auto)]
 
 use program_io::{Console, print_decimal, print_hex};
+use std::cmp::min;
 use std::io;
-use text::Utf8Check;
-
-// The bytes before the one that varies: the first `n` of `a`, `b` and `c`.
-#[derive(Clone, Copy)]
-struct Opening {
-    n: usize,
-    a: u8,
-    b: u8,
-    c: u8,
-}
-
-// What the check says of a text.
-#[derive(Clone, Copy)]
-struct Told {
-    ok: bool,
-    valid: usize,
-    length: usize,
-}
+use text_refusals::Refusal;
 
 fn main(rt: HostRuntime) -> io::Result<()> {
-    let mut a: usize = 0x80;
-    while a < 0x100 {
-        faults(&rt, (a % 256) as u8)?;
-        a += 1;
+    for a in 0x80..=0xFF {
+        faults(&rt, a)?;
     }
     Ok(())
 }
 
 // The answers for all texts that begin with the byte `a`.
 fn faults(console: &impl Console, a: u8) -> io::Result<()> {
-    hex(console, a)?;
+    print_hex(console, a as u64, 2)?;
     console.write_bytes(b" ")?;
-    print(console, checked(&[a]))?;
+    print(console, text::check_utf8(&[a]))?;
     console.write_bytes(b" ")?;
-    print(console, checked(&[a, b'x']))?;
+    print(console, text::check_utf8(&[a, b'x']))?;
     console.write_bytes(b"\n")?;
     let b = lowest(a);
-    varied(
-        console,
-        Opening {
-            n: 1,
-            a,
-            b,
-            c: 0x80,
-        },
-    )?;
-    varied(
-        console,
-        Opening {
-            n: 2,
-            a,
-            b,
-            c: 0x80,
-        },
-    )?;
-    varied(
-        console,
-        Opening {
-            n: 3,
-            a,
-            b,
-            c: 0x80,
-        },
-    )
+    varied(console, &[a])?;
+    varied(console, &[a, b])?;
+    varied(console, &[a, b, 0x80])
 }
 
 // The lowest second byte that may follow the first byte `a`.
@@ -84,117 +42,68 @@ fn lowest(a: u8) -> u8 {
 
 // The answers for every byte after the opening `f`: first where the text ends there, then where an ASCII
 // byte follows.
-fn varied(console: &impl Console, f: Opening) -> io::Result<()> {
+fn varied(console: &impl Console, f: &[u8]) -> io::Result<()> {
     bytes(console, f)?;
     console.write_bytes(b"..")?;
-    runs(console, f, false)?;
+    runs(console, f, b"")?;
     bytes(console, f)?;
     console.write_bytes(b".. 78")?;
-    runs(console, f, true)
+    runs(console, f, b"x")
 }
 
-fn bytes(console: &impl Console, f: Opening) -> io::Result<()> {
-    let n = f.n;
-    hex(console, f.a)?;
-    console.write_bytes(b" ")?;
-    if 1 < n {
-        hex(console, f.b)?;
-        console.write_bytes(b" ")?;
-    }
-    if 2 < n {
-        hex(console, f.c)?;
+fn bytes(console: &impl Console, f: &[u8]) -> io::Result<()> {
+    for b in f {
+        print_hex(console, *b as u64, 2)?;
         console.write_bytes(b" ")?;
     }
     Ok(())
 }
 
-// The answers for every byte after `f`, a word for each run of bytes with the same answer.
-fn runs(console: &impl Console, f: Opening, followed: bool) -> io::Result<()> {
-    let mut first: usize = 0;
-    let mut b: usize = 0;
-    while b < 256 {
-        let here = answer_to(f, b, followed);
-        if b == 255 || !is_same(here, answer_to(f, b + 1, followed)) {
-            run(console, first, b)?;
-            print(console, here)?;
-            first = b + 1;
+// The answers for every byte between `f` and `after`, a word for each run of bytes with the same answer.
+fn runs(console: &impl Console, f: &[u8], after: &[u8]) -> io::Result<()> {
+    let mut first = 0;
+    let mut last = 0;
+    let mut before = answer_to(f, 0, after);
+    for b in 1..=0xFF {
+        let here = answer_to(f, b, after);
+        if here != before {
+            run(console, first, last, before)?;
+            first = b;
+            before = here;
         }
-        b += 1;
+        last = b;
     }
+    run(console, first, last, before)?;
     console.write_bytes(b"\n")
 }
 
-fn answer_to(f: Opening, v: usize, followed: bool) -> Told {
-    let b = (v % 256) as u8;
-    if followed {
-        return followed_by(f, b);
-    }
-    ended_by(f, b)
+// The answer for `f`, the byte `b` and `after`.
+fn answer_to(f: &[u8], b: u8, after: &[u8]) -> Result<(), Refusal> {
+    let mut text = [0u8; 5];
+    let n = min(f.len(), 3);
+    let m = min(after.len(), 1);
+    text[..n].copy_from_slice(&f[..n]);
+    text[n] = b;
+    text[n + 1..n + 1 + m].copy_from_slice(&after[..m]);
+    text::check_utf8(&text[..n + 1 + m])
 }
 
-// The answer for `f` and the byte `v`, with which the text ends.
-fn ended_by(f: Opening, v: u8) -> Told {
-    let n = f.n;
-    match n {
-        1 => checked(&[f.a, v]),
-        2 => checked(&[f.a, f.b, v]),
-        _ => checked(&[f.a, f.b, f.c, v]),
-    }
-}
-
-// The answer for `f`, the byte `v` and an ASCII byte after it.
-fn followed_by(f: Opening, v: u8) -> Told {
-    let n = f.n;
-    match n {
-        1 => checked(&[f.a, v, b'x']),
-        2 => checked(&[f.a, f.b, v, b'x']),
-        _ => checked(&[f.a, f.b, f.c, v, b'x']),
-    }
-}
-
-fn is_same(x: Told, y: Told) -> bool {
-    if x.ok {
-        return y.ok;
-    }
-    if y.ok {
-        return false;
-    }
-    x.valid == y.valid && x.length == y.length
-}
-
-fn checked(s: &[u8]) -> Told {
-    match text::check_utf8(s) {
-        Utf8Check::Valid => Told {
-            ok: true,
-            valid: 0,
-            length: 0,
-        },
-        Utf8Check::Refused(r) => Told {
-            ok: false,
-            valid: r.value(),
-            length: r.length(),
-        },
-    }
-}
-
-fn run(console: &impl Console, first: usize, last: usize) -> io::Result<()> {
+fn run(console: &impl Console, first: u8, last: u8, answer: Result<(), Refusal>) -> io::Result<()> {
     console.write_bytes(b" ")?;
     print_hex(console, first as u64, 2)?;
     console.write_bytes(b"-")?;
     print_hex(console, last as u64, 2)?;
-    console.write_bytes(b" ")
+    console.write_bytes(b" ")?;
+    print(console, answer)
 }
 
-fn print(console: &impl Console, a: Told) -> io::Result<()> {
-    if a.ok {
-        console.write_bytes(b"ok")?;
-        return Ok(());
+fn print(console: &impl Console, answer: Result<(), Refusal>) -> io::Result<()> {
+    match answer {
+        Ok(()) => console.write_bytes(b"ok"),
+        Err(r) => {
+            print_decimal(console, r.value() as u64)?;
+            console.write_bytes(b"/")?;
+            print_decimal(console, r.length() as u64)
+        }
     }
-    print_decimal(console, a.valid as u64)?;
-    console.write_bytes(b"/")?;
-    print_decimal(console, a.length as u64)
-}
-
-fn hex(console: &impl Console, b: u8) -> io::Result<()> {
-    print_hex(console, b as u64, 2)
 }

@@ -2,10 +2,11 @@
 // program's stack can hold), through the calls; the file `stdout` says what must come out.
 #![tactic(auto)]
 
-use lexer::{Cursor, Lexed, Start, Step};
-use lexer_place::{Position, SpanCheck};
-use lexer_token::{Answer, Span, Token, TokenKind};
+use lexer::Cursor;
+use lexer_place::Position;
+use lexer_token::{Span, Token, TokenKind};
 use program_io::{Console, print_decimal};
+use std::cmp::min;
 use std::io;
 use text_refusals::Refusal;
 
@@ -28,21 +29,17 @@ fn refused(console: &impl Console, r: Refusal) -> io::Result<()> {
     number(console, r.value(), b"\n")
 }
 
-fn row(console: &impl Console, r: [usize; 4]) -> io::Result<()> {
-    number(console, r[0], b" ")?;
-    number(console, r[1], b" ")?;
-    number(console, r[2], b" ")?;
-    number(console, r[3], b"\n")
+fn row(console: &impl Console, record: [usize; 4]) -> io::Result<()> {
+    let [kind, start, end, line] = record;
+    number(console, kind, b" ")?;
+    number(console, start, b" ")?;
+    number(console, end, b" ")?;
+    number(console, line, b"\n")
 }
 
 fn rows(console: &impl Console, records: &[[usize; 4]], count: usize) -> io::Result<()> {
-    let mut i = 0;
-    while i < records.len() {
-        if count <= i {
-            return Ok(());
-        }
-        row(console, records[i])?;
-        i += 1;
+    for record in records.iter().take(count) {
+        row(console, *record)?;
     }
     Ok(())
 }
@@ -51,11 +48,11 @@ fn rows(console: &impl Console, records: &[[usize; 4]], count: usize) -> io::Res
 fn tokens(console: &impl Console, doc: &[u8]) -> io::Result<()> {
     let mut records = [[9usize; 4]; 8];
     match lexer::lex(doc, &mut records) {
-        Lexed::Tokens(count) => {
+        Ok(count) => {
             rows(console, &records, 8)?;
             number(console, count, b" tokens\n")
         }
-        Lexed::Refused(r) => {
+        Err(r) => {
             refused(console, r)?;
             rows(console, &records, 1)
         }
@@ -66,8 +63,8 @@ fn tokens(console: &impl Console, doc: &[u8]) -> io::Result<()> {
 fn tokens_in_two(console: &impl Console, doc: &[u8]) -> io::Result<()> {
     let mut records = [[9usize; 4]; 2];
     match lexer::lex(doc, &mut records) {
-        Lexed::Tokens(count) => number(console, count, b" tokens\n")?,
-        Lexed::Refused(r) => refused(console, r)?,
+        Ok(count) => number(console, count, b" tokens\n")?,
+        Err(r) => refused(console, r)?,
     }
     rows(console, &records, 2)
 }
@@ -87,27 +84,27 @@ fn step(
 ) -> io::Result<()> {
     let c = Cursor { place, line, ended };
     match c.step(doc) {
-        Step::Token(t, next) => token(console, t, next),
-        Step::End => say(console, b"end\n"),
-        Step::Refused(r) => refused(console, r),
+        Ok(Some((t, next))) => token(console, t, next),
+        Ok(None) => say(console, b"end\n"),
+        Err(r) => refused(console, r),
     }
 }
 
 fn start(console: &impl Console, doc: &[u8]) -> io::Result<()> {
     match Cursor::start(doc) {
-        Start::At(c) => {
+        Ok(c) => {
             number(console, c.place, b" ")?;
             number(console, c.line, b" start\n")
         }
-        Start::Refused(r) => refused(console, r),
+        Err(r) => refused(console, r),
     }
 }
 
 fn span(console: &impl Console, doc: &[u8], start: usize, end: usize) -> io::Result<()> {
     let s = Span::new(start, end);
     match lexer_place::check_span(doc, s) {
-        SpanCheck::Whole => say(console, b"whole\n")?,
-        SpanCheck::Refused(r) => refused(console, r)?,
+        Ok(()) => say(console, b"whole\n")?,
+        Err(r) => refused(console, r)?,
     }
     let text = lexer_place::text_of(doc, s);
     say(console, text)?;
@@ -116,33 +113,35 @@ fn span(console: &impl Console, doc: &[u8], start: usize, end: usize) -> io::Res
 
 fn position(console: &impl Console, doc: &[u8], offset: usize) -> io::Result<()> {
     match lexer_place::position_of(doc, offset) {
-        Position::At { line, column } => {
+        Ok(Position { line, column }) => {
             number(console, line, b" ")?;
             number(console, column, b"\n")
         }
-        Position::Refused(r) => refused(console, r),
+        Err(r) => refused(console, r),
     }
 }
 
-fn answered(console: &impl Console, a: Answer) -> io::Result<()> {
-    match a {
-        Answer::Found => say(console, b"given\n"),
-        Answer::Refused(r) => refused(console, r),
+fn answered<T: Copy>(console: &impl Console, answer: Result<T, Refusal>) -> io::Result<()> {
+    match answer {
+        Ok(_) => say(console, b"given\n"),
+        Err(r) => refused(console, r),
     }
 }
 
+// The description, in 25 bytes with zeros behind it, and the encoding.
 fn kind(console: &impl Console, n: usize) -> io::Result<()> {
-    let d = TokenKind::description(n);
-    let a = d.answer;
-    let bytes = d.bytes;
-    answered(console, a)?;
-    number(console, d.len, b" ")?;
+    let description = TokenKind::description(n);
+    answered(console, description)?;
+    let text = description.unwrap_or(b"");
+    let len = min(text.len(), 25);
+    let mut bytes = [0u8; 25];
+    bytes[..len].copy_from_slice(&text[..len]);
+    number(console, len, b" ")?;
     say(console, &bytes)?;
     say(console, b"\n")?;
-    let e = TokenKind::encoding(n);
-    let b = e.answer;
-    answered(console, b)?;
-    number(console, e.number, b"\n")
+    let encoding = TokenKind::encoding(n);
+    answered(console, encoding)?;
+    number(console, encoding.unwrap_or(0), b"\n")
 }
 
 fn main(rt: HostRuntime) -> io::Result<()> {

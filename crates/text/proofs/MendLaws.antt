@@ -17,7 +17,7 @@ use Rattle.text.specs.CheckMeans.{check_of}
 use Rattle.text.specs.CheckMeans.{Longest}
 use Rattle.text.specs.LengthTells.{Mendable, LengthTells, LengthElse}
 use Rattle.text_refusals.specs.declared.Refusal.TheVariants.{NotUtf8, TooLong, FewTokens, ShortOutput, FewErrors, OutOfPlace, NoKind, AfterEnd, NoEdition, TooDeep, NoReviewer, FewMarks, TotalFull}
-use Rattle.text.specs.declared.utf8.Utf8Check.TheVariants.{Refused}
+use Rattle.std.specs.Prelude.{Err}
 use Rattle.text_classes.proofs.Conds.{by_eq}
 use Rattle.text_scalars.proofs.EncodeLaws.{encode_length}
 use Rattle.text_scalars.proofs.ReadLaws.{utf8_iff, valid_append, valid_longest}
@@ -122,8 +122,8 @@ length_tells s n r (h, broken, l, f) =
     )
 
 -- the same of what the check promises
-pub answer_tells : (s : List ℕ) (n r : ℕ) → Refused (NotUtf8 n r) ≡ check_of s → (r ≤ 3) × ((r ≡ 0) ↔ Mendable s)
-answer_tells s n r e = length_tells s n r ((check_means s (Refused (NotUtf8 n r))).0 e)
+pub answer_tells : (s : List ℕ) (n r : ℕ) → Err (NotUtf8 n r) ≡ check_of s → (r ≤ 3) × ((r ≡ 0) ↔ Mendable s)
+answer_tells s n r e = length_tells s n r ((check_means s (Err (NotUtf8 n r))).0 e)
 
 pub length_else : LengthElse
 length_else (NotUtf8 n r) h = absurd (h refl)

@@ -1,20 +1,20 @@
 -- RULE. What the calls of this crate answer, and what each answer of the UTF-8 check says of the bytes. The check's promise is
 -- an equation with the computed `check_of`; `check_means`, in proofs/AnswerLaws.antt, proves that the equation says just what
 -- `CheckMeans` says. The length returned with refusal 1 is the `error_len` of Rust's own UTF-8 error, 0 for none.
-use Rattle.std.specs.Prelude.{ℕ, ◌≤◌, ◌<◌}
+use Rattle.std.specs.Prelude.{ℕ, ◌≤◌, ◌<◌, Result, Ok, Err, ⊤}
 use mathlib.Core.{Path.◌≡◌, Bool.cond, List.List, List.◌++◌}
 use lib.{ListN.length, ListN.take, ListN.drop, Dec.ltb, Dec.eqb}
 use Rattle.text_refusals.specs.{Refusals.limit}
 use Rattle.text_scalars.specs.{Utf8.Scalar, Utf8.encode_scalar, Utf8.Utf8, Utf8Read.valid_prefix}
 use Rattle.text_characters.specs.{Lead.fault_len}
+use Rattle.text_refusals.specs.declared.{Refusal.Refusal}
 use Rattle.text_refusals.specs.declared.Refusal.TheVariants.{NotUtf8, TooLong, FewTokens, ShortOutput, FewErrors, OutOfPlace, NoKind, AfterEnd, NoEdition, TooDeep, NoReviewer, FewMarks, TotalFull}
-use Rattle.text.specs.declared.{utf8.Utf8Check.Utf8Check, utf8.Utf8Check.TheVariants.Valid, utf8.Utf8Check.TheVariants.Refused}
 
 -- the UTF-8 check: refusal 2 before 1, and with 1 the lengths of the longest valid prefix and of the faulty sequence
-unfoldable pub check_of : List ℕ → Utf8Check
+unfoldable pub check_of : List ℕ → Result ⊤ Refusal
 check_of s =
-    cond (ltb limit (length s)) (Refused TooLong)
-    (cond (eqb (valid_prefix s) (length s)) Valid (Refused (NotUtf8 (valid_prefix s) (fault_len (drop (valid_prefix s) s)))))
+    cond (ltb limit (length s)) (Err TooLong)
+    (cond (eqb (valid_prefix s) (length s)) (Ok tt) (Err (NotUtf8 (valid_prefix s) (fault_len (drop (valid_prefix s) s)))))
 
 -- p begins the encoding of some scalar value: `more`, appended to p, makes it whole
 abbrev pub Begins : List ℕ → Type 0
@@ -43,18 +43,18 @@ pub record Longest (s : List ℕ) (n : ℕ) : Type 0 where
   pub valid : Utf8 (take n s)
   pub longest : (k : ℕ) → k ≤ length s → Utf8 (take k s) → k ≤ n
 
-abbrev pub CheckMeans : List ℕ → Utf8Check → Type 0
-CheckMeans s Valid = (length s ≤ limit) × Utf8 s
-CheckMeans s (Refused TooLong) = limit < length s
-CheckMeans s (Refused (NotUtf8 n r)) = (length s ≤ limit) × (Utf8 s → ⊥) × Longest s n × Fault (drop n s) r
-CheckMeans s (Refused (FewTokens n)) = ⊥
-CheckMeans s (Refused (ShortOutput n)) = ⊥
-CheckMeans s (Refused (FewErrors n)) = ⊥
-CheckMeans s (Refused (OutOfPlace n)) = ⊥
-CheckMeans s (Refused (NoKind n)) = ⊥
-CheckMeans s (Refused AfterEnd) = ⊥
-CheckMeans s (Refused (NoEdition n)) = ⊥
-CheckMeans s (Refused TooDeep) = ⊥
-CheckMeans s (Refused (NoReviewer n)) = ⊥
-CheckMeans s (Refused (FewMarks n)) = ⊥
-CheckMeans s (Refused TotalFull) = ⊥
+abbrev pub CheckMeans : List ℕ → Result ⊤ Refusal → Type 0
+CheckMeans s (Ok u) = (length s ≤ limit) × Utf8 s
+CheckMeans s (Err TooLong) = limit < length s
+CheckMeans s (Err (NotUtf8 n r)) = (length s ≤ limit) × (Utf8 s → ⊥) × Longest s n × Fault (drop n s) r
+CheckMeans s (Err (FewTokens n)) = ⊥
+CheckMeans s (Err (ShortOutput n)) = ⊥
+CheckMeans s (Err (FewErrors n)) = ⊥
+CheckMeans s (Err (OutOfPlace n)) = ⊥
+CheckMeans s (Err (NoKind n)) = ⊥
+CheckMeans s (Err AfterEnd) = ⊥
+CheckMeans s (Err (NoEdition n)) = ⊥
+CheckMeans s (Err TooDeep) = ⊥
+CheckMeans s (Err (NoReviewer n)) = ⊥
+CheckMeans s (Err (FewMarks n)) = ⊥
+CheckMeans s (Err TotalFull) = ⊥

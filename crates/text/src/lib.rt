@@ -3,4 +3,4 @@
 
 mod utf8;
 
-pub use utf8::{Utf8Check, check_utf8};
+pub use utf8::check_utf8;

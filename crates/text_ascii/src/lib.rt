@@ -2,11 +2,13 @@
 // Utf8Read.antt of crate `text_scalars`, Runs.antt of crate `text_classes`, specs/Words.antt.
 #![tactic(auto)]
 
-ghost use Rattle.std.specs.Prelude.{◌≡◌, true, ◌+◌, ◌*◌, ◌^◌, ◌<◌, ◌≤◌, length, drop};
+ghost use Rattle.std.specs.Prelude.{◌≡◌, ◌==◌, true, ◌+◌, ◌*◌, ◌^◌, ◌<◌, ◌≤◌, length, drop};
 ghost use Rattle.text_classes.specs.Runs.{run};
 ghost use Rattle.text_classes.proofs.RunLaws.{Block, SameEnd};
 ghost use Rattle.text_scalars.specs.Utf8Read.{ascii};
 ghost use Rattle.text_ascii.specs.Words.{four_of};
+
+use text_classes::{ByteSet, run_of};
 
 // Whether s has 4 to 16 bytes, all of them ASCII: most strings of a document are short. Two words reach from one end to the
 // other, and overlap where they are longer than s.
@@ -51,16 +53,21 @@ pub fn ascii_run(s: &[u8], start: usize) -> usize
     let near = ascii_words(s, start, 4);
     let mut i = near;
     if near == start + 32 {
-        let wide = ascii_blocks(s, near, 64);
+        let wide = ascii_blocks(s, near);
         i = ascii_words(s, wide, 8);
     }
-    while i < s.len() {
-        if 0x80 <= s[i] {
-            return i;
-        }
-        i += 1;
+    run_of(Ascii, s, i)
+}
+
+#[derive(Clone, Copy)]
+struct Ascii;
+
+impl ByteSet for Ascii {
+    ghost holds = { λ _. ascii };
+
+    fn holds(self, b: u8) -> bool {
+        b < 0x80
     }
-    i
 }
 
 // Passes over words of eight ASCII bytes, `most` of them at the most.
@@ -69,13 +76,11 @@ fn ascii_words(s: &[u8], start: usize, most: usize) -> usize
     ensures { SameEnd (run ascii) s.now start result }
 {
     let mut i = start;
-    let mut n = 0;
-    while n < most {
+    for _ in 0..most {
         if !is_ascii_word(s, i) {
             return i;
         }
         i += 8;
-        n += 1;
     }
     i
 }
@@ -106,35 +111,33 @@ pub fn four(a: u8, b: u8, c: u8, d: u8) -> u64
 fn pair(a: u8, b: u8) -> u64
     ensures { result ≡ b * 2 ^ 8 + a }
 {
-    (a as u64) | ((b as u64) << 8)
+    u64::from(a) | (u64::from(b) << 8)
 }
 
-// Passes over blocks of `n` ASCII bytes.
-fn ascii_blocks(s: &[u8], start: usize, n: usize) -> usize
-    requires { (start ≤ length s.now) × (0 < n) }
+// Passes over blocks of 64 ASCII bytes.
+fn ascii_blocks(s: &[u8], start: usize) -> usize
+    requires { start ≤ length s.now }
     ensures { SameEnd (run ascii) s.now start result }
 {
     let mut i = start;
-    while n <= s.len() - i {
-        if !ascii_block(s, i, n) {
+    while let Some(block) = s[i..].first_chunk::<64>() {
+        if !is_ascii_block(block) {
             return i;
         }
-        i += n;
+        i += 64;
     }
     i
 }
 
-// Whether `n` bytes from `i` on are ASCII: one test of all their bits together, and no branch among
-// them, so that the compiler takes sixteen at once.
-fn ascii_block(s: &[u8], i: usize, n: usize) -> bool
-    requires { i + n ≤ length s.now }
-    ensures { result ≡ true → Block ascii s.now i n }
+// Whether all bytes of a block are ASCII: one test of all their bits together, and no branch among
+// them, so that the compiler, which knows how many there are at each call, takes sixteen at once.
+#[inline(always)]
+pub fn is_ascii_block(block: &[u8]) -> bool
+    ensures { result ≡ (run ascii block.now == length block.now) }
 {
     let mut bits: u8 = 0;
-    let mut j = 0;
-    while j < n {
-        bits = bits | s[i + j];
-        j += 1;
+    for b in block {
+        bits |= *b;
     }
     bits < 0x80
 }

@@ -2,7 +2,8 @@
 -- Assumes nothing.
 use Prim.Native.Nat.{ℕ, zero, suc, ◌+◌, ◌≤◌, ◌<◌}
 use mathlib.Core.Path.{◌≡◌, refl, sym, ap, subst}
-use mathlib.Core.Bool.{Bool, true}
+use mathlib.Core.Bool.{Bool, true, false}
+use Rattle.std.specs.Bool.{then_some}
 use mathlib.Core.List.{List}
 use native.Mathlib.Nat.{add-zero}
 use native.Mathlib.Omega.{arith}
@@ -27,12 +28,11 @@ wide_high s i n (suc (suc zero)) w h = (w.third (omega arith)).0
 wide_high s i n (suc (suc (suc zero))) w h = (w.fourth (omega arith)).0
 wide_high s i n (suc (suc (suc (suc k)))) w h = absurd (omega (arith, w.some))
 
--- r is n where a character of n bytes was found, and else 0
-pub wide_counted : (s : List ℕ) (i n r : ℕ) (found : Bool) → i + n ≤ length s → (found ≡ true → CharacterAt s i n)
-    → (0 < r → (r ≡ n) × (found ≡ true)) → WideAt s i r
-wide_counted s i n r found fits is counted some =
-    let so = counted some in
-    rw so.0 (fits, is so.1)
+-- a character of n bytes that was found may be answered
+pub wide_found : (s : List ℕ) (i n : ℕ) (found : Bool) → i + n ≤ length s → (found ≡ true → CharacterAt s i n)
+    → WideAt s i (then_some found n)
+wide_found s i n true fits is = (fits, is refl)
+wide_found s i n false fits is = tt
 
 module _ (s : List ℕ) (start i : ℕ) where
   abbrev a : ℕ

@@ -2,6 +2,7 @@
 -- function's own contract: what a caller learns of its `ensures`.
 -- Assumes nothing.
 use Prim.Native.Nat.{ℕ}
+use Rattle.std.specs.Prelude.{Option, Some, None}
 use mathlib.Core.Path.{◌≡◌, refl, sym, ◌∙◌}
 use mathlib.Core.Bool.{Bool, true, false}
 use mathlib.Core.List.{List, [], ◌∷◌}
@@ -26,12 +27,12 @@ module _ (low high b : ℕ) where
 pub is_among : OneAnswer promised.is_among.Reads.Learnt
 is_among κs a x y s t p q = same a.1.0 a.1.1.0 a.0 x y p q
 
--- The promise of `wide_at` admits two answers, and this theorem says so: it may answer 0 where a character stands, and its
+-- The promise of `wide_at` admits two answers, and this theorem says so: it may answer none where a character stands, and its
 -- caller then leaves the text to the check. Here é, of two bytes. So does that of `chars_run`, which may stop at any character.
 abbrev accent : List ℕ
 accent = 0xC3 ∷ 0xA9 ∷ []
 
-pub wide_at : ((x y : ℕ) → WideAt accent 0 x → WideAt accent 0 y → x ≡ y) → ⊥
+pub wide_at : ((x y : Option ℕ) → WideAt accent 0 x → WideAt accent 0 y → x ≡ y) → ⊥
 unfolding lead_of
 wide_at one =
     let there : CharacterAt accent 0 2 = record {
@@ -40,5 +41,5 @@ wide_at one =
       third = λ h. absurd (omega arith);
       fourth = λ h. absurd (omega arith);
     } in
-    let same : ◌≡◌ {A = ℕ} 0 2 = one 0 2 (λ h. absurd (omega arith)) (λ h. (omega arith, there)) in
-    omega arith
+    let same = one None (Some 2) tt (omega arith, there) in
+    cc same

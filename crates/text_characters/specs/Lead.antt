@@ -1,7 +1,7 @@
 -- What a first byte says of its character, and how many bytes are as it says. Not to be believed but proved:
 -- proofs/LeadLaws.antt shows that a character begins where the bytes pass this table, and only there.
 -- Assumes nothing.
-use Rattle.std.specs.Prelude.{ℕ, ◌+◌, ◌-◌, ◌≤◌, ◌<◌, ◌≡◌, Bool, cond, ◌&&◌, List, ltb, leb, eqb, length, get_or}
+use Rattle.std.specs.Prelude.{ℕ, ◌+◌, ◌-◌, ◌≤◌, ◌≡◌, Bool, cond, ◌&&◌, List, ltb, leb, eqb, length, get_or, Option, IfSome}
 use Rattle.std.specs.Int.Count.{count_leading_zeros}
 use Rattle.text_characters.specs.declared.Lead.{Lead}
 
@@ -45,9 +45,9 @@ pub record Character (a b c d n : ℕ) : Type 0 where
 abbrev pub CharacterAt : List ℕ → ℕ → ℕ → Type 0
 CharacterAt s i n = Character (get_or s i 0) (get_or s (i + 1) 0) (get_or s (i + 2) 0) (get_or s (i + 3) 0) n
 
--- r is 0, or a character of r bytes stands at place i, all of them within s
-abbrev pub WideAt : List ℕ → ℕ → ℕ → Type 0
-WideAt s i r = 0 < r → (i + r ≤ length s) × CharacterAt s i r
+-- where an answer is given, a character of r bytes stands at place i, all of them within s
+abbrev pub WideAt : List ℕ → ℕ → Option ℕ → Type 0
+WideAt s i answer = IfSome answer (λ r. (i + r ≤ length s) × CharacterAt s i r)
 
 -- r bytes, of `left` that are there, are as the first one asks; the next one is not, or is not asked for, or is not there.
 -- The second to the fourth byte are b, c and d.

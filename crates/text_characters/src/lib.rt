@@ -12,6 +12,7 @@ use text_ascii::{four, is_ascii_word};
 // Passes over whole characters while four bytes are left to be read, so that no byte past the end is asked for. Stops
 // before eight ASCII bytes in a row, over which `ascii_run` is quicker. The count of leading ones is a character's length; it
 // is compared with constants only, so that the compiler compares the byte itself instead.
+// By an index, here and in `fours_run`: over slices of what is left the check of Greek takes a fifth more instructions.
 pub fn chars_run(s: &[u8], start: usize) -> usize
     ensures { start ≤ length s.now → Along s.now start result }
 {
@@ -114,33 +115,21 @@ fn is_two(a: u8, b: u8) -> bool
     requires { ones_of a < 3 }
     ensures { result ≡ true → (c : ℕ) (d : ℕ) → Character a b c d 2 }
 {
-    if a < 0xC2 {
-        return false;
-    }
-    is_among(b, 0x80, 0xBF)
+    0xC2 <= a && is_among(b, 0x80, 0xBF)
 }
 
 fn is_three(a: u8, b: u8, c: u8) -> bool
     requires { ones_of a ≡ 3 }
     ensures { result ≡ true → (d : ℕ) → Character a b c d 3 }
 {
-    if !is_second_of_three(a, b) {
-        return false;
-    }
-    is_among(c, 0x80, 0xBF)
+    is_second_of_three(a, b) && is_among(c, 0x80, 0xBF)
 }
 
 fn is_four(a: u8, b: u8, c: u8, d: u8) -> bool
     requires { 3 < ones_of a }
     ensures { result ≡ true → Character a b c d 4 }
 {
-    if !is_second_of_four(a, b) {
-        return false;
-    }
-    if !is_among(c, 0x80, 0xBF) {
-        return false;
-    }
-    is_among(d, 0x80, 0xBF)
+    is_second_of_four(a, b) && is_among(c, 0x80, 0xBF) && is_among(d, 0x80, 0xBF)
 }
 
 fn is_second_of_three(a: u8, b: u8) -> bool
@@ -172,57 +161,44 @@ fn is_second_of_four(a: u8, b: u8) -> bool
     false
 }
 
-// The length of the character of two to four bytes that stands at `at`, 0 where none does. It asks as `chars_run` does, for
+// The length of the character of two to four bytes that stands at `at`, if one does. It asks as `chars_run` does, for
 // a caller that goes over ASCII itself.
-pub fn wide_at(s: &[u8], at: usize) -> usize
+pub fn wide_at(s: &[u8], at: usize) -> Option<usize>
     ensures { WideAt s.now at result }
 {
     if s.len() <= at {
-        return 0;
+        return None;
     }
     let left = s.len() - at;
     if left < 2 {
-        return 0;
+        return None;
     }
     let a = s[at];
     let ones = u8::leading_zeros(!a) as usize;
     if ones < 3 {
-        return counted(is_two(a, s[at + 1]), 2);
+        return is_two(a, s[at + 1]).then_some(2);
     }
     if left < 3 {
-        return 0;
+        return None;
     }
     if ones == 3 {
-        return counted(is_three(a, s[at + 1], s[at + 2]), 3);
+        return is_three(a, s[at + 1], s[at + 2]).then_some(3);
     }
     if left < 4 {
-        return 0;
+        return None;
     }
-    counted(is_four(a, s[at + 1], s[at + 2], s[at + 3]), 4)
-}
-
-// n where `so` holds, else 0.
-fn counted(so: bool, n: usize) -> usize
-    ensures { 0 < result → (result ≡ n) × (so ≡ true) }
-{
-    if so { n } else { 0 }
+    is_four(a, s[at + 1], s[at + 2], s[at + 3]).then_some(4)
 }
 
 pub fn is_among(b: u8, low: u8, high: u8) -> bool
     ensures { (result ≡ true → Among low high b) × (result ≡ false → Among low high b → ⊥) }
 {
-    if b < low {
-        return false;
-    }
-    if high < b {
-        return false;
-    }
-    true
+    low <= b && b <= high
 }
 
 // What a first byte says of its character: the length, 0 where none begins so, and the range of
-// the second byte.
-#[derive(Clone, Copy)]
+// the second byte. No Option: `lead_of` promises the table's rows, of which some have 0, and `Begun` is about such rows too.
+#[derive(Clone, Copy, Debug, PartialEq, Eq)]
 pub struct Lead(pub usize, pub u8, pub u8);
 
 // Beyond ASCII the length is the count of leading ones: the leading zeros of the complement. 80 to BF

@@ -63,3 +63,12 @@ is_at κs a x y s t p q = p ∙ sym q
 
 pub is_triple : OneAnswer promised.is_triple.Reads.Learnt
 is_triple κs a x y s t p q = p ∙ sym q
+
+-- of a function over any set: whatever the set's type is
+pub run_of : (T : _) (laws : _) (copy : _) (G : _) (d : _) (C : _) (e : _)
+    → OneAnswer (promised.sets.run_of.Reads.Learnt T laws copy G d C e)
+run_of T laws copy G d C e κs a x y s t p q = p ∙ sym q
+
+pub count_of : (T : _) (laws : _) (copy : _) (G : _) (d : _) (C : _) (e : _)
+    → OneAnswer (promised.sets.count_of.Reads.Learnt T laws copy G d C e)
+count_of T laws copy G d C e κs a x y s t p q = p ∙ sym q

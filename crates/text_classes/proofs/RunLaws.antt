@@ -1,14 +1,15 @@
 -- The laws of a run of bytes at a place, for the loops that walk it byte by byte or block by block.
 -- Assumes nothing.
-use Prim.Native.Nat.{ℕ, suc, ◌+◌, ◌≤◌, ◌<◌}
+use Prim.Native.Nat.{ℕ, zero, suc, ◌+◌, ◌-◌, ◌≤◌, ◌<◌}
 use mathlib.Core.Path.{◌≡◌, refl, ap, ◌∙◌, subst}
-use mathlib.Core.Bool.{Bool, true, false}
+use mathlib.Core.Bool.{Bool, true, false, cond}
 use mathlib.Core.List.{List, [], ◌∷◌}
 use native.Mathlib.Decide.{dec_lt}
 use native.Mathlib.Numerals.{add-one}
 use native.Mathlib.Omega.{arith}
-use lib.ListN.{length, get_or, drop, drop_of_length-le, get_or-eq_default}
-use lib.Seq.{drop-cons}
+use lib.ListN.{length, get_or, take, drop, drop_of_length-le, get_or-eq_default}
+use lib.Seq.{drop-cons, drop-drop}
+use Rattle.std.proofs.Common.{take-take, length-take}
 use Rattle.text_classes.specs.Runs.{run}
 use Rattle.text_classes.proofs.Conds.{cond_case}
 
@@ -53,6 +54,25 @@ module _ (p : ℕ → Bool) (s : List ℕ) (i : ℕ) where
 
   pub block_end : (j n : ℕ) → j ≡ n → Block p s i j → Block p s i n
   block_end j n e b = subst (λ (k : ℕ). Block p s i k) e b
+
+-- a part of n bytes from i on, all of which pass the test, is a block of the whole
+run_take : (p : ℕ → Bool) (n : ℕ) (s : List ℕ) → run p (take n s) ≡ n → run p s ≡ n + run p (drop n s)
+unfolding run
+run_take p zero s e = omega arith
+run_take p (suc n) [] e = absurd (omega (arith, e))
+run_take p (suc n) (b ∷ s) e = go (p b) refl (run_take p n s)
+  where
+    go : (t : Bool) → p b ≡ t → (run p (take n s) ≡ n → run p s ≡ n + run p (drop n s)) → cond (p b) (suc (run p s)) 0 ≡ suc n + run p (drop n s)
+    go true t more = rw t (omega (arith, more (omega (arith, rw t at e))))
+    go false t more = absurd (omega (arith, rw t at e))
+
+-- of the part from i on the first n bytes, as a slice of their own
+pub chunk_block : (p : ℕ → Bool) (s : List ℕ) (i n : ℕ) {chunk : List ℕ} → i ≤ length s → n ≤ length (take (length s - i) (drop i s))
+    → chunk ≡ take n (take (length s - i) (drop i s)) → run p chunk ≡ n → (i + n ≤ length s) × Block p s i n
+chunk_block p s i n h l is all =
+    let room : n ≤ length s - i = omega (arith, length-take (length s - i) (drop i s)) in
+    let run_n : run p (take n (drop i s)) ≡ n = rw (is, take-take n (length s - i) (drop i s) room) at all in
+    (omega arith, rw (← drop-drop n i s) (run_take p n (drop i s) run_n))
 
 -- r is a place of s from which a scan goes on as from `start`: it ends at the same place; `reach` is how far it reaches from the
 -- front of a list

@@ -7,6 +7,10 @@ ghost use Rattle.std.specs.Prelude.{◌≡◌, drop};
 ghost use Rattle.text_classes.specs.Classes.{wschar, token_start, non_ascii, literal_char, mll_char, basic_unescaped, mlb_unescaped, digit, hexdig, unquoted_char, continuation};
 ghost use Rattle.text_classes.specs.Runs.{stands, triple};
 
+mod sets;
+
+pub use sets::{ByteSet, Continuation, Not, TokenStart, UnquotedChar, Wschar, count_of, run_of};
+
 // comment-start-symbol = %x23 ; #
 pub const COMMENT_START_SYMBOL: u8 = b'#';
 
@@ -24,10 +28,7 @@ pub const ESCAPE: u8 = b'\\';
 pub fn is_wschar(b: u8) -> bool
     ensures { result ≡ wschar b }
 {
-    match b {
-        b' ' | b'\t' => true,
-        _ => false,
-    }
+    matches!(b, b' ' | b'\t')
 }
 
 // TOKEN_START. A loop over a document asks this of every byte of an atom, so the bits of two numbers
@@ -38,22 +39,13 @@ pub fn is_wschar(b: u8) -> bool
 pub fn is_token_start(b: u8) -> bool
     ensures { result ≡ token_start b }
 {
-    if (0x2800_508d_2800_2600u64 >> (wide(b) & 63)) & 1 == 0 {
+    if (0x2800_508d_2800_2600u64 >> (u64::from(b) & 63)) & 1 == 0 {
         return false;
     }
     if b < 64 {
-        return (0x2000_5009_0000_2600u64 >> wide(b)) & 1 == 1;
+        return (0x2000_5009_0000_2600u64 >> u64::from(b)) & 1 == 1;
     }
-    match b {
-        b'[' | b']' | b'{' | b'}' => true,
-        _ => false,
-    }
-}
-
-fn wide(b: u8) -> u64
-    ensures { result ≡ b }
-{
-    b as u64
+    matches!(b, b'[' | b']' | b'{' | b'}')
 }
 
 // NON_ASCII
@@ -68,21 +60,15 @@ pub fn is_non_ascii(b: u8) -> bool
 pub fn is_literal_char(b: u8) -> bool
     ensures { result ≡ literal_char b }
 {
-    match b {
-        0x09 | 0x20..=0x26 | 0x28..=0x7E | 0x80..=0xFF => true,
-        _ => false,
-    }
+    matches!(b, 0x09 | 0x20..=0x26 | 0x28..=0x7E | 0x80..=0xFF)
 }
 
 // MLL_CHAR
-#[tactic(auto, unfolding(crate::specs::Classes::mll_char))]
+#[tactic(auto, unfolding(crate::specs::Classes::literal_char, crate::specs::Classes::mll_char))]
 pub fn is_mll_char(b: u8) -> bool
     ensures { result ≡ mll_char b }
 {
-    match b {
-        0x09 | 0x20..=0x26 | 0x28..=0x7E | 0x80..=0xFF => true,
-        _ => false,
-    }
+    is_literal_char(b)
 }
 
 // BASIC_UNESCAPED
@@ -90,21 +76,15 @@ pub fn is_mll_char(b: u8) -> bool
 pub fn is_basic_unescaped(b: u8) -> bool
     ensures { result ≡ basic_unescaped b }
 {
-    match b {
-        b' ' | b'\t' | 0x21 | 0x23..=0x5B | 0x5D..=0x7E | 0x80..=0xFF => true,
-        _ => false,
-    }
+    matches!(b, b' ' | b'\t' | 0x21 | 0x23..=0x5B | 0x5D..=0x7E | 0x80..=0xFF)
 }
 
 // MLB_UNESCAPED
-#[tactic(auto, unfolding(crate::specs::Classes::mlb_unescaped))]
+#[tactic(auto, unfolding(crate::specs::Classes::basic_unescaped, crate::specs::Classes::mlb_unescaped))]
 pub fn is_mlb_unescaped(b: u8) -> bool
     ensures { result ≡ mlb_unescaped b }
 {
-    match b {
-        b' ' | b'\t' | 0x21 | 0x23..=0x5B | 0x5D..=0x7E | 0x80..=0xFF => true,
-        _ => false,
-    }
+    is_basic_unescaped(b)
 }
 
 // HEXDIG
@@ -112,10 +92,7 @@ pub fn is_mlb_unescaped(b: u8) -> bool
 pub fn is_hexdig(b: u8) -> bool
     ensures { result ≡ hexdig b }
 {
-    match b {
-        b'0'..=b'9' | b'A'..=b'F' | b'a'..=b'f' => true,
-        _ => false,
-    }
+    matches!(b, b'0'..=b'9' | b'A'..=b'F' | b'a'..=b'f')
 }
 
 // DIGIT
@@ -123,10 +100,7 @@ pub fn is_hexdig(b: u8) -> bool
 pub fn is_digit(b: u8) -> bool
     ensures { result ≡ digit b }
 {
-    match b {
-        b'0'..=b'9' => true,
-        _ => false,
-    }
+    matches!(b, b'0'..=b'9')
 }
 
 // UNQUOTED_CHAR
@@ -134,10 +108,7 @@ pub fn is_digit(b: u8) -> bool
 pub fn is_unquoted_char(b: u8) -> bool
     ensures { result ≡ unquoted_char b }
 {
-    match b {
-        b'A'..=b'Z' | b'a'..=b'z' | b'0'..=b'9' | b'-' | b'_' => true,
-        _ => false,
-    }
+    matches!(b, b'A'..=b'Z' | b'a'..=b'z' | b'0'..=b'9' | b'-' | b'_')
 }
 
 // A byte inside a character, 80 to BF: no span starts or ends there.
@@ -145,17 +116,14 @@ pub fn is_unquoted_char(b: u8) -> bool
 pub fn is_continuation(b: u8) -> bool
     ensures { result ≡ continuation b }
 {
-    match b {
-        0x80..=0xBF => true,
-        _ => false,
-    }
+    matches!(b, 0x80..=0xBF)
 }
 
 // Does the byte q stand at place i?
 pub fn is_at(s: &[u8], i: usize, q: u8) -> bool
     ensures { result ≡ stands q (drop i s.now) }
 {
-    i < s.len() && s[i] == q
+    s.get(i) == Some(&q)
 }
 
 // Do three marks q stand from place i on? Of apostrophes that is ml-literal-string-delim, of quotation marks

@@ -11,7 +11,7 @@ use lib.Seq.{take-append_seam, drop_at, drop-nil, take-length, drop-drop, length
 use lib.Dec.{eqb}
 use borrow.Author.Tests.{eqb-true, eq-eqb, ltb-true}
 use Rattle.text_scalars.specs.Utf8.{Scalar, encode_scalar, encodes, All, Utf8}
-use Rattle.text_scalars.specs.Utf8Read.{is_scalar, ascii, guess, starts, char_len, character, scalars_from, scalars, valid_prefix, CharsPassed}
+use Rattle.text_scalars.specs.Utf8Read.{is_scalar, ascii, guess, starts, char_len, character, scalars_from, scalars, valid_prefix, Along}
 use Rattle.text_classes.specs.Runs.{run}
 use Rattle.text_classes.proofs.Conds.{not_both}
 use Rattle.text_classes.proofs.RunLaws.{run_le, run_step}
@@ -217,32 +217,15 @@ valid_ascii (a ∷ s) = go (ascii a) refl (valid_ascii s)
 -- ---- the two ways forward of the check
 
 module _ (s : List ℕ) (at : ℕ) where
-  pub passed_ascii : at < length s → ascii (get_or s at 0) ≡ true → (r : ℕ) → r ≡ at + run ascii (drop at s) → CharsPassed s at r
+  pub passed_ascii : at < length s → ascii (get_or s at 0) ≡ true → (r : ℕ) → r ≡ at + run ascii (drop at s) → (at < r) × Along s at r
   passed_ascii h t r e =
       let n = run ascii (drop at s) in
       let more = run_step ascii s at h t in
       let whole : valid_prefix (drop at s) ≡ n + valid_prefix (drop (at + n) s) =
       rw (← drop-drop n at s) (valid_ascii (drop at s)) in
-      rw e (record {
-        within = omega (arith, run_le ascii (drop at s), length-drop at s);
-        whole = omega (arith, whole);
-        forward = omega arith;
-        stuck = λ same. absurd (omega (arith, more));
-      })
+      let within = run_le ascii (drop at s) in
+      rw e (omega (arith, more), (omega arith, omega (arith, within, length-drop at s), omega (arith, whole)))
 
-  pub passed_char : at < length s → (n : ℕ) → n ≡ char_len (drop at s) → CharsPassed s at (at + n)
-  passed_char h zero e =
-      let same : at ≡ at + 0 = omega arith in
-      record {
-        within = omega arith;
-        whole = omega (arith, ap (λ (k : ℕ). valid_prefix (drop k s)) same);
-        forward = omega arith;
-        stuck = λ f. valid_none (drop at s) (sym e);
-      }
-  passed_char h (suc n) e =
-      record {
-        within = omega (arith, char_le (drop at s), length-drop at s);
-        whole = omega (arith, valid_step s at (suc n) (omega arith) e);
-        forward = omega arith;
-        stuck = λ f. absurd (omega arith);
-      }
+  pub passed_char : at < length s → (n : ℕ) → 0 < n → n ≡ char_len (drop at s) → (at < at + n) × Along s at (at + n)
+  passed_char h n some e =
+      (omega arith, (omega arith, omega (arith, char_le (drop at s), length-drop at s), omega (arith, valid_step s at n some e)))

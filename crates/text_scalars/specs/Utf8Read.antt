@@ -49,13 +49,6 @@ scalars s = scalars_from zero s
 unfoldable pub valid_prefix : List ℕ → ℕ
 valid_prefix s = length (encodes (scalars s))
 
--- whole characters stand from `at` up to r, and where r is `at` none begins at `at`
-pub record CharsPassed (s : List ℕ) (at r : ℕ) : Type 0 where
-  pub within : r ≤ length s
-  pub whole : at + valid_prefix (drop at s) ≡ r + valid_prefix (drop r s)
-  pub forward : at ≤ r
-  pub stuck : r ≡ at → valid_prefix (drop at s) ≡ 0
-
 -- whole characters stand from `start` up to r
 abbrev pub Along : List ℕ → ℕ → ℕ → Type 0
 Along s start r = (start ≤ r) × (r ≤ length s) × (start + valid_prefix (drop start s) ≡ r + valid_prefix (drop r s))

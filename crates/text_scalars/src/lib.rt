@@ -6,8 +6,8 @@ ghost use Rattle.text_scalars.specs.Utf8.{encode_scalar};
 ghost use Rattle.text_scalars.specs.Utf8Read.{is_scalar};
 ghost use Rattle.text_scalars.specs.Encode.{padded, encoded_of};
 
-// The bytes of one character: the first `len` of `bytes`, the rest zero.
-#[derive(Clone, Copy)]
+// The bytes of one character: the first `len` of `bytes`, the rest zero. They are made here, in fixed memory: no text could be lent.
+#[derive(Clone, Copy, Debug, PartialEq, Eq)]
 pub struct Encoded {
     pub len: usize,
     pub bytes: [u8; 4],
@@ -71,8 +71,5 @@ fn tail(c: u32) -> u8
 pub fn is_scalar(c: u32) -> bool
     ensures { result ≡ is_scalar c }
 {
-    match c {
-        0..=0xD7FF | 0xE000..=0x10FFFF => true,
-        _ => false,
-    }
+    matches!(c, 0..=0xD7FF | 0xE000..=0x10FFFF)
 }

@@ -6,6 +6,7 @@ use mathlib.Core.Logic.{◌⊎◌, inl, inr, ⊎_elim}
 use mathlib.Core.List.Memᴰ
 use mathlib.Core.List.{List, [], ◌∷◌, ◌++◌, Memᴰ}
 use native.Mathlib.Omega.{arith}
+use Rattle.std.specs.Prelude.{None, Result, Ok, Err}
 use borrow.Author.Tests.{ne_eqb}
 use lib.ListN.{length, drop, length-take, length-drop}
 use Rattle.text_refusals.specs.Refusals.{limit}
@@ -13,21 +14,16 @@ use Rattle.text_refusals.specs.declared.Refusal.{Refusal}
 use Rattle.text_scalars.specs.Utf8.{Utf8}
 use Rattle.text_scalars.proofs.ReadLaws.{utf8_iff}
 use Rattle.text.specs.CheckMeans.{check_of}
-use Rattle.text.specs.declared.utf8.Utf8Check.TheVariants.{Valid}
 use Rattle.text.proofs.AnswerLaws.{answer_valid}
 use Rattle.lexer_token.specs.Encodings.{kind_encoding}
 use Rattle.lexer_token.specs.Records.{text_of}
 use Rattle.lexer_token.specs.declared.Token.{Token}
 use Rattle.decoder_rules.specs.Encodings.{choice_by}
-use Rattle.decoder_rules.specs.Decoding.{bytes_of, errors_of, errors_by, decoded_by, decode_in, after}
-use Rattle.decoder_rules.specs.declared.Choice.{Choice}
-use Rattle.decoder_rules.specs.declared.Choice.TheVariants.{Known, Unknown}
-use Rattle.decoder_rules.specs.declared.Decoded.TheVariants.{Written}
+use Rattle.decoder_rules.specs.Decoding.{written, bytes_of, errors_of, errors_by, decoded_by, decode_in, after}
+use Rattle.decoder_rules.specs.declared.Encoding.{Encoding}
 use Rattle.decoder_rules.proofs.DecodeLaws.{decode_valid, fitted_written}
 use Rattle.decoder_rules.proofs.Bounds.{bytes_most, errors_few}
-use Rattle.built_broken.specs.Broken.{is_utf8, token_errors, broken_by, not_utf8, first_among}
-use Rattle.built_broken.specs.declared.FirstBroken.{FirstBroken}
-use Rattle.built_broken.specs.declared.FirstBroken.TheVariants.{Sound, Refused}
+use Rattle.built_broken.specs.Broken.{BrokenFound, is_utf8, token_errors, broken_by, not_utf8, first_among}
 use Rattle.built_broken.proofs.ReadableLaws.{readable}
 use Rattle.theorems_broken.specs.Theorems.{first_decoded, by_call, first_called}
 
@@ -44,19 +40,19 @@ among_decoded doc edition (t ∷ ts) u =
 -- ---- over the calls
 
 -- what a call leaves decides as the errors do
-by_errors : (t : Token) (errors errs : List (List ℕ)) (bytes : ℕ) (rest : FirstBroken)
-    → by_call t (Written bytes (length errors)) (errors ++ drop (length errors) errs) rest ≡ broken_by t errors rest
+by_errors : (t : Token) (errors errs : List (List ℕ)) (bytes : ℕ) (rest : BrokenFound)
+    → by_call t (written bytes (length errors)) (errors ++ drop (length errors) errs) rest ≡ broken_by t errors rest
 by_errors t [] errs bytes rest = refl
 by_errors t (e ∷ es) errs bytes rest =
     let some : length (e ∷ es) ≡ 0 → ⊥ = λ z. omega arith in
     rw (ne_eqb (length (e ∷ es)) 0 some)
 
-by_choice : (t : Token) (choice : Choice) (text : List ℕ) (room : ℕ) (errs : List (List ℕ)) (rest : FirstBroken)
+by_choice : (t : Token) (choice : Result Encoding Refusal) (text : List ℕ) (room : ℕ) (errs : List (List ℕ)) (rest : BrokenFound)
     → 3 * length text ≤ 2 * room → length text + 2 ≤ length errs
-    → let answer = decoded_by Valid choice text room (length errs) in
+    → let answer = decoded_by (Ok (tt {0})) choice text room (length errs) in
     by_call t answer (after answer (errors_by choice text) errs) rest ≡ broken_by t (errors_by choice text) rest
-by_choice t (Unknown r) text room errs rest enough many = refl
-by_choice t (Known e) text room errs rest enough many =
+by_choice t (Err r) text room errs rest enough many = refl
+by_choice t (Ok e) text room errs rest enough many =
     let bytes = length (bytes_of e text) in
     let noted = length (errors_of e text) in
     let fits : bytes ≤ room = omega (arith, bytes_most e text) in
@@ -64,14 +60,14 @@ by_choice t (Known e) text room errs rest enough many =
     let answer = sym (fitted_written (bytes_of e text) (errors_of e text) room (length errs) bytes noted refl refl fits few) in
     rw answer (by_errors t (errors_of e text) errs bytes rest)
 
-by_call_lem : (doc : List ℕ) (edition : ℕ) (t : Token) (room : ℕ) (errs : List (List ℕ)) (rest : FirstBroken)
+by_call_lem : (doc : List ℕ) (edition : ℕ) (t : Token) (room : ℕ) (errs : List (List ℕ)) (rest : BrokenFound)
     → Utf8 (text_of doc t) → length (text_of doc t) ≤ limit → 3 * length (text_of doc t) ≤ 2 * room
     → length (text_of doc t) + 2 ≤ length errs
     → let answer = decode_in (text_of doc t) edition (kind_encoding t.kind) room (length errs) in
     by_call t answer (after answer (token_errors doc edition t) errs) rest ≡ broken_by t (token_errors doc edition t) rest
 by_call_lem doc edition t room errs rest u small enough many =
     let text = text_of doc t in
-    let valid : Valid ≡ check_of text = answer_valid text small ((utf8_iff text).1 u) in
+    let valid : Ok (tt {0}) ≡ check_of text = answer_valid text small ((utf8_iff text).1 u) in
     rw (← decode_valid text edition (kind_encoding t.kind) room (length errs) valid)
     (by_choice t (choice_by edition (kind_encoding t.kind)) text room errs rest enough many)
 
@@ -93,14 +89,14 @@ decoded_called doc edition room errs (t ∷ ts) u small enough many =
 
 -- ---- what an answer says of the tokens
 
-sound_head : (doc : List ℕ) (t : Token) (u : Bool) (errors : List (List ℕ)) (rest : FirstBroken)
-    → cond u (broken_by t errors rest) (not_utf8 doc) ≡ Sound → (u ≡ true) × (errors ≡ []) × (rest ≡ Sound)
+sound_head : (doc : List ℕ) (t : Token) (u : Bool) (errors : List (List ℕ)) (rest : BrokenFound)
+    → cond u (broken_by t errors rest) (not_utf8 doc) ≡ Ok None → (u ≡ true) × (errors ≡ []) × (rest ≡ Ok None)
 sound_head doc t true [] rest e = (refl, refl, e)
 sound_head doc t true (x ∷ xs) rest e = absurd (let z : ◌≡◌ {A = ℕ} 0 1 = cc in omega arith)
 sound_head doc t false errors rest e = absurd (let z : ◌≡◌ {A = ℕ} 0 1 = cc in omega arith)
 
 -- where none decides, each is UTF-8 and has no error
-pub sound_tokens : (doc : List ℕ) (edition : ℕ) (ts : List Token) → first_among doc edition ts ≡ Sound
+pub sound_tokens : (doc : List ℕ) (edition : ℕ) (ts : List Token) → first_among doc edition ts ≡ Ok None
     → (t : Token) → Memᴰ t ts → token_errors doc edition t ≡ []
 unfolding first_among
 sound_tokens doc edition [] e t m = absurd (Memᴰ.not-nil m)
@@ -111,9 +107,9 @@ sound_tokens doc edition (x ∷ ts) e t m =
       | inr k ↦ sound_tokens doc edition ts h.2 t k
     ]
 
-refused_head : (doc : List ℕ) (t : Token) (u : Bool) (errors : List (List ℕ)) (rest : FirstBroken) (r : Refusal)
-    → cond u (broken_by t errors rest) (not_utf8 doc) ≡ Refused r
-    → ((u ≡ false) × (not_utf8 doc ≡ Refused r)) ⊎ (rest ≡ Refused r)
+refused_head : (doc : List ℕ) (t : Token) (u : Bool) (errors : List (List ℕ)) (rest : BrokenFound) (r : Refusal)
+    → cond u (broken_by t errors rest) (not_utf8 doc) ≡ Err r
+    → ((u ≡ false) × (not_utf8 doc ≡ Err r)) ⊎ (rest ≡ Err r)
 refused_head doc t true [] rest r e = inr e
 refused_head doc t true (x ∷ xs) rest r e = absurd (let z : ◌≡◌ {A = ℕ} 0 1 = cc in omega arith)
 refused_head doc t false errors rest r e = inl (refl, e)
@@ -123,9 +119,9 @@ pub record Refuses (doc : List ℕ) (ts : List Token) (r : Refusal) : Type 0 whe
   pub token : Token
   pub listed : Memᴰ token ts
   pub bad : is_utf8 (text_of doc token) ≡ false
-  pub is : not_utf8 doc ≡ Refused r
+  pub is : not_utf8 doc ≡ Err r
 
-pub refused_token : (doc : List ℕ) (edition : ℕ) (ts : List Token) (r : Refusal) → first_among doc edition ts ≡ Refused r → Refuses doc ts r
+pub refused_token : (doc : List ℕ) (edition : ℕ) (ts : List Token) (r : Refusal) → first_among doc edition ts ≡ Err r → Refuses doc ts r
 unfolding first_among
 refused_token doc edition [] r e = absurd (let z : ◌≡◌ {A = ℕ} 0 1 = cc in omega arith)
 refused_token doc edition (x ∷ ts) r e =

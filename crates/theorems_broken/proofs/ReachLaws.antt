@@ -4,6 +4,7 @@ use mathlib.Core.Path.{◌≡◌, refl, sym, ap, ◌∙◌, subst}
 use mathlib.Core.Bool.{Bool, true, false, cond}
 use mathlib.Core.List.{List, [], ◌∷◌}
 use native.Mathlib.Omega.{arith}
+use Rattle.std.specs.Prelude.{Some, Ok, Err}
 use native.Mathlib.Decide.{dec_lt}
 use lib.ListN.{length, take, drop, length-take}
 use lib.Seq.{take-take, take-add, drop_at, length-take-le}
@@ -23,7 +24,6 @@ use Rattle.theorems_tokens.proofs.LocalLaws.{token_local}
 use Rattle.built_broken.specs.Broken.{is_utf8, recorded_error, not_utf8}
 use Rattle.built_broken.specs.Told.{unbroken}
 use Rattle.built_broken.specs.Walk.{first_from, front_text}
-use Rattle.built_broken.specs.declared.FirstBroken.TheVariants.{Broken, Refused}
 use Rattle.built_broken.proofs.ReadableLaws.{readable, is_read, unread}
 use Rattle.built_broken.proofs.FaultLaws.{whole_valid, whole_fault}
 use Rattle.built_broken.proofs.TurnLaws.{no_errors, errors_at, token_there, tokens_turn, text_there, turn_sound, turn_broken, turn_refused, front_on}
@@ -138,8 +138,8 @@ module _ (doc other : List ℕ) (n : ℕ) (agree : take (suc n) doc ≡ take (su
         let valid : valid_prefix other ≡ valid_prefix doc = w ∙ ap (λ (x : List ℕ). at + valid_prefix x) part_is ∙ sym v in
         let fault : fault_len (drop (valid_prefix other) other) ≡ fault_len (drop (valid_prefix doc) doc) =
         g ∙ ap (λ (x : List ℕ). fault_len (drop (valid_prefix x) x)) part_is ∙ sym f in
-        ap (λ (x : ℕ). Refused (NotUtf8 x (fault_len (drop (valid_prefix other) other)))) valid
-        ∙ ap (λ (x : ℕ). Refused (NotUtf8 (valid_prefix doc) x)) fault
+        ap (λ (x : ℕ). Err (NotUtf8 x (fault_len (drop (valid_prefix other) other)))) valid
+        ∙ ap (λ (x : ℕ). Err (NotUtf8 (valid_prefix doc) x)) fault
 
   pub same_from : (fuel edition at : ℕ) → length doc ≤ at + fuel → at ≤ length doc → Utf8 (take at doc) → reach_from doc edition at ≤ n
       → first_from other edition at ≡ first_from doc edition at
@@ -168,7 +168,7 @@ module _ (doc other : List ℕ) (n : ℕ) (agree : take (suc n) doc ≡ take (su
           ∙ sym (turn_sound doc edition at h is none)
       same_turn edition at h l front true (e ∷ es) is some near rest =
           turn_broken other edition at (there edition at h near) (ap is_utf8 (same_text edition at h near) ∙ is) e es (same_errors edition at h near ∙ some)
-          ∙ ap (λ (t : Token). Broken t (recorded_error e)) (same_there edition at h near)
+          ∙ ap (λ (t : Token). Ok (Some (t, recorded_error e))) (same_there edition at h near)
           ∙ sym (turn_broken doc edition at h is e es some)
       same_turn edition at h l front false errors is none near rest =
           turn_refused other edition at (there edition at h near) (ap is_utf8 (same_text edition at h near) ∙ is)

@@ -1,9 +1,10 @@
 -- The theorems of specs/Theorems.antt.
-use Prim.Native.Nat.{ℕ, zero, suc, ◌+◌, ◌-◌, ◌≤◌, ◌<◌}
+use Prim.Native.Nat.{ℕ, zero, suc, ◌+◌, ◌≤◌, ◌<◌}
 use mathlib.Core.Path.{◌≡◌, refl, sym, ap, ◌∙◌, subst}
 use mathlib.Core.Bool.{Bool, true, false, cond}
 use mathlib.Core.List.{List, [], ◌∷◌}
 use native.Mathlib.Omega.{arith}
+use Rattle.std.specs.Prelude.{None, Ok, Err}
 use native.Mathlib.Decide.{dec_lt}
 use lib.Dec.{eqb}
 use lib.ListN.{length, get_or, take, drop, length-take}
@@ -19,7 +20,6 @@ use Rattle.text_scalars.specs.Utf8Read.{valid_prefix}
 use Rattle.text_scalars.proofs.ReadLaws.{valid_le, utf8_iff}
 use Rattle.text_characters.specs.Lead.{fault_len}
 use Rattle.text.specs.CheckMeans.{check_of}
-use Rattle.text.specs.declared.utf8.Utf8Check.TheVariants.{Refused as NotValid}
 use Rattle.text.proofs.AnswerLaws.{answer_broken}
 use Rattle.lexer_token.specs.Encodings.{kind_encoding}
 use Rattle.lexer_token.specs.Records.{text_of}
@@ -30,12 +30,11 @@ use Rattle.lexer.proofs.LineLaws.{mark_bytes}
 use Rattle.lexer.proofs.TokenLaws.{token_long, token_fits_at, token_long_at}
 use Rattle.decoder_rules.specs.Encodings.{is_edition}
 use Rattle.decoder_rules.specs.Decoding.{decode_in}
-use Rattle.decoder_rules.specs.declared.Decoded.TheVariants.{Written}
+use Rattle.decoder_rules.specs.declared.Decoded.{Decoded}
 use Rattle.decoder_rules.proofs.AnswerLaws.{decode_answered}
 use Rattle.theorems_tokens.proofs.Lexing.{uncut}
 use Rattle.built_broken.specs.Broken.{is_utf8, token_errors, not_utf8, first_among, broken_answer}
 use Rattle.built_broken.specs.Walk.{first_from, front_text}
-use Rattle.built_broken.specs.declared.FirstBroken.TheVariants.{Sound, Refused}
 use Rattle.built_broken.proofs.ReadableLaws.{unread, is_read}
 use Rattle.built_broken.proofs.TurnLaws.{errors_at, turn_sound, turn_broken, turn_refused, front_on, tokens_start, walk_start}
 use Rattle.built_broken.proofs.NumberLaws.{answer_long, answer_among, answer_unnamed}
@@ -56,8 +55,8 @@ as_called doc u small edition named room errs enough many =
 -- ---- the answer by its three ways
 
 data Way (doc : List ℕ) (edition : ℕ) : Type 0 where
-  long : limit < length doc → broken_answer doc edition ≡ Refused TooLong → Way doc edition
-  unnamed : length doc ≤ limit → is_edition edition ≡ false → broken_answer doc edition ≡ Refused (NoEdition edition) → Way doc edition
+  long : limit < length doc → broken_answer doc edition ≡ Err TooLong → Way doc edition
+  unnamed : length doc ≤ limit → is_edition edition ≡ false → broken_answer doc edition ≡ Err (NoEdition edition) → Way doc edition
   walked : length doc ≤ limit → is_edition edition ≡ true → broken_answer doc edition ≡ first_among doc edition (tokens_of doc)
       → Way doc edition
 
@@ -74,18 +73,18 @@ way doc edition =
 
 -- ---- refusal 1
 
-not_whole : (doc : List ℕ) (small : length doc ≤ limit) → (Utf8 doc → ⊥) → (r : Refusal) → not_utf8 doc ≡ Refused r → check_of doc ≡ NotValid r
+not_whole : (doc : List ℕ) (small : length doc ≤ limit) → (Utf8 doc → ⊥) → (r : Refusal) → not_utf8 doc ≡ Err r → check_of doc ≡ Err r
 not_whole doc small bad r is =
     let v = valid_prefix doc in
     let other : v ≡ length doc → ⊥ = λ e. bad ((utf8_iff doc).0 e) in
     let short : v < length doc = omega (arith, valid_le doc) in
     let same : NotUtf8 v (fault_len (drop v doc)) ≡ r = cc in
-    sym (answer_broken doc v (fault_len (drop v doc)) small refl short refl) ∙ ap NotValid same
+    sym (answer_broken doc v (fault_len (drop v doc)) small refl short refl) ∙ ap Err same
 
 pub check_numbers : CheckNumbers
 check_numbers doc edition r e one = go (way doc edition)
   where
-    go : Way doc edition → check_of doc ≡ NotValid r
+    go : Way doc edition → check_of doc ≡ Err r
     go (long h f) =
         let same : TooLong ≡ r = cc in
         absurd (omega (arith, ap refusal_number same))
@@ -99,7 +98,7 @@ check_numbers doc edition r e one = go (way doc edition)
 -- ---- nothing is broken
 
 sound_from : (fuel : ℕ) (doc : List ℕ) (edition at : ℕ) → length doc ≤ at + fuel → at ≤ length doc → Utf8 (take at doc)
-    → first_from doc edition at ≡ Sound → Utf8 doc
+    → first_from doc edition at ≡ Ok None → Utf8 doc
 sound_from zero doc edition at most l front e = subst Utf8 (take_all at doc (omega arith)) front
 sound_from (suc fuel) doc edition at most l front e =
     elim (dec_lt at (length doc)) [
@@ -111,7 +110,7 @@ sound_from (suc fuel) doc edition at most l front e =
   where
     go : (h : at < length doc) (u : Bool) (errors : List (List ℕ)) → is_utf8 (front_text (drop at doc)) ≡ u → errors_at doc edition at h ≡ errors
         → let m = at + token_len (drop at doc) in
-        (Utf8 (take m doc) → first_from doc edition m ≡ Sound → Utf8 doc) → Utf8 doc
+        (Utf8 (take m doc) → first_from doc edition m ≡ Ok None → Utf8 doc) → Utf8 doc
     go h true [] is none rest =
         rest (front_on doc edition at h front (is_read _ is)) (sym (turn_sound doc edition at h is none) ∙ e)
     go h true (x ∷ xs) is some rest =
@@ -122,10 +121,10 @@ sound_from (suc fuel) doc edition at most l front e =
         absurd (let z : ◌≡◌ {A = ℕ} 0 1 = cc in omega arith)
 
 -- what `decode_in` notes of a token is how many errors the token reports
-noted_is : (doc : List ℕ) (edition : ℕ) (t : Token) (room errors bytes noted : ℕ)
-    → decode_in (text_of doc t) edition (kind_encoding t.kind) room errors ≡ Written bytes noted → noted ≡ length (token_errors doc edition t)
-noted_is doc edition t room errors bytes noted e =
-    let w = decode_answered (text_of doc t) edition (kind_encoding t.kind) room errors bytes noted e in
+noted_is : (doc : List ℕ) (edition : ℕ) (t : Token) (room errors : ℕ) (d : Decoded)
+    → decode_in (text_of doc t) edition (kind_encoding t.kind) room errors ≡ Ok d → d.errors ≡ length (token_errors doc edition t)
+noted_is doc edition t room errors d e =
+    let w = decode_answered (text_of doc t) edition (kind_encoding t.kind) room errors d.bytes d.errors e in
     w.errors ∙ sym (rw w.chosen)
 
 pub nothing_broken : NothingBroken
@@ -140,7 +139,7 @@ nothing_broken doc edition e = go (way doc edition)
         record {
           utf8 = sound_from (length doc) doc edition (start_of doc) (omega arith) w.within w.front (w.same ∙ sym f ∙ e);
           none = none;
-          called = λ t m room errors bytes noted g. noted_is doc edition t room errors bytes noted g ∙ ap length (none t m);
+          called = λ t m room errors d g. noted_is doc edition t room errors d g ∙ ap length (none t m);
         }
 
 -- ---- how far it reads

@@ -1,12 +1,11 @@
 -- STATEMENT. What is said of the first broken string besides its rule, each proved under the name that its comment gives. The calls
 -- `first_broken` and `first_broken_in` promise to answer `broken_answer`, so that each theorem is about their answers.
-use Rattle.std.specs.Prelude.{ℕ, suc, ◌+◌, ◌*◌, ◌≤◌, ◌<◌, ◌≡◌, true, cond, eqb, length, get_or, take}
+use Rattle.std.specs.Prelude.{ℕ, suc, ◌+◌, ◌*◌, ◌≤◌, ◌<◌, ◌≡◌, true, cond, eqb, length, get_or, take, Some, None, Result, Ok, Err}
 use mathlib.Core.List.{List, [], ◌∷◌, Memᴰ}
 use Rattle.text_refusals.specs.Refusals.{limit, refusal_number}
 use Rattle.text_refusals.specs.declared.Refusal.{Refusal}
 use Rattle.text_scalars.specs.Utf8.{Utf8}
 use Rattle.text.specs.CheckMeans.{check_of}
-use Rattle.text.specs.declared.utf8.Utf8Check.TheVariants.{Refused as NotValid}
 use Rattle.lexer_token.specs.Encodings.{kind_encoding}
 use Rattle.lexer_token.specs.Records.{text_of}
 use Rattle.lexer_token.specs.declared.Token.{Token}
@@ -14,17 +13,14 @@ use Rattle.lexer.specs.Tokens.{tokens_of}
 use Rattle.decoder_rules.specs.Encodings.{choice_by, is_edition}
 use Rattle.decoder_rules.specs.Decoding.{errors_by, decode_in, after}
 use Rattle.decoder_rules.specs.declared.Decoded.{Decoded}
-use Rattle.decoder_rules.specs.declared.Decoded.TheVariants.{Written, Refused as Undecoded}
-use Rattle.built_broken.specs.Broken.{is_utf8, token_errors, recorded_error, broken_by, broken_answer}
+use Rattle.built_broken.specs.Broken.{BrokenFound, is_utf8, token_errors, recorded_error, broken_by, broken_answer}
 use Rattle.built_broken.specs.Told.{unbroken}
-use Rattle.built_broken.specs.declared.FirstBroken.{FirstBroken}
-use Rattle.built_broken.specs.declared.FirstBroken.TheVariants.{Broken, Sound, Refused}
 
 -- ---- as whole lexing and decoding have it
 
 -- the first, over some tokens, of those that report errors, with its first error; UTF-8 is not asked for
-unfoldable pub first_decoded : List ℕ → ℕ → List Token → FirstBroken
-first_decoded doc edition [] = Sound
+unfoldable pub first_decoded : List ℕ → ℕ → List Token → BrokenFound
+first_decoded doc edition [] = Ok None
 first_decoded doc edition (t ∷ ts) = broken_by t (token_errors doc edition t) (first_decoded doc edition ts)
 
 -- `as_decoded`: on UTF-8 the answer is that, over all tokens of whole lexing
@@ -36,14 +32,14 @@ AsDecoded =
 -- the same by calls: `decode_in` of the text of each token in turn, by the encoding of its kind, which refuses a token that is no
 -- string; `room` bytes of output are lent, and error records that hold `errs`. The first call that reports errors decides, by
 -- the first record that it left
-abbrev pub by_call : Token → Decoded → List (List ℕ) → FirstBroken → FirstBroken
-by_call t (Written bytes errors) held rest = cond (eqb errors 0) rest (Broken t (recorded_error (get_or held 0 [])))
-by_call t (Undecoded r) held rest = rest
+abbrev pub by_call : Token → Result Decoded Refusal → List (List ℕ) → BrokenFound → BrokenFound
+by_call t (Ok d) held rest = cond (eqb d.errors 0) rest (Ok (Some (t, recorded_error (get_or held 0 []))))
+by_call t (Err r) held rest = rest
 
-unfoldable pub first_called : List ℕ → ℕ → ℕ → List (List ℕ) → List Token → FirstBroken
-first_called doc edition room errs [] = Sound
+unfoldable pub first_called : List ℕ → ℕ → ℕ → List (List ℕ) → List Token → BrokenFound
+first_called doc edition room errs [] = Ok None
 first_called doc edition room errs (t ∷ ts) =
-    let answer : Decoded = decode_in (text_of doc t) edition (kind_encoding t.kind) room (length errs) in
+    let answer : Result Decoded Refusal = decode_in (text_of doc t) edition (kind_encoding t.kind) room (length errs) in
     by_call t answer (after answer (errors_by (choice_by edition (kind_encoding t.kind)) (text_of doc t)) errs)
     (first_called doc edition room errs ts)
 
@@ -91,7 +87,7 @@ BothEnd =
 -- `check_numbers`: where the answer is refusal 1, `check_utf8` of the whole document answers the same refusal, with the same numbers
 abbrev pub CheckNumbers : Type 0
 CheckNumbers =
-    (doc : List ℕ) (edition : ℕ) (r : Refusal) → broken_answer doc edition ≡ Refused r → refusal_number r ≡ 1 → check_of doc ≡ NotValid r
+    (doc : List ℕ) (edition : ℕ) (r : Refusal) → broken_answer doc edition ≡ Err r → refusal_number r ≡ 1 → check_of doc ≡ Err r
 
 -- ---- nothing is broken
 
@@ -99,9 +95,9 @@ CheckNumbers =
 pub record Unbroken (doc : List ℕ) (edition : ℕ) : Type 0 where
   pub utf8 : Utf8 doc
   pub none : (t : Token) → Memᴰ t (tokens_of doc) → token_errors doc edition t ≡ []
-  pub called : (t : Token) → Memᴰ t (tokens_of doc) → (room errors bytes noted : ℕ)
-      → decode_in (text_of doc t) edition (kind_encoding t.kind) room errors ≡ Written bytes noted → noted ≡ 0
+  pub called : (t : Token) → Memᴰ t (tokens_of doc) → (room errors : ℕ) (d : Decoded)
+      → decode_in (text_of doc t) edition (kind_encoding t.kind) room errors ≡ Ok d → d.errors ≡ 0
 
 -- `nothing_broken`: where no token is broken and the call is not refused, that holds
 abbrev pub NothingBroken : Type 0
-NothingBroken = (doc : List ℕ) (edition : ℕ) → broken_answer doc edition ≡ Sound → Unbroken doc edition
+NothingBroken = (doc : List ℕ) (edition : ℕ) → broken_answer doc edition ≡ Ok None → Unbroken doc edition

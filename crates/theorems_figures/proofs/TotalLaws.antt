@@ -13,7 +13,7 @@ use Rattle.text_refusals.specs.declared.Refusal.TheVariants.{NotUtf8}
 use Rattle.text_scalars.specs.Utf8Read.{valid_prefix}
 use Rattle.text_characters.specs.Lead.{fault_len}
 use Rattle.text.specs.CheckMeans.{check_of}
-use Rattle.text.specs.declared.utf8.Utf8Check.TheVariants.{Valid, Refused as Broken}
+use Rattle.std.specs.Prelude.{Ok, Err}
 use Rattle.text.proofs.AnswerLaws.{checked}
 use Rattle.lexer_token.specs.KindNumbers.{kind_number}
 use Rattle.lexer_token.specs.declared.TokenKind.{TokenKind}
@@ -94,12 +94,12 @@ module _ (doc totals : List ℕ) where
       by false e = absurd (h (number_is ∙ ap (λ (f : Bool). by_tests f over valid) e))
 
   -- the check's answer, of a document that is not too long
-  check_valid : over ≡ false → valid ≡ true → check_of doc ≡ Valid
+  check_valid : over ≡ false → valid ≡ true → check_of doc ≡ Ok tt
   unfolding check_of
   check_valid o v = rw (le-ltb limit (length doc) (omega (arith, ltb-false most (length doc) o)), v)
 
   check_broken : over ≡ false → valid ≡ false
-      → check_of doc ≡ Broken (NotUtf8 (valid_prefix doc) (fault_len (drop (valid_prefix doc) doc)))
+      → check_of doc ≡ Err (NotUtf8 (valid_prefix doc) (fault_len (drop (valid_prefix doc) doc)))
   unfolding check_of
   check_broken o v = rw (le-ltb limit (length doc) (omega (arith, ltb-false most (length doc) o)), v)
 
@@ -159,7 +159,7 @@ added_counts doc totals zero_is =
     let check = check_valid doc totals tests.1 tests.2 in
     let ks = kinds_among (tokens_of doc) in
     let es = errors_among doc (tokens_of doc) in
-    let is = after_fit doc totals tests.0 ∙ ap (λ (r : List ℕ). added totals r) (short doc small Valid check).figures in
+    let is = after_fit doc totals tests.0 ∙ ap (λ (r : List ℕ). added totals r) (short doc small (Ok tt) check).figures in
     record {
       short = small;
       utf8 = (checked doc check).1;

@@ -14,12 +14,12 @@ use Rattle.text_scalars.proofs.EncodeLaws.{encode_1}
 use Rattle.text_scalars.proofs.CutLaws.{all_parts}
 use Rattle.decoder_rules.specs.declared.Edition.{Edition}
 use Rattle.decoder_rules.specs.declared.Encoding.TheVariants.{BasicString as BasicText}
-use Rattle.decoder_rules.specs.declared.Verdict.TheVariants.{Clean}
+use Rattle.std.specs.Prelude.{None}
 use Rattle.decoder_rules.specs.Pieces.{notes_at, Pieces, collect}
 use Rattle.decoder_rules.specs.Escapes.{escape_piece}
 use Rattle.decoder_rules.specs.Bodies.{basic_piece, piece_of}
 use Rattle.decoder_rules.specs.Decoding.{bytes_of, errors_of}
-use Rattle.decoder_rules.proofs.PieceLaws.{wrong≢clean}
+use Rattle.decoder_rules.proofs.PieceLaws.{wrong≢none}
 use Rattle.decoder_rules.proofs.AsciiLaws.{basic_high}
 use Rattle.theorems_tokens.proofs.ByLength.{by_length}
 use Rattle.theorems_grammar.specs.Grammar.{escaped, unescaped, escaped_char, BasicChars, stop, more, BasicString, basic_string}
@@ -49,12 +49,12 @@ module _ (ed : Edition) where
   abbrev Good : ℕ → List ℕ → Type 0
   Good b r = (basic_unescaped b ≡ true) ⊎ ((b ≡ 0x5C) × EscapedAt ed r)
 
-  clean : (at b : ℕ) (r : List ℕ) → (pieces false at (b ∷ r)).verdict ≡ Clean → Good b r
+  clean : (at b : ℕ) (r : List ℕ) → (pieces false at (b ∷ r)).verdict ≡ None → Good b r
   unfolding basic_piece
   clean at b r =
       cond_case (IfClean (Good b r)) (basic_unescaped b) (λ test clean-piece. inl test)
       λ test. by_eq (IfClean (Good b r)) b 0x5C (λ is-slash clean-piece. inr (is-slash, escape_inv ed at r clean-piece))
-      (λ is-slash clean-piece. absurd (wrong≢clean clean-piece))
+      (λ is-slash clean-piece. absurd (wrong≢none clean-piece))
 
   char_reads : ReadsChars pieces basic_unescaped
   char_reads = reads_char pieces basic_unescaped plain basic_high

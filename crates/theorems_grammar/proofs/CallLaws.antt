@@ -10,16 +10,16 @@ use Rattle.text_scalars.specs.Utf8.{encodes, Utf8}
 use Rattle.text_refusals.specs.Refusals.{limit}
 use Rattle.text_scalars.proofs.ReadLaws.{utf8_iff}
 use Rattle.text.proofs.AnswerLaws.{answer_valid}
-use Rattle.text.specs.declared.utf8.Utf8Check.TheVariants.{Valid}
-use Rattle.decoder_rules.specs.declared.Choice.{Choice}
-use Rattle.decoder_rules.specs.declared.Choice.TheVariants.{Known}
+use Rattle.decoder_rules.specs.declared.Encoding.{Encoding}
+use Rattle.std.specs.Prelude.{Result, Ok}
+use Rattle.text_refusals.specs.declared.Refusal.{Refusal}
+use Rattle.text_refusals.specs.Told.{told_number}
 use Rattle.decoder_rules.specs.declared.Decoded.{Decoded}
-use Rattle.decoder_rules.specs.declared.Decoded.TheVariants.{Written}
 use Rattle.decoder_rules.specs.declared.Edition.{Edition}
 use Rattle.decoder_rules.specs.declared.Edition.TheVariants.{Toml10, Toml11}
 use Rattle.decoder_rules.specs.Encodings.{choice_in, choice_by, edition_number}
-use Rattle.decoder_rules.specs.Decoding.{bytes_of, errors_of, fitted, decoded_by}
-use Rattle.decoder_rules.specs.Told.{decoded_number, decoded_value, decoded_errors}
+use Rattle.decoder_rules.specs.Decoding.{bytes_of, errors_of, written, fitted, decoded_by}
+use Rattle.decoder_rules.specs.Told.{decoded_value, decoded_errors}
 use Rattle.decoder_rules.proofs.DecodeLaws.{fitted_short, fitted_few, fitted_written, decode_valid}
 use Rattle.lexer_token.specs.KindNumbers.{kind_number}
 use Rattle.theorems_grammar.specs.Strings.{StringKind, literal, basic, ml_literal, ml_basic, token_kind, encoding}
@@ -34,39 +34,39 @@ data Outcome (b m o e n : ℕ) : Type 0 where
   too_few : b ≤ o → e < m → n ≡ 5 → Outcome b m o e n
   fits : b ≤ o → m ≤ e → n ≡ 0 → Outcome b m o e n
 
-module _ (bytes : List ℕ) (errors : List (List ℕ)) (o e : ℕ) (a : Decoded) (answer_is : fitted bytes errors o e ≡ a) where
-  written : length bytes ≤ o → length errors ≤ e → Written (length bytes) (length errors) ≡ a
-  written bytes_fit errors-fit =
+module _ (bytes : List ℕ) (errors : List (List ℕ)) (o e : ℕ) (a : Result Decoded Refusal) (answer_is : fitted bytes errors o e ≡ a) where
+  in_room : length bytes ≤ o → length errors ≤ e → written (length bytes) (length errors) ≡ a
+  in_room bytes_fit errors-fit =
       fitted_written bytes errors o e (length bytes) (length errors) refl refl bytes_fit errors-fit ∙ answer_is
 
-  outcome : Outcome (length bytes) (length errors) o e (decoded_number a)
+  outcome : Outcome (length bytes) (length errors) o e (told_number a)
   outcome = elim (dec_lt o (length bytes)) [
     | yes too_long ↦ too_short too_long
-        (ap decoded_number (sym (fitted_short bytes errors o e (length bytes) refl too_long ∙ answer_is)))
+        (ap told_number (sym (fitted_short bytes errors o e (length bytes) refl too_long ∙ answer_is)))
     | no bytes_fit ↦ elim (dec_lt e (length errors)) [
-      | yes too_many ↦ too_few (omega arith) too_many (ap decoded_number (sym (
+      | yes too_many ↦ too_few (omega arith) too_many (ap told_number (sym (
           fitted_few bytes errors o e (length bytes) (length errors) refl refl (omega arith) too_many ∙ answer_is)))
-      | no errors-fit ↦ fits (omega arith) (omega arith) (ap decoded_number (sym (written (omega arith) (omega arith))))
+      | no errors-fit ↦ fits (omega arith) (omega arith) (ap told_number (sym (in_room (omega arith) (omega arith))))
     ]
   ]
 
   -- n bytes and no error are answered exactly where there are n bytes, they fit, and there is no error
-  clean : (n : ℕ) → (a ≡ Written n 0) ↔ ((errors ≡ []) × (n ≡ length bytes) × (length bytes ≤ o))
+  clean : (n : ℕ) → (a ≡ written n 0) ↔ ((errors ≡ []) × (n ≡ length bytes) × (length bytes ≤ o))
   clean n = (λ answered. to answered outcome, from)
     where
-      to : a ≡ Written n 0 → Outcome (length bytes) (length errors) o e (decoded_number a)
+      to : a ≡ written n 0 → Outcome (length bytes) (length errors) o e (told_number a)
           → (errors ≡ []) × (n ≡ length bytes) × (length bytes ≤ o)
-      to answered (too_short too_long number) = absurd (omega (arith, ap decoded_number answered))
-      to answered (too_few bytes_fit too_many number) = absurd (omega (arith, ap decoded_number answered))
+      to answered (too_short too_long number) = absurd (omega (arith, ap told_number answered))
+      to answered (too_few bytes_fit too_many number) = absurd (omega (arith, ap told_number answered))
       to answered (fits bytes_fit errors-fit number) =
-          let same = written bytes_fit errors-fit ∙ answered in
+          let same = in_room bytes_fit errors-fit ∙ answered in
           (nil errors (ap decoded_errors same), sym (ap decoded_value same), bytes_fit)
 
-      from : (errors ≡ []) × (n ≡ length bytes) × (length bytes ≤ o) → a ≡ Written n 0
+      from : (errors ≡ []) × (n ≡ length bytes) × (length bytes ≤ o) → a ≡ written n 0
       from (no_errors, count, bytes_fit) =
           let none : length errors ≡ 0 = ap length no_errors in
-          sym (written bytes_fit (omega arith))
-          ∙ (ap (λ (i : ℕ). Written (length bytes) i) none ∙ ap (λ (i : ℕ). Written i 0) (sym count))
+          sym (in_room bytes_fit (omega arith))
+          ∙ (ap (λ (i : ℕ). written (length bytes) i) none ∙ ap (λ (i : ℕ). written i 0) (sym count))
 
 module _ {b m o e n : ℕ} where
   never : (k : ℕ) → (k ≡ 4 → ⊥) → (k ≡ 5 → ⊥) → (k ≡ 0 → ⊥) → Outcome b m o e n → n ≡ k → ⊥
@@ -91,7 +91,7 @@ module _ {b m o e n : ℕ} where
 
 -- ---- the call
 
-known_kind : (ed : Edition) (s : StringKind) → Known (encoding ed s) ≡ choice_by (edition_number ed) (kind_number (token_kind s))
+known_kind : (ed : Edition) (s : StringKind) → Ok (encoding ed s) ≡ choice_by (edition_number ed) (kind_number (token_kind s))
 unfolding choice_by choice_in
 known_kind Toml10 literal = refl
 known_kind Toml10 basic = refl
@@ -114,14 +114,14 @@ module _ (ed : Edition) (s : StringKind) (t : List ℕ) (u : Utf8 t) (small : le
 
   answer_is : fitted bytes errors (length out) e ≡ answer_of ed s t out e
   answer_is =
-      ap (λ (c : Choice). decoded_by Valid c t (length out) e) (known_kind ed s)
+      ap (λ (c : Result Encoding Refusal). decoded_by (Ok tt) c t (length out) e) (known_kind ed s)
       ∙ decode_valid t (edition_number ed) (kind_number (token_kind s)) (length out) e (answer_valid t small ((utf8_iff t).1 u))
 
   answer_clean : (n : ℕ)
-      → (answer_of ed s t out e ≡ Written n 0) ↔ ((errors ≡ []) × (n ≡ length bytes) × (length bytes ≤ length out))
+      → (answer_of ed s t out e ≡ written n 0) ↔ ((errors ≡ []) × (n ≡ length bytes) × (length bytes ≤ length out))
   answer_clean = clean bytes errors (length out) e (answer_of ed s t out e) answer_is
 
-  answer_means : (n : ℕ) → (answer_of ed s t out e ≡ Written n 0)
+  answer_means : (n : ℕ) → (answer_of ed s t out e ≡ written n 0)
       ↔ ((v : List ℕ) × TextMeans ed s t v × (n ≡ length (encodes v)) × (length (encodes v) ≤ length out))
   answer_means n = (
     λ answered.

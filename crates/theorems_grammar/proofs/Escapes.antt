@@ -17,10 +17,10 @@ use Rattle.decoder_rules.specs.declared.Edition.TheVariants.{Toml10, Toml11}
 use Rattle.decoder_rules.specs.declared.Letter.{Letter}
 use Rattle.decoder_rules.specs.declared.Letter.TheVariants.{Stands, Asks, Neither}
 use Rattle.decoder_rules.specs.declared.Piece.{Piece}
-use Rattle.decoder_rules.specs.declared.Verdict.TheVariants.{Clean}
+use Rattle.std.specs.Prelude.{None}
 use Rattle.decoder_rules.specs.Pieces.{Pieces, char_piece}
 use Rattle.decoder_rules.specs.Escapes.{new_letter, letter_of, hex_from, hex_value, hex_piece, escape_by, escape_piece}
-use Rattle.decoder_rules.proofs.PieceLaws.{wrong≢clean}
+use Rattle.decoder_rules.proofs.PieceLaws.{wrong≢none}
 use Rattle.decoder_rules.proofs.EscapeLaws.{hex_char, escape_hex, escape_simple}
 use Rattle.theorems_grammar.specs.Grammar.{HexDig, HexDigits, stop, more, EscapeSeqChar, x22, x5C, x62, x66, x6E, x72, x74, x75, x55, x65, x78}
 use Rattle.theorems_grammar.specs.Scalars.{Names}
@@ -214,16 +214,16 @@ letter_right ed b =
     λ _. by_eq (Right ed b) b 0x75 (right_asks ed 0x75 4 (λ t v digits scalar. (x75 digits, scalar)) b)
     λ _. by_eq (Right ed b) b 0x55 (right_asks ed 0x55 8 (λ t v digits scalar. (x55 digits, scalar)) b) (λ _. new_right ed b)
 
-hex_clean : (n at : ℕ) (s : List ℕ) → (hex_piece n at s).verdict ≡ Clean → (n ≤ run hexdig s) × Scalar (hex_from 0 (take n s))
+hex_clean : (n at : ℕ) (s : List ℕ) → (hex_piece n at s).verdict ≡ None → (n ≤ run hexdig s) × Scalar (hex_from 0 (take n s))
 unfolding hex_piece
 hex_clean n at s =
     let v = hex_from 0 (take n s) in
     let Claim : Piece → Type 0 = IfClean ((n ≤ run hexdig s) × Scalar v) in
-    by_lt Claim (run hexdig s) n (λ too_few clean. absurd (wrong≢clean clean))
+    by_lt Claim (run hexdig s) n (λ too_few clean. absurd (wrong≢none clean))
     λ enough. cond_case Claim (is_scalar v) (λ scalar clean. (enough, true_scalar _ scalar))
-    (λ not_scalar clean. absurd (wrong≢clean clean))
+    (λ not_scalar clean. absurd (wrong≢none clean))
 
-hex_front : (ed : Edition) (b n at : ℕ) (s : List ℕ) → Right ed b (Asks n) → (hex_piece n at s).verdict ≡ Clean
+hex_front : (ed : Edition) (b n at : ℕ) (s : List ℕ) → Right ed b (Asks n) → (hex_piece n at s).verdict ≡ None
     → EscapedAt ed (b ∷ s)
 unfolding Right
 hex_front ed b n at s named clean =
@@ -242,12 +242,12 @@ simple_front : (ed : Edition) (b v : ℕ) (s : List ℕ) → Right ed b (Stands 
 unfolding Right
 simple_front ed b v s escape = record { text = b ∷ []; rest = s; value = v; split = refl; char = escape.0; names = escape.1 }
 
-pub escape_inv : (ed : Edition) (at : ℕ) (s : List ℕ) → (escape_piece ed at s).verdict ≡ Clean → EscapedAt ed s
+pub escape_inv : (ed : Edition) (at : ℕ) (s : List ℕ) → (escape_piece ed at s).verdict ≡ None → EscapedAt ed s
 unfolding escape_piece
-escape_inv ed at [] = λ clean. absurd (wrong≢clean clean)
+escape_inv ed at [] = λ clean. absurd (wrong≢none clean)
 escape_inv ed at (b ∷ s) = by_letter (letter_of ed b) (letter_right ed b)
   where
-    by_letter : (letter : Letter) → Right ed b letter → (escape_by letter at s).verdict ≡ Clean → EscapedAt ed (b ∷ s)
+    by_letter : (letter : Letter) → Right ed b letter → (escape_by letter at s).verdict ≡ None → EscapedAt ed (b ∷ s)
     by_letter (Stands v) right clean = simple_front ed b v s right
     by_letter (Asks n) right clean = hex_front ed b n at s right clean
-    by_letter Neither right clean = absurd (wrong≢clean clean)
+    by_letter Neither right clean = absurd (wrong≢none clean)

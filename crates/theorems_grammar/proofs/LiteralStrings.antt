@@ -10,11 +10,11 @@ use Rattle.text_classes.proofs.Conds.{cond_case}
 use Rattle.text_scalars.specs.Utf8.{Scalar, encode_scalar, encodes, All}
 use Rattle.text_scalars.proofs.EncodeLaws.{encode_1}
 use Rattle.decoder_rules.specs.declared.Encoding.TheVariants.{LiteralString as LiteralText}
-use Rattle.decoder_rules.specs.declared.Verdict.TheVariants.{Clean}
+use Rattle.std.specs.Prelude.{None}
 use Rattle.decoder_rules.specs.Pieces.{Pieces}
 use Rattle.decoder_rules.specs.Bodies.{literal_piece, piece_of}
 use Rattle.decoder_rules.specs.Decoding.{bytes_of, errors_of}
-use Rattle.decoder_rules.proofs.PieceLaws.{wrong≢clean}
+use Rattle.decoder_rules.proofs.PieceLaws.{wrong≢none}
 use Rattle.decoder_rules.proofs.AsciiLaws.{literal_high}
 use Rattle.theorems_grammar.specs.Grammar.{LiteralChars, stop, more, LiteralString, literal_string}
 use Rattle.theorems_grammar.proofs.Encoded.{side, ascii, beyond}
@@ -31,11 +31,11 @@ plain : CopiesRuns pieces literal_char
 unfolding literal_piece run
 plain at b s class = rw class
 
-clean : (at b : ℕ) (r : List ℕ) → (pieces false at (b ∷ r)).verdict ≡ Clean → literal_char b ≡ true
+clean : (at b : ℕ) (r : List ℕ) → (pieces false at (b ∷ r)).verdict ≡ None → literal_char b ≡ true
 unfolding literal_piece
 clean at b r =
     cond_case (IfClean (literal_char b ≡ true)) (literal_char b) (λ test clean-piece. test)
-    (λ test clean-piece. absurd (wrong≢clean clean-piece))
+    (λ test clean-piece. absurd (wrong≢none clean-piece))
 
 char_reads : ReadsChars pieces literal_char
 char_reads = reads_char pieces literal_char plain literal_high

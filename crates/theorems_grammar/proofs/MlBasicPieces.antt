@@ -16,13 +16,13 @@ use Rattle.text_scalars.specs.Utf8.{encode_scalar}
 use Rattle.text_scalars.proofs.EncodeLaws.{parts}
 use Rattle.decoder_rules.specs.declared.Edition.{Edition}
 use Rattle.decoder_rules.specs.declared.Piece.{Piece}
-use Rattle.decoder_rules.specs.declared.Verdict.TheVariants.{Clean}
+use Rattle.std.specs.Prelude.{None}
 use Rattle.decoder_rules.specs.declared.Encoding.TheVariants.{MlBasicString as MlBasicText}
 use Rattle.decoder_rules.specs.Encodings.{mlb_plain}
 use Rattle.decoder_rules.specs.Pieces.{Pieces, copy_piece, drop_piece}
 use Rattle.decoder_rules.specs.Escapes.{escape_piece}
 use Rattle.decoder_rules.specs.Bodies.{skips, escaped_line, escaped_nl, escaped_more, mlb_content, ml_basic_piece, piece_of}
-use Rattle.decoder_rules.proofs.PieceLaws.{wrong≢clean}
+use Rattle.decoder_rules.proofs.PieceLaws.{wrong≢none}
 use Rattle.decoder_rules.proofs.PlaceForms.{escaped_nl_is, escaped_more_is, content_is, ml_basic_piece_is}
 use Rattle.decoder_rules.proofs.AsciiLaws.{mlb_high}
 use Rattle.theorems_grammar.specs.Grammar.{x20, x09, Newline, x0A, x0D-0A, EscapeSeqChar, Ws, MlbUnescaped, WscharNewline, newline}
@@ -99,7 +99,7 @@ ws_taken (b ∷ r) = by_test (wschar b) refl (ws_taken r)
     by_test true is rest = Ws.more (wschar_is b is) rest
     by_test false is rest = Ws.stop
 
-ended : (at : ℕ) (r : List ℕ) → (escaped_nl at r).verdict ≡ Clean → Ended r
+ended : (at : ℕ) (r : List ℕ) → (escaped_nl at r).verdict ≡ None → Ended r
 ended at r =
     rw escaped_nl_is
     (by_eq (IfClean (Ended r)) (get_or r blank_len 0) 0x0A
@@ -109,8 +109,8 @@ ended at r =
     (λ lf clean.
     let split = two_split onward 0x0D 0x0A (omega arith) (omega arith) (zeroth ∙ is) (get_or-drop blank_len r 1 0 ∙ lf) in
     found (0x0D ∷ (0x0A ∷ [])) split.0 x0D-0A split.1)
-    (λ not-lf clean. absurd (wrong≢clean clean)))
-    (λ not-cr clean. absurd (wrong≢clean clean)))
+    (λ not-lf clean. absurd (wrong≢none clean)))
+    (λ not-cr clean. absurd (wrong≢none clean)))
   where
     blank_len : ℕ
     blank_len = run wschar r
@@ -233,7 +233,7 @@ module _ (ed : Edition) where
     is_escape : b ≡ 0x5C → EscapedAt ed r → Content b r
     is_ended : b ≡ 0x5C → Ended r → Content b r
 
-  pub content_inv : (at b : ℕ) (r : List ℕ) → (pieces false at (b ∷ r)).verdict ≡ Clean → Content b r
+  pub content_inv : (at b : ℕ) (r : List ℕ) → (pieces false at (b ∷ r)).verdict ≡ None → Content b r
   content_inv at b r =
       let Claim : Piece → Type 0 = IfClean (Content b r) in
       rw (ml_basic_piece_is, content_is)
@@ -244,11 +244,11 @@ module _ (ed : Edition) where
       λ _. by_eq Claim b 0x0D
       (λ is. by_eq Claim (get_or r 0 0) 0x0A
       (λ lf clean. let split = first_splits r 0x0A (omega arith) lf in is_crlf split.0 is split.1)
-      (λ not-lf clean. absurd (wrong≢clean clean)))
-      (λ not-cr clean. absurd (wrong≢clean clean)))
+      (λ not-lf clean. absurd (wrong≢none clean)))
+      (λ not-cr clean. absurd (wrong≢none clean)))
 
   -- within a line-ending escape
-  pub skip_inv : (at b : ℕ) (r : List ℕ) → (pieces true at (b ∷ r)).verdict ≡ Clean → Skipped b r
+  pub skip_inv : (at b : ℕ) (r : List ℕ) → (pieces true at (b ∷ r)).verdict ≡ None → Skipped b r
   skip_inv at b r =
       let Claim : Piece → Type 0 = IfClean (Skipped b r) in
       rw (ml_basic_piece_is, escaped_more_is)
@@ -256,6 +256,6 @@ module _ (ed : Edition) where
       (λ test. by_eq Claim b 0x0D
       (λ is. by_eq Claim (get_or r 0 0) 0x0A
       (λ lf clean. let split = first_splits r 0x0A (omega arith) lf in is_two split.0 is split.1)
-      (λ not-lf clean. absurd (wrong≢clean clean)))
+      (λ not-lf clean. absurd (wrong≢none clean)))
       (λ not-cr clean. is_one (skip_is b test not-cr)))
       (λ out clean. is_out out))

@@ -16,14 +16,14 @@ use Rattle.text_scalars.proofs.EncodeLaws.{encode_1}
 use Rattle.text_scalars.proofs.ReadLaws.{encodes_append}
 use Rattle.decoder_rules.specs.declared.Encoding.TheVariants.{MlLiteralString as MlLiteralText}
 use Rattle.decoder_rules.specs.Encodings.{mll_plain}
-use Rattle.decoder_rules.specs.declared.Verdict.TheVariants.{Clean}
+use Rattle.std.specs.Prelude.{None}
 use Rattle.decoder_rules.specs.Pieces.{Pieces, copy_piece}
 use Rattle.decoder_rules.specs.Bodies.{ml_literal_piece, piece_of}
 use Rattle.decoder_rules.specs.Decoding.{bytes_of, errors_of}
-use Rattle.decoder_rules.proofs.PieceLaws.{wrong≢clean}
+use Rattle.decoder_rules.proofs.PieceLaws.{wrong≢none}
 use Rattle.decoder_rules.proofs.PlaceForms.{ml_literal_piece_is}
 use Rattle.decoder_rules.proofs.AsciiLaws.{literal_high}
-use Rattle.theorems_grammar.specs.Grammar.{x0A, x0D-0A, MllChar, MllContent, character, newline, MllContents, MllContents1, some_content, MllQuotes, one, two, MllGroups, OptMllQuotes, absent, present, MlLiteralBody, ml_literal_body, MlLiteralString, ml_literal_string}
+use Rattle.theorems_grammar.specs.Grammar.{x0A, x0D-0A, MllChar, MllContent, character, newline, MllContents, MllContents1, some_content, MllQuotes, one, two, MllGroups, OptMllQuotes, MlLiteralBody, ml_literal_body, MlLiteralString, ml_literal_string}
 use Rattle.theorems_tokens.proofs.ByLength.{by_length}
 use Rattle.theorems_grammar.specs.Prose.{MlLiteralObeys}
 use Rattle.theorems_grammar.specs.Strings.{Apart}
@@ -67,15 +67,15 @@ mark_plain = refl
 abbrev Good : ℕ → List ℕ → Type 0
 Good b r = (mll_plain b ≡ true) ⊎ ((b ≡ 0x0D) × (s : List ℕ) × (r ≡ 0x0A ∷ s))
 
-clean : (at b : ℕ) (r : List ℕ) → (pieces false at (b ∷ r)).verdict ≡ Clean → Good b r
+clean : (at b : ℕ) (r : List ℕ) → (pieces false at (b ∷ r)).verdict ≡ None → Good b r
 clean at b r =
     rw ml_literal_piece_is
     (cond_case (IfClean (Good b r)) (mll_plain b) (λ test clean-piece. inl test)
     λ test. by_eq (IfClean (Good b r)) b 0x0D
     (λ is-cr. by_eq (IfClean (Good b r)) (get_or r 0 0) 0x0A
     (λ lf clean-piece. let split = first_splits r 0x0A (omega arith) lf in inr (is-cr, split.0, split.1))
-    (λ lf clean-piece. absurd (wrong≢clean clean-piece)))
-    (λ is-cr clean-piece. absurd (wrong≢clean clean-piece)))
+    (λ lf clean-piece. absurd (wrong≢none clean-piece)))
+    (λ is-cr clean-piece. absurd (wrong≢none clean-piece)))
 
 char_reads : ReadsChars pieces mll_plain
 char_reads = reads_char pieces mll_plain plain plain_high

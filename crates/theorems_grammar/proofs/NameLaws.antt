@@ -4,7 +4,7 @@ use mathlib.Core.List.{List, ◌++◌}
 use Rattle.text_scalars.specs.Utf8.{Scalar, All}
 use Rattle.text_scalars.proofs.CutLaws.{all_parts}
 use Rattle.decoder_rules.specs.declared.Edition.{Edition}
-use Rattle.theorems_grammar.specs.Grammar.{EscapeSeqChar, x22, x5C, x62, x66, x6E, x72, x74, x75, x55, x65, x78, Escaped, escaped, BasicChar, BasicChars, BasicString, basic_string, MlbChar, MlbContent, mlb_char, newline, escaped_nl, MlbContents, MlbContents1, some_content, MlbGroups, ml_basic_body, MlBasicString, ml_basic_string}
+use Rattle.theorems_grammar.specs.Grammar.{EscapeSeqChar, x22, x5C, x62, x66, x6E, x72, x74, x75, x55, x65, x78, Escaped, escaped, BasicChar, BasicChars, BasicString, basic_string, MlbChar, MlbContent, mlb_char, escaped_nl, MlbContents, MlbContents1, MlbGroups, ml_basic_body, MlBasicString, ml_basic_string}
 use Rattle.theorems_grammar.specs.Scalars.{Names, EscapedNames, CharNames, CharsName, BasicNames, MlbCharNames, ContentNames, ContentsName, Contents1Name, GroupsName, MlBasicNames}
 
 escape_names : {ed : Edition} {t : List ℕ} {v : ℕ} (e : EscapeSeqChar ed t v) → Scalar v → Names e

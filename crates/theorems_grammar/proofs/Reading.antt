@@ -10,7 +10,7 @@ use lib.Seq.{take_at, drop_at}
 use Rattle.text_classes.specs.Runs.{run}
 use Rattle.text_scalars.specs.Utf8.{encode_scalar, encodes, All}
 use Rattle.decoder_rules.specs.declared.Piece.{Piece}
-use Rattle.decoder_rules.specs.declared.Verdict.TheVariants.{Clean}
+use Rattle.std.specs.Prelude.{None}
 use Rattle.decoder_rules.specs.Pieces.{gives, notes, notes_at, Pieces, collect, copy_piece, char_piece, drop_piece}
 use Rattle.decoder_rules.proofs.PieceLaws.{gives_copy, gives_char, gives_nothing, collect_step, notes_none, notes_clean}
 use Rattle.theorems_grammar.specs.Grammar.{Newline}
@@ -18,7 +18,7 @@ use Rattle.theorems_grammar.proofs.Encoded.{char_bytes}
 
 -- X holds if the piece p has no error
 abbrev pub IfClean : Type 0 → Piece → Type 0
-IfClean X p = p.verdict ≡ Clean → X
+IfClean X p = p.verdict ≡ None → X
 
 -- a byte of the class f and the run of that class after it are one piece, which copies them
 abbrev pub CopiesRuns : Pieces → (ℕ → Bool) → Type 0
@@ -52,7 +52,7 @@ module _ (pieces : Pieces) where
 
   -- the first piece, which takes t, has no error and gives o
   reads_piece : (d : Bool) (at : ℕ) (t s o : List ℕ) (p : Piece) → pieces d at (t ++ s) ≡ p → 0 < length t → p.take ≡ length t
-      → p.verdict ≡ Clean → gives p (t ++ s) ≡ o → Reads d at (t ++ s) o p.dropping s
+      → p.verdict ≡ None → gives p (t ++ s) ≡ o → Reads d at (t ++ s) o p.dropping s
   reads_piece d at t s o p piece some-text taken clean given =
       let some : 0 < length (t ++ s) = omega (arith, length-append t s) in
       let takes : 0 < (pieces d at (t ++ s)).take = rw piece (omega arith) in
@@ -96,7 +96,7 @@ module _ (pieces : Pieces) where
   ReadsNewlines = (n : List ℕ) → Newline n → (at : ℕ) (s : List ℕ) → Reads false at (n ++ s) n false s
 
   -- the first piece of a body that is read without error has no error
-  pub first_clean : (d : Bool) (at b : ℕ) (r : List ℕ) → ErrorFree d at (b ∷ r) → (pieces d at (b ∷ r)).verdict ≡ Clean
+  pub first_clean : (d : Bool) (at b : ℕ) (r : List ℕ) → ErrorFree d at (b ∷ r) → (pieces d at (b ∷ r)).verdict ≡ None
   first_clean d at b r clean =
       notes_clean (pieces d at (b ∷ r)) (ap length ((append-eq-nil_iff {p = notes (pieces d at (b ∷ r))}).0 clean).0)
 

@@ -6,8 +6,8 @@ use native.Mathlib.Omega.{arith}
 use Rattle.text_scalars.specs.Utf8.{Scalar, All}
 use Rattle.text_scalars.proofs.CutLaws.{all_append}
 use Rattle.decoder_rules.specs.declared.Edition.{Edition}
-use Rattle.theorems_grammar.specs.Grammar.{Wschar, Ws, Newline, OptNewline, NonAscii, x80-D7FF, xE000-10FFFF, BasicUnescaped, HexDig, digit, upper, lower, HexDigits, EscapeSeqChar, x22, x5C, x62, x66, x6E, x72, x74, x75, x55, x65, x78, Escaped, escaped, BasicChar, BasicChars, BasicString, basic_string, MlbUnescaped, MlbChar, WscharNewline, WscharNewlines, MlbEscapedNl, mlb_escaped_nl, MlbContent, mlb_char, escaped_nl, MlbContents, MlbContents1, MlbQuotes, MlbGroups, OptMlbQuotes, MlBasicBody, ml_basic_body, MlBasicString, ml_basic_string, LiteralChar, LiteralChars, LiteralString, literal_string, MllChar, MllContent, character, MllContents, MllContents1, MllQuotes, MllGroups, OptMllQuotes, MlLiteralBody, ml_literal_body, MlLiteralString, ml_literal_string}
-use Rattle.theorems_grammar.specs.Strings.{StringKind, literal, basic, ml_literal, ml_basic}
+use Rattle.theorems_grammar.specs.Grammar.{Wschar, Ws, Newline, OptNewline, NonAscii, x80-D7FF, xE000-10FFFF, BasicUnescaped, HexDig, digit, upper, lower, HexDigits, EscapeSeqChar, x22, x5C, x62, x66, x6E, x72, x74, x75, x55, x65, x78, Escaped, escaped, BasicChar, BasicChars, BasicString, basic_string, MlbChar, WscharNewline, WscharNewlines, MlbEscapedNl, mlb_escaped_nl, MlbContent, mlb_char, escaped_nl, MlbContents, MlbContents1, MlbQuotes, MlbGroups, OptMlbQuotes, ml_basic_body, MlBasicString, ml_basic_string, LiteralChar, LiteralChars, LiteralString, literal_string, MllContent, character, MllContents, MllContents1, MllQuotes, MllGroups, OptMllQuotes, ml_literal_body, MlLiteralString, ml_literal_string}
+use Rattle.theorems_grammar.specs.Strings.{literal, basic, ml_literal, ml_basic}
 use Rattle.theorems_grammar.specs.ScalarTexts.{NonAsciiIs, DerivedScalar}
 use Rattle.theorems_grammar.proofs.ClassLaws.{non_ascii_of, non_ascii_high, mll_literal, mlb_basic}
 

@@ -9,7 +9,7 @@ use native.Mathlib.Omega.{arith}
 use lib.ListN.{length, take, drop, get_or, length-append, take-append-drop, length-drop}
 use lib.Seq.{take_at, drop_at, drop-drop}
 use lib.Dec.{eqb, leb}
-use borrow.Author.Tests.{eqb-true, eq-eqb, ne_eqb, leb-true, le-leb}
+use borrow.Author.Tests.{eqb-true, ne_eqb, leb-true}
 use Rattle.text_scalars.specs.Utf8.{Scalar, encodes, All}
 use Rattle.text_scalars.proofs.EncodeLaws.{parts, encode_1}
 use Rattle.text_scalars.proofs.ReadLaws.{encodes_append}

@@ -5,7 +5,7 @@ use Rattle.std.specs.Prelude.{ℕ}
 use mathlib.Core.{Path.◌≡◌, Bool.Bool, Bool.false, Bool.◌&&◌, Bool.◌||◌, List.List, List.[], List.◌∷◌, List.◌++◌}
 use lib.{Dec.eqb}
 use Rattle.decoder_rules.specs.declared.{Edition.Edition}
-use Rattle.theorems_grammar.specs.Grammar.{OptNewline, MlLiteralString, ml_literal_string, MlbContent, mlb_char, newline, escaped_nl, MlbContents, MlbContents1, some_content, MlbGroups, MlBasicBody, ml_basic_body, MlBasicString, ml_basic_string}
+use Rattle.theorems_grammar.specs.Grammar.{OptNewline, MlLiteralString, ml_literal_string, MlbContent, mlb_char, escaped_nl, MlbContents, MlbContents1, MlbGroups, MlBasicBody, ml_basic_body, MlBasicString, ml_basic_string}
 
 -- a newline stands at the front
 unfoldable pub starts_newline : List ℕ → Bool

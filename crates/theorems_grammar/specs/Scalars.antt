@@ -5,7 +5,7 @@ use Rattle.std.specs.Prelude.{ℕ}
 use mathlib.Core.{Logic.◌↔◌, List.List}
 use Rattle.text_scalars.specs.{Utf8.Scalar, Utf8.All}
 use Rattle.decoder_rules.specs.declared.{Edition.Edition}
-use Rattle.theorems_grammar.specs.Grammar.{EscapeSeqChar, x22, x5C, x62, x66, x6E, x72, x74, x75, x55, x65, x78, Escaped, escaped, BasicChar, BasicChars, BasicString, basic_string, MlbChar, MlbContent, mlb_char, newline, escaped_nl, MlbContents, MlbContents1, some_content, MlbGroups, MlBasicBody, ml_basic_body, MlBasicString, ml_basic_string}
+use Rattle.theorems_grammar.specs.Grammar.{EscapeSeqChar, x22, x5C, x62, x66, x6E, x72, x74, x75, x55, x65, x78, Escaped, escaped, BasicChar, BasicChars, BasicString, basic_string, MlbChar, MlbContent, mlb_char, escaped_nl, MlbContents, MlbContents1, MlbGroups, MlBasicBody, ml_basic_body, MlBasicString, ml_basic_string}
 
 -- ---- in an escape
 

@@ -1,6 +1,7 @@
 -- What follows from the law, as specs/Joined.antt states it: for the call `lex`, for the text of each token and what it decodes
 -- to, and for positions.
 use Prim.Native.Nat.{ℕ, ◌+◌, ◌-◌, ◌≤◌}
+use Rattle.std.specs.Prelude.{Ok}
 use mathlib.Core.Path.{◌≡◌, refl, sym, ap, ◌∙◌, subst}
 use mathlib.Core.Logic.{⊎_map}
 use mathlib.Core.Bool.{cond}
@@ -16,7 +17,6 @@ use Rattle.text_classes.specs.Classes.{continuation}
 use Rattle.text_refusals.specs.Refusals.{limit}
 use Rattle.text_scalars.specs.Utf8.{Utf8}
 use Rattle.text.specs.CheckMeans.{check_of}
-use Rattle.text.specs.declared.utf8.Utf8Check.TheVariants.{Valid}
 use Rattle.text_scalars.proofs.ReadLaws.{utf8_iff}
 use Rattle.text.proofs.AnswerLaws.{answer_valid}
 use Rattle.text_scalars.proofs.CutLaws.{utf8_append}
@@ -25,11 +25,9 @@ use Rattle.lexer_token.specs.Records.{record_of, text_of}
 use Rattle.lexer.specs.Lines.{line_of}
 use Rattle.lexer.specs.Tokens.{start_of, tokens_of}
 use Rattle.lexer.specs.Whole.{records_of, token_count, lex_answer, lex_memory}
-use Rattle.lexer.specs.declared.Lexed.TheVariants.{Tokens}
 use Rattle.lexer.proofs.TokenLaws.{start_fits, token_fits_at}
 use Rattle.lexer.proofs.WholeLaws.{lex_answered}
 use Rattle.lexer_place.specs.Positions.{column_behind, column_of, position_answer}
-use Rattle.lexer_place.specs.declared.Position.TheVariants.{At}
 use Rattle.theorems_tokens.proofs.Lexing.{by_rule}
 use Rattle.theorems_joined.specs.Joined.{Joins, moved_by, moved_record, count_of_both, CountOfBoth, Lexes, ReadsAs, Reviews, Places}
 use Rattle.theorems_joined.proofs.ListLaws.{last_drop, length_but_last, take_but_last}
@@ -37,7 +35,7 @@ use Rattle.theorems_joined.proofs.Joined.{feeds_append, same_start, some_lexed, 
 
 -- ---- the call `lex`
 
-valid : (doc : List ℕ) → Utf8 doc → length doc ≤ limit → check_of doc ≡ Valid
+valid : (doc : List ℕ) → Utf8 doc → length doc ≤ limit → check_of doc ≡ Ok tt
 valid doc u l = sym (answer_valid doc l ((utf8_iff doc).1 u))
 
 module _ (head tail : List ℕ) (joins : Joins head tail) where
@@ -61,7 +59,7 @@ count_of_both_lem = count_is
 -- a call that lexes a document into records that suffice
 module _ (doc : List ℕ) (old : List (List ℕ)) (u : Utf8 doc) (small : length doc ≤ limit)
     (room : token_count doc ≤ length old) where
-  answer_is : lex_answer doc (length old) ≡ Tokens (token_count doc)
+  answer_is : lex_answer doc (length old) ≡ Ok (token_count doc)
   answer_is = sym (lex_answered doc old (valid doc u small) room).0
 
   memory_is : lex_memory doc old ≡ map record_of (tokens_of doc) ++ drop (token_count doc) old
@@ -137,7 +135,7 @@ reviewed head tail joins = record {
 -- ---- positions
 
 module _ (doc : List ℕ) (offset : ℕ) (small : length doc ≤ limit) (within : offset ≤ length doc) where
-  position_is : position_answer doc offset ≡ At (line_of doc offset) (column_of doc offset)
+  position_is : position_answer doc offset ≡ Ok (record { line = line_of doc offset; column = column_of doc offset })
   unfolding position_answer
   position_is = rw (le-ltb limit (length doc) small, le-ltb (length doc) offset within)
 

@@ -3,7 +3,7 @@
 -- parts. Each is proved under the name that its comment gives: the law for two parts and more in proofs/Joined.antt, the pairs
 -- that break it in proofs/Needed.antt, the others in proofs/Corollaries.antt.
 -- The head's lines are its LFs: a CR alone is a Newline token, and ends no line.
-use Rattle.std.specs.Prelude.{ℕ, ◌+◌, ◌-◌, ◌≤◌, ◌≡◌, ◌⊎◌, false, length, get_or, take, drop}
+use Rattle.std.specs.Prelude.{ℕ, ◌+◌, ◌-◌, ◌≤◌, ◌≡◌, ◌⊎◌, false, length, get_or, take, drop, Ok, Result}
 use Rattle.std.proofs.Math.Option.{some}
 use mathlib.Core.List.{List, [], ◌∷◌, ◌++◌, map, flatten, head?, get_last?, drop_last, Memᴰ}
 use Rattle.text_refusals.specs.Refusals.{limit}
@@ -16,12 +16,12 @@ use Rattle.lexer_token.specs.Records.{token_of, text_of}
 use Rattle.lexer.specs.Lines.{line_feeds, line_of}
 use Rattle.lexer.specs.Tokens.{eof_at, has_bom, tokens_of}
 use Rattle.lexer.specs.Whole.{token_count, lex_answer, lex_memory}
-use Rattle.lexer.specs.declared.Lexed.TheVariants.{Tokens}
 use Rattle.lexer_place.specs.Positions.{column_of, position_answer}
 use Rattle.lexer_place.specs.Told.{position_line}
 use Rattle.decoder_rules.specs.Encodings.{choice_by}
 use Rattle.decoder_rules.specs.Decoding.{bytes_by, errors_by, decode_in}
 use Rattle.decoder_rules.specs.declared.Decoded.{Decoded}
+use Rattle.text_refusals.specs.declared.Refusal.{Refusal}
 
 -- ---- the law
 
@@ -117,9 +117,9 @@ count_of_both head tail = token_count head - 1 + token_count tail
 
 -- what the calls answer and leave that lex the head, the tail and the joined document into records of their own
 pub record LexedBoth (head tail : List ℕ) (headRecords tailRecords records : List (List ℕ)) : Type 0 where
-  pub head_answer : lex_answer head (length headRecords) ≡ Tokens (token_count head)
-  pub tail_answer : lex_answer tail (length tailRecords) ≡ Tokens (token_count tail)
-  pub answer : lex_answer (head ++ tail) (length records) ≡ Tokens (count_of_both head tail)
+  pub head_answer : lex_answer head (length headRecords) ≡ Ok (token_count head)
+  pub tail_answer : lex_answer tail (length tailRecords) ≡ Ok (token_count tail)
+  pub answer : lex_answer (head ++ tail) (length records) ≡ Ok (count_of_both head tail)
   -- the head's records but the last, then the tail's, moved on, and the old ones after them
   pub memory : lex_memory (head ++ tail) records
       ≡ take (token_count head - 1) (lex_memory head headRecords)
@@ -148,7 +148,7 @@ bytes_in edition doc t = bytes_by (choice_by edition (kind_number t.kind)) (text
 abbrev pub errors_in : ℕ → List ℕ → Token → List (List ℕ)
 errors_in edition doc t = errors_by (choice_by edition (kind_number t.kind)) (text_of doc t)
 
-abbrev pub answer_in : ℕ → List ℕ → Token → ℕ → ℕ → Decoded
+abbrev pub answer_in : ℕ → List ℕ → Token → ℕ → ℕ → Result Decoded Refusal
 answer_in edition doc t o e = decode_in (text_of doc t) edition (kind_number t.kind) o e
 
 -- the token v of a document has the kind and the text that t has in a part of it, and decodes to the same in each edition

@@ -27,15 +27,15 @@ use Rattle.lexer.specs.Tokens.{has_bom, start_of, tokens_of}
 use Rattle.lexer.proofs.TokenLaws.{start_fits}
 use Rattle.decoder_rules.specs.declared.Edition.{Edition}
 use Rattle.decoder_rules.specs.declared.Edition.TheVariants.{Toml10, Toml11}
+use Rattle.decoder_rules.specs.declared.Encoding.{Encoding}
 use Rattle.decoder_rules.specs.declared.Encoding.TheVariants.{BasicString as BasicText}
-use Rattle.decoder_rules.specs.declared.Choice.{Choice}
-use Rattle.decoder_rules.specs.declared.Choice.TheVariants.{Known, Unknown}
+use Rattle.std.specs.Prelude.{Result, Ok, Err}
+use Rattle.text_refusals.specs.declared.Refusal.{Refusal}
 use Rattle.decoder_rules.specs.Encodings.{edition_number, choice_in, choice_by, is_edition}
 use Rattle.decoder_rules.specs.Decoding.{bytes_by, errors_by}
 use Rattle.decoder_rules.proofs.Utf8Laws.{decoded_utf8}
 use Rattle.theorems_tokens.proofs.Lexing.{token_cut, start_cut, uncut}
 use Rattle.theorems_grammar.proofs.Lexing.{IsToken}
-use Rattle.built_mending.specs.declared.Mended.TheVariants.{Written}
 use Rattle.built_mending.specs.Mending.{replacement, Part, part_of, read_as, reported, decoded, is_broken, gap, ends_quoted, mend, mended, record_at, list, listed, fit_both, mend_in}
 use Rattle.built_mending.proofs.BoundLaws.{mended_most, listed_few}
 use Rattle.built_mending.proofs.ChoiceLaws.{none_is}
@@ -149,9 +149,9 @@ cut_token k text rest is u =
     let back : drop (token_len (text ++ rest)) (text ++ rest) ≡ rest = ap (λ (n : ℕ). drop n (text ++ rest)) is.1 ∙ drop-append_seam text rest in
     (subst Utf8 front parts.0, subst Utf8 back parts.1)
 
-choice_utf8 : (choice : Choice) (t : List ℕ) → Utf8 t → Utf8 (bytes_by choice t)
-choice_utf8 (Known e) t u = decoded_utf8 e t u
-choice_utf8 (Unknown r) t u = ([], tt, refl)
+choice_utf8 : (choice : Result Encoding Refusal) (t : List ℕ) → Utf8 t → Utf8 (bytes_by choice t)
+choice_utf8 (Ok e) t u = decoded_utf8 e t u
+choice_utf8 (Err r) t u = ([], tt, refl)
 
 gap_utf8 : (quoted : Bool) → Utf8 (gap quoted)
 gap_utf8 true = one_utf8 0x20 (omega arith)
@@ -183,7 +183,7 @@ start_utf8 doc =
 
 -- ---- no string of the result is broken
 
-known_basic : (ed : Edition) → choice_by (edition_number ed) 34 ≡ Known (BasicText ed)
+known_basic : (ed : Edition) → choice_by (edition_number ed) 34 ≡ Ok (BasicText ed)
 unfolding choice_by choice_in
 known_basic Toml10 = refl
 known_basic Toml11 = refl
@@ -197,10 +197,10 @@ module _ (ed : Edition) where
   n = edition_number ed
 
   string_quiet : (value : List ℕ) → Utf8 value → reported n (string_part value) ≡ []
-  string_quiet value u = ap (λ (c : Choice). errors_by c (replacement value)) (known_basic ed) ∙ (string_decodes ed value u).0
+  string_quiet value u = ap (λ (c : Result Encoding Refusal). errors_by c (replacement value)) (known_basic ed) ∙ (string_decodes ed value u).0
 
   string_value : (value : List ℕ) → Utf8 value → decoded n (string_part value) ≡ value
-  string_value value u = ap (λ (c : Choice). bytes_by c (replacement value)) (known_basic ed) ∙ (string_decodes ed value u).1
+  string_value value u = ap (λ (c : Result Encoding Refusal). bytes_by c (replacement value)) (known_basic ed) ∙ (string_decodes ed value u).1
 
   -- all of some parts report nothing
   abbrev Quiet : List Part → Type 0
@@ -260,7 +260,7 @@ module _ (ed : Edition) where
 
   answered : (doc : List ℕ) → Utf8 doc → length doc ≤ limit → (text : List ℕ) (records : List (List ℕ)) → mended n doc ≡ text
       → listed n doc ≡ records → length text ≤ limit → (o m : ℕ) → length text ≤ o → length records ≤ m
-      → mend_in doc n o m ≡ Written (length text) (length records)
+      → mend_in doc n o m ≡ Ok (record { bytes = length text; records = length records })
   unfolding fit_both
   answered doc u small text records is are within o m fits enough =
       let valid = answer_valid doc small ((utf8_iff doc).1 u) in

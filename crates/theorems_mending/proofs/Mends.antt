@@ -16,7 +16,7 @@ use Rattle.lexer_token.specs.declared.TokenKind.{TokenKind}
 use Rattle.lexer_token.specs.declared.TokenKind.TheVariants.{Whitespace, BasicString, Eof}
 use Rattle.lexer.specs.Tokens.{has_bom, start_of, tokens_of}
 use Rattle.decoder_rules.specs.declared.Encoding.{Encoding}
-use Rattle.decoder_rules.specs.declared.Choice.TheVariants.{Known}
+use Rattle.std.specs.Prelude.{Ok}
 use Rattle.decoder_rules.specs.Decoding.{bytes_of, errors_of, bytes_by, errors_by}
 use Rattle.theorems_grammar.proofs.Lexing.{IsToken}
 use Rattle.built_mending.specs.Mending.{replacement, Part, part_of, read_as, reported, decoded, is_broken, gap, becomes, ends_quoted, mend, mended}

@@ -19,15 +19,14 @@ use Rattle.lexer_scans.specs.Extents.{line_tail}
 use Rattle.lexer.specs.Table.{kind_by, kind_of, extent, token_len}
 use Rattle.lexer.proofs.KindLaws.{by_kind}
 use Rattle.decoder_rules.specs.declared.Encoding.{Encoding}
-use Rattle.decoder_rules.specs.declared.Choice.{Choice}
-use Rattle.decoder_rules.specs.declared.Choice.TheVariants.{Known, Unknown}
+use Rattle.std.specs.Prelude.{Result, Ok, Err}
+use Rattle.text_refusals.specs.declared.Refusal.{Refusal}
 use Rattle.decoder_rules.specs.Decoding.{errors_by}
 use Rattle.text_scalars.specs.Utf8.{All}
 use Rattle.theorems_tokens.proofs.LocalLaws.{token_local}
 use Rattle.theorems_grammar.proofs.Lexing.{IsToken}
 use Rattle.theorems_grammar.proofs.Passing.{InLine, in_ml, line_pass, line_hidden, line_close, pass_all, triple_no, triple_two}
 use Rattle.built_writing.specs.Writing.{hex_digit, spelling}
-use Rattle.built_writing.specs.declared.spell.Spelling.TheVariants.{Short, Coded}
 use Rattle.built_mending.specs.Mending.{slashed, coded, respell, respelt, replacement, Part, read_as, reported, decoded, is_broken, gap, becomes, ends_quoted, mend}
 use Rattle.built_mending.proofs.ChoiceLaws.{none_is, Reads, reads_of}
 use Rattle.built_mending.proofs.SpellLaws.{slashed_is, coded_is, own_is}
@@ -36,9 +35,9 @@ use Rattle.theorems_mending.proofs.Followed.{Quote, Instead, followed}
 
 -- ---- a token that is broken is a string, and begins with a quote mark
 
-pub broken_known : (choice : Choice) (t : List ℕ) → is_broken (errors_by choice t) ≡ true → (e : Encoding) × (choice ≡ Known e)
-broken_known (Known e) t h = (e, refl)
-broken_known (Unknown r) t h = not_both h refl
+pub broken_known : (choice : Result Encoding Refusal) (t : List ℕ) → is_broken (errors_by choice t) ≡ true → (e : Encoding) × (choice ≡ Ok e)
+broken_known (Ok e) t h = (e, refl)
+broken_known (Err r) t h = not_both h refl
 
 begins_quoted : (f : ℕ) (s : List ℕ) (k : TokenKind) (e : Encoding) → kind_of (f ∷ s) ≡ k → Reads k e → Quote f
 unfolding kind_of

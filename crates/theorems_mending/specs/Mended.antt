@@ -17,7 +17,7 @@
 -- The names: `mended`, `listed`, `mend_in`, `mended_after`, `part_of`, `reported`, `decoded`, `replacement` (crate built_mending)
 -- are the text, the records, the answer and the memory of the call, a token's kind and bytes, the errors and the bytes that it
 -- decodes to, and a basic string of given bytes; `tokens_of` (lexer) is whole lexing.
-use Rattle.std.specs.Prelude.{ℕ, ◌*◌, ◌≤◌}
+use Rattle.std.specs.Prelude.{ℕ, ◌*◌, ◌≤◌, Ok}
 use mathlib.Core.{Path.◌≡◌, Bool.Bool, Bool.true, Bool.false, Bool.cond, List.List, List.[], List.◌∷◌, List.◌++◌, List.map, List.Memᴰ}
 use lib.{ListN.length, ListN.drop}
 use Rattle.text_refusals.specs.{Refusals.limit}
@@ -27,7 +27,6 @@ use Rattle.lexer.specs.{Tokens.tokens_of}
 use Rattle.decoder_rules.specs.{Encodings.edition_number}
 use Rattle.decoder_rules.specs.declared.{Edition.Edition}
 use Rattle.built_mending.specs.{Mending.Part, Mending.part_of, Mending.replacement, Mending.reported, Mending.decoded, Mending.is_broken, Mending.becomes, Mending.ends_quoted, Mending.mended, Mending.listed, Mending.mend_in, Mending.mended_after}
-use Rattle.built_mending.specs.declared.{Mended.TheVariants.Written}
 
 -- ---- the tokens of the result
 
@@ -81,10 +80,10 @@ pub record PutsRight (n : ℕ) (doc : List ℕ) : Type 0 where
   -- the call answers and leaves just that wherever document, text and records fit
   pub answered : length doc ≤ limit → length (mended n doc) ≤ limit → (out : List ℕ) (recs : List (List ℕ))
       → length (mended n doc) ≤ length out → length (listed n doc) ≤ length recs
-      → mend_in doc n (length out) (length recs) ≡ Written (length (mended n doc)) (length (listed n doc))
+      → mend_in doc n (length out) (length recs) ≡ Ok (record { bytes = length (mended n doc); records = length (listed n doc) })
   -- and of its own result it then answers the same text, and no record
   pub answered_again : length (mended n doc) ≤ limit → (out : List ℕ) (recs : List (List ℕ)) → length (mended n doc) ≤ length out
-      → mend_in (mended n doc) n (length out) (length recs) ≡ Written (length (mended n doc)) 0
+      → mend_in (mended n doc) n (length out) (length recs) ≡ Ok (record { bytes = length (mended n doc); records = 0 })
 
 abbrev pub AllRight : Type 0
 AllRight = (ed : Edition) (doc : List ℕ) → Utf8 doc → PutsRight (edition_number ed) doc

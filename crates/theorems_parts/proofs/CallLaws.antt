@@ -2,25 +2,25 @@
 -- function's own contract, what a caller learns of its `ensures`; and what stands in the lent records afterwards is told too.
 use Prim.Native.Nat.{ℕ, ◌≤◌}
 use mathlib.Core.Path.{◌≡◌, refl, sym, ap, ◌∙◌}
-use mathlib.Core.List.{List, [], ◌∷◌, ◌++◌, map}
+use mathlib.Core.List.{List, [], ◌++◌, map}
 use lib.ListN.{length, take, drop}
+use Rattle.std.specs.Prelude.{Result, Ok, Err}
 use lib.Seq.{take_at}
 use Rattle.text_refusals.specs.Refusals.{limit}
+use Rattle.text_refusals.specs.declared.Refusal.{Refusal}
 use Rattle.text_refusals.specs.declared.Refusal.TheVariants.{FewTokens}
 use Rattle.text_scalars.specs.Utf8.{Utf8}
 use Rattle.lexer_token.specs.declared.Token.{Token}
 use Rattle.lexer_token.specs.Records.{record_of}
 use Rattle.lexer.specs.Tokens.{tokens_of}
-use Rattle.lexer.specs.declared.Lexed.{Lexed}
-use Rattle.lexer.specs.declared.Lexed.TheVariants.{Tokens, Refused}
 use Rattle.built_parts.specs.declared.Parts.{Parts}
 use Rattle.built_parts.specs.declared.Fed.{Fed}
 use Rattle.built_lexing.specs.States.{given_by, last_tokens}
 use Rattle.built_parts.specs.Feeding.{no_parts, fed, stored, feed_of, close_of, feed_memory, close_memory}
 use Rattle.built_lexing.proofs.PartLaws.{map_join, records_length}
 use Rattle.built_parts.proofs as promised
-use Rattle.theorems_parts.specs.Decided.{FirstOf, Decided}
-use Rattle.theorems_parts.specs.Calls.{Calls, begun, answered, refused, WholeLexing}
+use Rattle.theorems_parts.specs.Decided.{Decided}
+use Rattle.theorems_parts.specs.Calls.{Calls, begun, answered, refused}
 use Rattle.theorems_parts.proofs.Cases.{given_is, last_is}
 use Rattle.theorems_parts.proofs.Calling.{calls_decided, calls_first, calls_closed}
 
@@ -62,29 +62,29 @@ closes_is p old f new (κs, a, r, e, (l, (i, (k, (m, n))))) =
 -- ---- the records
 
 -- the tokens that an answered call gave stand at the front of the records
-front : (ts : List Token) (n : ℕ) (a : Lexed) (old new : List (List ℕ)) → a ≡ Tokens n → length ts ≡ n → new ≡ stored a ts old → take n new ≡ map record_of ts
+front : (ts : List Token) (n : ℕ) (a : Result ℕ Refusal) (old new : List (List ℕ)) → a ≡ Ok n → length ts ≡ n → new ≡ stored a ts old → take n new ≡ map record_of ts
 front ts n a old new e c w =
-    let is : new ≡ map record_of ts ++ drop (length ts) old = w ∙ ap (λ (x : Lexed). stored x ts old) e in
+    let is : new ≡ map record_of ts ++ drop (length ts) old = w ∙ ap (λ (x : Result ℕ Refusal). stored x ts old) e in
     rw is (take_at (map record_of ts) (drop (length ts) old) n (records_length ts ∙ c))
 
-module _ (p : Parts) (old new : List (List ℕ)) (f : Fed) (n : ℕ) (said : f.answer ≡ Tokens n) where
-  is_fed : f ≡ fed (Tokens n) f.parts
-  is_fed = ap (λ (x : Lexed). fed x f.parts) said
+module _ (p : Parts) (old new : List (List ℕ)) (f : Fed) (n : ℕ) (said : f.answer ≡ Ok n) where
+  is_fed : f ≡ fed (Ok n) f.parts
+  is_fed = ap (λ (x : Result ℕ Refusal). fed x f.parts) said
 
   feed_front : (s : List ℕ) → Feeds p s old f new
-      → (feed_of p s (length old) ≡ fed (Tokens n) f.parts) × (take n new ≡ map record_of (given_by p.lexing s))
+      → (feed_of p s (length old) ≡ fed (Ok n) f.parts) × (take n new ≡ map record_of (given_by p.lexing s))
   unfolding feed_memory
   feed_front s c =
       let i = feeds_is p s old f new c in
-      let e : feed_of p s (length old) ≡ fed (Tokens n) f.parts = sym i.0 ∙ is_fed in
+      let e : feed_of p s (length old) ≡ fed (Ok n) f.parts = sym i.0 ∙ is_fed in
       (e, front (given_by p.lexing s) n _ old new (ap (λ (x : Fed). x.answer) e) (given_is p s (length old) n f.parts e) i.1)
 
   close_front : Closes p old f new
-      → (close_of p (length old) ≡ fed (Tokens n) f.parts) × (take n new ≡ map record_of (last_tokens p.lexing))
+      → (close_of p (length old) ≡ fed (Ok n) f.parts) × (take n new ≡ map record_of (last_tokens p.lexing))
   unfolding close_memory
   close_front c =
       let i = closes_is p old f new c in
-      let e : close_of p (length old) ≡ fed (Tokens n) f.parts = sym i.0 ∙ is_fed in
+      let e : close_of p (length old) ≡ fed (Ok n) f.parts = sym i.0 ∙ is_fed in
       (e, front (last_tokens p.lexing) n _ old new (ap (λ (x : Fed). x.answer) e) (last_is p (length old) n f.parts e) i.1)
 
 -- ---- any number of calls
@@ -93,9 +93,9 @@ module _ (p : Parts) (old new : List (List ℕ)) (f : Fed) (n : ℕ) (said : f.a
 pub data Made : List ℕ → List (List ℕ) → Parts → Type 0 where
   started : {p : Parts} → Starts p → Made [] [] p
   took : {doc : List ℕ} {rs : List (List ℕ)} {p : Parts} → Made doc rs p → (s : List ℕ) (old new : List (List ℕ)) (f : Fed) (n : ℕ)
-      → Feeds p s old f new → f.answer ≡ Tokens n → Made (doc ++ s) (rs ++ take n new) f.parts
+      → Feeds p s old f new → f.answer ≡ Ok n → Made (doc ++ s) (rs ++ take n new) f.parts
   asked : {doc : List ℕ} {rs : List (List ℕ)} {p : Parts} → Made doc rs p → (s : List ℕ) (old new : List (List ℕ)) (f : Fed) (n : ℕ)
-      → Feeds p s old f new → f.answer ≡ Refused (FewTokens n) → Made doc rs f.parts
+      → Feeds p s old f new → f.answer ≡ Err (FewTokens n) → Made doc rs f.parts
 
 -- they are calls, and the records are those of the tokens
 made_calls : {doc : List ℕ} {rs : List (List ℕ)} {p : Parts} → Made doc rs p → (ts : List Token) × (Calls doc ts p × (map record_of ts ≡ rs))
@@ -112,8 +112,8 @@ made_calls (took {doc} {rs} {p} m s old new f n c e) =
     )
 made_calls (asked {doc} {rs} {p} m s old new f n c e) =
     let i = made_calls m in
-    let is : feed_of p s (length old) ≡ fed (Refused (FewTokens n)) f.parts =
-    sym (feeds_is p s old f new c).0 ∙ ap (λ (x : Lexed). fed x f.parts) e in
+    let is : feed_of p s (length old) ≡ fed (Err (FewTokens n)) f.parts =
+    sym (feeds_is p s old f new c).0 ∙ ap (λ (x : Result ℕ Refusal). fed x f.parts) e in
     (i.0, (refused i.1.0 s (length old) n f.parts is, i.1.1))
 
 -- what the functions wrote so far are the records of what the joined bytes decide
@@ -132,7 +132,7 @@ made_first {doc} {rs} {p} m more =
 
 -- with those of the closing word they are the records of whole lexing of the joined bytes, which are UTF-8 and within the limit
 pub made_closed : {doc : List ℕ} {rs : List (List ℕ)} {p : Parts} → Made doc rs p → (old new : List (List ℕ)) (f : Fed) (n : ℕ)
-    → Closes p old f new → f.answer ≡ Tokens n → (rs ++ take n new ≡ map record_of (tokens_of doc)) × ((length doc ≤ limit) × Utf8 doc)
+    → Closes p old f new → f.answer ≡ Ok n → (rs ++ take n new ≡ map record_of (tokens_of doc)) × ((length doc ≤ limit) × Utf8 doc)
 made_closed {doc} {rs} {p} m old new f n c e =
     let i = made_calls m in
     let x = close_front p old new f n e c in

@@ -1,49 +1,40 @@
 -- The calls over any number of parts: a state that parts led to knows the joined bytes as far as it needs them.
-use Prim.Native.Nat.{ℕ, zero, suc, ◌+◌, ◌≤◌, ◌<◌}
+use Prim.Native.Nat.{ℕ, ◌+◌, ◌≤◌, ◌<◌}
 use mathlib.Core.Path.{◌≡◌, refl, sym, ap, ◌∙◌, subst}
-use mathlib.Core.Logic.{◌↔◌}
-use mathlib.Core.Bool.{Bool, true, false}
-use mathlib.Core.List.{List, [], ◌∷◌, ◌++◌, append_assoc, append-nil}
+use mathlib.Core.Bool.{false}
+use mathlib.Core.List.{List, [], ◌∷◌, ◌++◌, append-nil}
 use native.Mathlib.Omega.{arith}
+use Rattle.std.specs.Prelude.{Result, Ok, Err}
 use native.Mathlib.Decide.{dec_lt}
 use native.Mathlib.Nat.{zero-add}
-use borrow.Author.Tests.{lt-ltb, le-ltb, eq-eqb, ne_eqb}
-use lib.ListN.{length, drop, length-append, length-drop}
+use borrow.Author.Tests.{lt-ltb, le-ltb, ne_eqb}
+use lib.ListN.{length, drop, length-append}
 use lib.Seq.{drop_at}
-use lib.Dec.{ltb, eqb}
+use lib.Dec.{ltb}
 use Rattle.text_refusals.specs.Refusals.{limit}
 use Rattle.text_refusals.specs.declared.Refusal.{Refusal}
-use Rattle.text_refusals.specs.declared.Refusal.TheVariants.{NotUtf8, TooLong, FewTokens, AfterEnd}
+use Rattle.text_refusals.specs.declared.Refusal.TheVariants.{NotUtf8, TooLong, FewTokens}
 use Rattle.text_scalars.specs.Utf8.{Utf8}
 use Rattle.text_scalars.specs.Utf8Read.{valid_prefix}
 use Rattle.text_scalars.proofs.ReadLaws.{valid_le, utf8_iff}
 use Rattle.text_characters.specs.Lead.{fault_len}
 use Rattle.text.specs.CheckMeans.{check_of}
 use Rattle.text.specs.LengthTells.{Mendable}
-use Rattle.text.specs.declared.utf8.Utf8Check.TheVariants.{Refused as Broken}
 use Rattle.text.proofs.MendLaws.{answer_tells}
 use Rattle.lexer_token.specs.declared.Token.{Token}
-use Rattle.lexer.specs.Tokens.{tokens_of, eof_at}
-use Rattle.lexer.specs.declared.Lexed.{Lexed}
-use Rattle.lexer.specs.declared.Lexed.TheVariants.{Tokens, Refused}
 use Rattle.built_characters.specs.declared.Character.{Character}
 use Rattle.built_characters.specs.declared.Character.TheVariants.{Whole, Begun}
-use Rattle.built_bytes.specs.declared.Pending.{Pending}
-use Rattle.built_bytes.specs.declared.Pending.TheVariants.{Nothing, Kind}
-use Rattle.built_bytes.specs.Turns.{pending_of}
 use Rattle.built_lexing.specs.declared.states.Lexing.{Lexing}
 use Rattle.built_parts.specs.declared.checks.Checked.{Checked}
-use Rattle.built_parts.specs.declared.checks.Checked.TheVariants.{Good, Bad}
+use Rattle.built_parts.specs.declared.checks.Faulty.{Faulty as Fault}
 use Rattle.built_parts.specs.declared.Parts.{Parts}
-use Rattle.built_parts.specs.declared.Fed.{Fed}
-use Rattle.built_lexing.specs.States.{unread, moved, given_by, state_after, tokens_in, pending_token, last_tokens}
-use Rattle.built_parts.specs.Checking.{checked, on_good}
+use Rattle.built_lexing.specs.States.{unread, moved, given_by, state_after, last_tokens}
+use Rattle.built_parts.specs.Checking.{good as Good, bad as Bad, checked}
 use Rattle.built_parts.specs.Feeding.{parts_of, no_parts, closed, is_over, fed, checked_from, feed_of, close_of}
 use Rattle.built_lexing.proofs.StepLaws.{moved_at, moved_low}
-use Rattle.built_lexing.proofs.CountLaws.{given_few}
 use Rattle.built_parts.proofs.CharacterLaws.{read_fault, read_some, read_all}
 use Rattle.built_parts.proofs.PassLaws.{Walking, Faulty, CheckTold, told, walking_prefix, checked_join}
-use Rattle.theorems_parts.specs.Decided.{FirstOf, Decided}
+use Rattle.theorems_parts.specs.Decided.{Decided}
 use Rattle.theorems_parts.specs.Calls.{Calls, begun, answered, refused, CallsDecided, CallsFirst, WholeLexing, CallsClosed, PartLong, Beyond, PartBroken, PartRefused, PartMendable, CloseBroken, CloseRefused, CloseValid}
 use Rattle.theorems_parts.proofs.Meaning.{state_join, given_join, tokens_closed}
 use Rattle.theorems_parts.proofs.Deciding.{given_decided}
@@ -89,14 +80,14 @@ module _ (doc : List ℕ) (p : Parts) (r : Reached doc p) where
   long_of : (s : List ℕ) → length (doc ++ s) ≡ p.lexing.at + length s
   long_of s = length-append doc s ∙ rw place
 
-  reach_long : (s : List ℕ) (room : ℕ) → limit < length (doc ++ s) → feed_of p s room ≡ fed (Refused TooLong) (closed p)
+  reach_long : (s : List ℕ) (room : ℕ) → limit < length (doc ++ s) → feed_of p s room ≡ fed (Err TooLong) (closed p)
   reach_long s room h = feed_long p s room goes_on_lem (lt-ltb limit (p.lexing.at + length s) (omega (arith, long_of s)))
 
   module _ (s : List ℕ) (fits : length (doc ++ s) ≤ limit) where
     short : ltb limit (p.lexing.at + length s) ≡ false
     short = le-ltb limit (p.lexing.at + length s) (omega (arith, long_of s))
 
-    reach_bad : (v n room : ℕ) → checked Whole 0 0 (doc ++ s) ≡ Bad v n → feed_of p s room ≡ fed (Refused (NotUtf8 v n)) (closed p)
+    reach_bad : (v n room : ℕ) → checked Whole 0 0 (doc ++ s) ≡ Bad v n → feed_of p s room ≡ fed (Err (NotUtf8 v n)) (closed p)
     reach_bad v n room e = feed_bad p s room goes_on_lem short v n (sym (check_on s) ∙ e)
 
     -- the state after a part that is taken
@@ -104,11 +95,11 @@ module _ (doc : List ℕ) (p : Parts) (r : Reached doc p) where
     after c v = parts_of (state_after p.lexing s) c v false
 
     reach_given : (c : Character) (v room : ℕ) → checked Whole 0 0 (doc ++ s) ≡ Good c v → length (given_by p.lexing s) ≤ room
-        → feed_of p s room ≡ fed (Tokens (length (given_by p.lexing s))) (after c v)
+        → feed_of p s room ≡ fed (Ok (length (given_by p.lexing s))) (after c v)
     reach_given c v room e h = feed_given p s room goes_on_lem short c v (sym (check_on s) ∙ e) h
 
     reach_few : (c : Character) (v room : ℕ) → checked Whole 0 0 (doc ++ s) ≡ Good c v → room < length (given_by p.lexing s)
-        → feed_of p s room ≡ fed (Refused (FewTokens (length (given_by p.lexing s)))) p
+        → feed_of p s room ≡ fed (Err (FewTokens (length (given_by p.lexing s)))) p
     reach_few c v room e h = feed_few p s room goes_on_lem short c v (sym (check_on s) ∙ e) h
 
     reached_after : (c : Character) (v : ℕ) → checked Whole 0 0 (doc ++ s) ≡ Good c v → Reached (doc ++ s) (after c v)
@@ -122,7 +113,7 @@ module _ (doc : List ℕ) (p : Parts) (r : Reached doc p) where
 -- ---- a fault, and its numbers
 
 broken_by : (s : List ℕ) (v n : ℕ) → length s ≤ limit → valid_prefix s ≡ v → v < length s → fault_len (drop v s) ≡ n
-    → check_of s ≡ Broken (NotUtf8 v n)
+    → check_of s ≡ Err (NotUtf8 v n)
 unfolding check_of
 broken_by s v n fits e h f =
     let d : valid_prefix s ≡ length s → ⊥ = λ g. omega arith in
@@ -156,7 +147,7 @@ whole_valid doc v i =
     subst (λ (x : List ℕ). Utf8 x) (sym (append-nil i.u) ∙ ap (λ (x : List ℕ). i.u ++ x) (sym none) ∙ i.split) i.chars
 
 begun_invalid : (doc : List ℕ) (left low high v : ℕ) → length doc ≤ limit → Walking 0 doc (Begun left low high) v
-    → (check_of doc ≡ Broken (NotUtf8 v 0)) × (Utf8 doc → ⊥)
+    → (check_of doc ≡ Err (NotUtf8 v 0)) × (Utf8 doc → ⊥)
 begun_invalid doc left low high v fits i =
     let n = walking_prefix 0 doc (Begun left low high) v i in
     let more = read_some i.r left low high i.reads in
@@ -168,26 +159,28 @@ begun_invalid doc left low high v fits i =
     )
 
 -- what the characters of some bytes come to
-told_of : (doc : List ℕ) (x : Checked) → checked Whole 0 0 doc ≡ x → CheckTold 0 doc x
+told_of : (doc : List ℕ) (x : Result Checked Fault) → checked Whole 0 0 doc ≡ x → CheckTold 0 doc x
 told_of doc x e = subst (CheckTold 0 doc) e (told 0 0 doc)
 
 -- ---- the calls
 
-not_refused : {P : Type 0} {n : ℕ} {r : Refusal} → Tokens n ≡ Refused r → P
+not_refused : {P : Type 0} {n : ℕ} {r : Refusal} → ◌≡◌ {A = Result ℕ Refusal} (Ok n) (Err r) → P
 not_refused e = clash cc
 
 module _ (doc : List ℕ) (p : Parts) (r : Reached doc p) (s : List ℕ) (room n : ℕ) (q : Parts) where
   -- an answered part is taken
-  reach_answered : feed_of p s room ≡ fed (Tokens n) q → Reached (doc ++ s) q
+  reach_answered : feed_of p s room ≡ fed (Ok n) q → Reached (doc ++ s) q
   reach_answered e =
       elim (dec_lt limit (length (doc ++ s))) [
         | yes h ↦ not_refused (answer_of (sym e ∙ reach_long doc p r s room h))
         | no h ↦ go (omega arith) (checked Whole 0 0 (doc ++ s)) refl
       ]
     where
-      go : length (doc ++ s) ≤ limit → (x : Checked) → checked Whole 0 0 (doc ++ s) ≡ x → Reached (doc ++ s) q
-      go fits (Bad v k) c = not_refused (answer_of (sym e ∙ reach_bad doc p r s fits v k room c))
-      go fits (Good c v) g =
+      go : length (doc ++ s) ≤ limit → (x : Result Checked Fault) → checked Whole 0 0 (doc ++ s) ≡ x → Reached (doc ++ s) q
+      go fits (Err f) c = not_refused (answer_of (sym e ∙ reach_bad doc p r s fits f.valid f.length room c))
+      go fits (Ok x) g =
+          let c = x.character in
+          let v = x.valid in
           elim (dec_lt room (length (given_by p.lexing s))) [
             | yes k ↦ not_refused (answer_of (sym e ∙ reach_few doc p r s fits c v room g k))
             | no k ↦ subst (Reached (doc ++ s)) (parts_of_lem (sym (reach_given doc p r s fits c v room g (omega arith)) ∙ e)) (reached_after doc p r s fits c v g)
@@ -216,7 +209,7 @@ module _ (doc : List ℕ) (p : Parts) (r : Reached doc p) where
   at_fits : ltb limit p.lexing.at ≡ false
   at_fits = le-ltb limit p.lexing.at (omega (arith, place doc p r, r.within))
 
-  reach_begun : (left low high room : ℕ) → p.character ≡ Begun left low high → close_of p room ≡ fed (Refused (NotUtf8 p.valid 0)) (closed p)
+  reach_begun : (left low high room : ℕ) → p.character ≡ Begun left low high → close_of p room ≡ fed (Err (NotUtf8 p.valid 0)) (closed p)
   reach_begun left low high room e = close_begun p room (goes_on_lem doc p r) at_fits left low high e
 
   walking : (d : Character) → p.character ≡ d → Walking 0 doc d p.valid
@@ -242,28 +235,37 @@ part_long doc ts p c s room h = reach_long doc p (reached c).0 s room h
 pub part_broken : PartBroken
 part_broken doc ts p c s room fits n = go (checked Whole 0 0 (doc ++ s)) refl (reached c).0
   where
-    go : (x : Checked) → checked Whole 0 0 (doc ++ s) ≡ x → Reached doc p
-        → (valid : ℕ) × (len : ℕ) × (feed_of p s room ≡ fed (Refused (NotUtf8 valid len)) (closed p)) × Beyond (doc ++ s) valid len
-    go (Bad v k) e r = (v, k, reach_bad doc p r s fits v k room e, faulty_beyond (doc ++ s) v k fits (told_of (doc ++ s) (Bad v k) e))
-    go (Good d v) e r = absurd (n (sound_mendable (doc ++ s) d v fits (told_of (doc ++ s) (Good d v) e)))
+    go : (x : Result Checked Fault) → checked Whole 0 0 (doc ++ s) ≡ x → Reached doc p
+        → (valid : ℕ) × (len : ℕ) × (feed_of p s room ≡ fed (Err (NotUtf8 valid len)) (closed p)) × Beyond (doc ++ s) valid len
+    go (Err f) e r = (
+      f.valid,
+      f.length,
+      reach_bad doc p r s fits f.valid f.length room e,
+      faulty_beyond (doc ++ s) f.valid f.length fits (told_of (doc ++ s) (Err f) e),
+    )
+    go (Ok g) e r = absurd (n (sound_mendable (doc ++ s) g.character g.valid fits (told_of (doc ++ s) (Ok g) e)))
 
 pub part_refused : PartRefused
 part_refused doc ts p c s room v n q e =
     elim (dec_lt limit (length (doc ++ s))) [
-      | yes h ↦ let w : Refused TooLong ≡ Refused (NotUtf8 v n) = answer_of (sym (reach_long doc p (reached c).0 s room h) ∙ e) in clash cc
+      | yes h ↦ let w : ◌≡◌ {A = Result ℕ Refusal} (Err TooLong) (Err (NotUtf8 v n)) = answer_of (sym (reach_long doc p (reached c).0 s room h) ∙ e) in clash cc
       | no h ↦ go (omega arith) (checked Whole 0 0 (doc ++ s)) refl (reached c).0
     ]
   where
-    go : length (doc ++ s) ≤ limit → (x : Checked) → checked Whole 0 0 (doc ++ s) ≡ x → Reached doc p → Beyond (doc ++ s) v n
-    go fits (Bad w k) d r =
-        let same : Refused (NotUtf8 w k) ≡ Refused (NotUtf8 v n) = answer_of (sym (reach_bad doc p r s fits w k room d) ∙ e) in
+    go : length (doc ++ s) ≤ limit → (x : Result Checked Fault) → checked Whole 0 0 (doc ++ s) ≡ x → Reached doc p → Beyond (doc ++ s) v n
+    go fits (Err f) d r =
+        let w = f.valid in
+        let k = f.length in
+        let same : ◌≡◌ {A = Result ℕ Refusal} (Err (NotUtf8 w k)) (Err (NotUtf8 v n)) = answer_of (sym (reach_bad doc p r s fits w k room d) ∙ e) in
         let v-is : w ≡ v = cc in
         let n-is : k ≡ n = cc in
-        rw (← v-is, ← n-is) (faulty_beyond (doc ++ s) w k fits (told_of (doc ++ s) (Bad w k) d))
-    go fits (Good d w) g r =
+        rw (← v-is, ← n-is) (faulty_beyond (doc ++ s) w k fits (told_of (doc ++ s) (Err f) d))
+    go fits (Ok x) g r =
+        let d = x.character in
+        let w = x.valid in
         elim (dec_lt room (length (given_by p.lexing s))) [
           | yes k ↦
-              let f : Refused (FewTokens (length (given_by p.lexing s))) ≡ Refused (NotUtf8 v n) =
+              let f : ◌≡◌ {A = Result ℕ Refusal} (Err (FewTokens (length (given_by p.lexing s)))) (Err (NotUtf8 v n)) =
               answer_of (sym (reach_few doc p r s fits d w room g k) ∙ e) in
               clash cc
           | no k ↦ not_refused (answer_of (sym (reach_given doc p r s fits d w room g (omega arith)) ∙ e))
@@ -272,17 +274,21 @@ part_refused doc ts p c s room v n q e =
 pub part_mendable : PartMendable
 part_mendable doc ts p c s fits m = go (checked Whole 0 0 (doc ++ s)) refl (reached c).0
   where
-    go : (x : Checked) → checked Whole 0 0 (doc ++ s) ≡ x → Reached doc p
-        → (q : Parts) × ((room : ℕ) → length (given_by p.lexing s) ≤ room → feed_of p s room ≡ fed (Tokens (length (given_by p.lexing s))) q)
-        × ((room : ℕ) → room < length (given_by p.lexing s) → feed_of p s room ≡ fed (Refused (FewTokens (length (given_by p.lexing s)))) p)
-    go (Bad v k) e r = absurd ((faulty_beyond (doc ++ s) v k fits (told_of (doc ++ s) (Bad v k) e)).unmendable m)
-    go (Good d v) e r = (after doc p r s fits d v, λ room h. reach_given doc p r s fits d v room e h, λ room h. reach_few doc p r s fits d v room e h)
+    go : (x : Result Checked Fault) → checked Whole 0 0 (doc ++ s) ≡ x → Reached doc p
+        → (q : Parts) × ((room : ℕ) → length (given_by p.lexing s) ≤ room → feed_of p s room ≡ fed (Ok (length (given_by p.lexing s))) q)
+        × ((room : ℕ) → room < length (given_by p.lexing s) → feed_of p s room ≡ fed (Err (FewTokens (length (given_by p.lexing s)))) p)
+    go (Err f) e r = absurd ((faulty_beyond (doc ++ s) f.valid f.length fits (told_of (doc ++ s) (Err f) e)).unmendable m)
+    go (Ok g) e r = (
+      after doc p r s fits g.character g.valid,
+      λ room h. reach_given doc p r s fits g.character g.valid room e h,
+      λ room h. reach_few doc p r s fits g.character g.valid room e h,
+    )
 
 pub close_broken : CloseBroken
 close_broken doc ts p c room n = go p.character refl (reached c).0
   where
     go : (d : Character) → p.character ≡ d → Reached doc p
-        → (r : Refusal) × (close_of p room ≡ fed (Refused r) (closed p)) × (check_of doc ≡ Broken r)
+        → (r : Refusal) × (close_of p room ≡ fed (Err r) (closed p)) × (check_of doc ≡ Err r)
     go (Begun left low high) e r = (
       NotUtf8 p.valid 0,
       reach_begun doc p r left low high room e,
@@ -293,9 +299,9 @@ close_broken doc ts p c room n = go p.character refl (reached c).0
 pub close_refused : CloseRefused
 close_refused doc ts p c room v n q e = go p.character refl (reached c).0
   where
-    go : (d : Character) → p.character ≡ d → Reached doc p → (Utf8 doc → ⊥) × (check_of doc ≡ Broken (NotUtf8 v n))
+    go : (d : Character) → p.character ≡ d → Reached doc p → (Utf8 doc → ⊥) × (check_of doc ≡ Err (NotUtf8 v n))
     go (Begun left low high) f r =
-        let same : Refused (NotUtf8 p.valid 0) ≡ Refused (NotUtf8 v n) = answer_of (sym (reach_begun doc p r left low high room f) ∙ e) in
+        let same : ◌≡◌ {A = Result ℕ Refusal} (Err (NotUtf8 p.valid 0)) (Err (NotUtf8 v n)) = answer_of (sym (reach_begun doc p r left low high room f) ∙ e) in
         let v-is : p.valid ≡ v = cc in
         let n-is : 0 ≡ n = cc in
         let i = begun_invalid doc left low high p.valid r.within (walking doc p r (Begun left low high) f) in
@@ -303,7 +309,7 @@ close_refused doc ts p c room v n q e = go p.character refl (reached c).0
     go Whole f r =
         elim (dec_lt room (length (last_tokens p.lexing))) [
           | yes k ↦
-              let w : Refused (FewTokens (length (last_tokens p.lexing))) ≡ Refused (NotUtf8 v n) =
+              let w : ◌≡◌ {A = Result ℕ Refusal} (Err (FewTokens (length (last_tokens p.lexing)))) (Err (NotUtf8 v n)) =
               answer_of (sym (close_few p room (goes_on_lem doc p r) (at_fits doc p r) f k) ∙ e) in
               clash cc
           | no k ↦ not_refused (answer_of (sym (close_whole p room (goes_on_lem doc p r) (at_fits doc p r) f (omega arith)) ∙ e))
@@ -313,8 +319,8 @@ pub close_valid : CloseValid
 close_valid doc ts p c w = go p.character refl (reached c).0
   where
     go : (d : Character) → p.character ≡ d → Reached doc p
-        → ((room : ℕ) → length (last_tokens p.lexing) ≤ room → close_of p room ≡ fed (Tokens (length (last_tokens p.lexing))) (closed p))
-        × ((room : ℕ) → room < length (last_tokens p.lexing) → close_of p room ≡ fed (Refused (FewTokens (length (last_tokens p.lexing)))) p)
+        → ((room : ℕ) → length (last_tokens p.lexing) ≤ room → close_of p room ≡ fed (Ok (length (last_tokens p.lexing))) (closed p))
+        × ((room : ℕ) → room < length (last_tokens p.lexing) → close_of p room ≡ fed (Err (FewTokens (length (last_tokens p.lexing)))) p)
     go (Begun left low high) e r =
         absurd ((begun_invalid doc left low high p.valid r.within (walking doc p r (Begun left low high) e)).1 w)
     go Whole e r = (

@@ -1,11 +1,11 @@
 -- The tokens given are the decided ones: they are the same for all further bytes, and the next token could still be another one.
-use Prim.Native.Nat.{ℕ, zero, suc, ◌+◌, ◌≤◌}
+use Prim.Native.Nat.{ℕ, ◌+◌}
 use mathlib.Core.Path.{◌≡◌, refl, sym, ap, ◌∙◌}
-use mathlib.Core.Bool.{Bool, true, false, cond}
+use mathlib.Core.Bool.{Bool, true, false}
 use mathlib.Core.List.{List, [], ◌∷◌, ◌++◌}
 use native.Mathlib.Omega.{arith}
 use native.Mathlib.Nat.{add-zero}
-use lib.ListN.{length, take, drop}
+use lib.ListN.{take, drop}
 use Rattle.text_classes.specs.Classes.{wschar, token_start}
 use Rattle.text_classes.specs.Runs.{run, triple}
 use Rattle.lexer_scans.specs.Extents.{line_tail, ml_tail, up_to_two}
@@ -13,8 +13,8 @@ use Rattle.lexer_token.specs.declared.TokenKind.{TokenKind}
 use Rattle.lexer_token.specs.declared.TokenKind.TheVariants.{Equals, Eof}
 use Rattle.lexer_token.specs.declared.Token.{Token}
 use Rattle.lexer.specs.Lines.{line_feeds}
-use Rattle.lexer.specs.Table.{kind_by, kind_of, extent, token_len}
-use Rattle.lexer.specs.Tokens.{token_at, eof_at, line_after, tokens_from, start_of, tokens_of}
+use Rattle.lexer.specs.Table.{kind_by, kind_of, token_len}
+use Rattle.lexer.specs.Tokens.{token_at, eof_at, line_after, tokens_from, start_of}
 use Rattle.lexer.proofs.TokenLaws.{tokens_cons, tokens_none}
 use Rattle.built_bytes.specs.declared.Quote.{Quote}
 use Rattle.built_bytes.specs.declared.Quote.TheVariants.{Apostrophe, Quotation}
@@ -24,7 +24,7 @@ use Rattle.built_bytes.specs.Turns.{mark_of}
 use Rattle.built_bytes.specs.Rests.{rest_len, rest_kind}
 use Rattle.built_lexing.specs.declared.states.Lexing.{Lexing}
 use Rattle.built_lexing.specs.States.{unread, token_from, given_by, state_after}
-use Rattle.theorems_parts.specs.Decided.{FirstOf, Common, Decided, GivenDecided}
+use Rattle.theorems_parts.specs.Decided.{FirstOf, GivenDecided}
 use Rattle.theorems_parts.proofs.Meaning.{goes_on, in_progress, means, to_come, tokens_parts}
 
 -- two lists of tokens whose first ones differ

@@ -1,32 +1,30 @@
 -- What is still to come from a state is what the token rules say of the bytes to come; so the tokens that bytes give, and those
 -- at the closing word, are those of the joined bytes.
-use Prim.Native.Nat.{ℕ, zero, suc, ◌+◌, ◌≤◌, ◌<◌}
+use Prim.Native.Nat.{ℕ, suc, ◌+◌}
 use mathlib.Core.Path.{◌≡◌, refl, sym, ap, ◌∙◌, subst}
 use mathlib.Core.Bool.{Bool, true, false, cond, ◌&&◌}
 use mathlib.Core.List.{List, [], ◌∷◌, ◌++◌, append_assoc, append-nil}
 use native.Mathlib.Omega.{arith}
+use Rattle.std.specs.Prelude.{Some}
 use native.Mathlib.Nat.{add-zero, zero-add}
 use borrow.Author.Tests.{eqb-true}
-use lib.ListN.{length, take, drop}
+use lib.ListN.{take, drop}
 use lib.Dec.{eqb}
 use Rattle.text_classes.specs.Classes.{wschar, token_start}
 use Rattle.text_classes.specs.Runs.{run, stands}
-use Rattle.text_classes.proofs.Conds.{cond_case}
 use Rattle.lexer_scans.specs.Extents.{in_atom, line_tail, ml_tail, up_to_two}
 use Rattle.lexer_token.specs.declared.TokenKind.{TokenKind}
 use Rattle.lexer_token.specs.declared.TokenKind.TheVariants.{Atom}
 use Rattle.lexer_token.specs.declared.Token.{Token}
-use Rattle.lexer_token.specs.Records.{token_of}
 use Rattle.lexer.specs.Lines.{line_feeds, line_behind}
 use Rattle.lexer.specs.Table.{kind_by, kind_of, extent, token_len}
-use Rattle.lexer.specs.Tokens.{token_at, eof_at, line_after, tokens_from, has_bom, start_of, tokens_of}
+use Rattle.lexer.specs.Tokens.{eof_at, tokens_from, has_bom, start_of, tokens_of}
 use Rattle.lexer.proofs.TokenLaws.{tokens_cons, tokens_none}
 use Rattle.lexer.proofs.LineLaws.{behind_front, feeds_none}
 use Rattle.built_bytes.specs.declared.Mode.{Mode}
 use Rattle.built_bytes.specs.declared.Mode.TheVariants.{Start, Bom1, Bom2, Idle, Blanks, Remark, Word, Return, One, Two, Line, Ml, MlOne, MlTwo, Shut, ShutOne}
 use Rattle.built_bytes.specs.declared.Turn.{Turn}
-use Rattle.built_bytes.specs.declared.Turn.TheVariants.{Opens, Single, More, Ends, Apart, Skipped}
-use Rattle.built_bytes.specs.declared.Pending.TheVariants.{Kind}
+use Rattle.built_bytes.specs.declared.Turn.TheVariants.{Opens, Single, More, Apart, Skipped}
 use Rattle.built_bytes.specs.Turns.{opening, turn_of, pending_of}
 use Rattle.built_bytes.specs.Rests.{Busy, rest_len, rest_kind}
 use Rattle.built_bytes.proofs.RestLaws.{Goes, more, ends, apart, goes, OpensTo, opens, single, opened}
@@ -241,7 +239,7 @@ given_comes l (b ∷ p) e =
 
 -- ---- the closing word
 
-last_busy : (m : Mode) (l : Lexing) → pending_of l.mode ≡ Kind (rest_kind m []) → rest_len m [] ≡ 0 → last_tokens l ≡ in_progress m l []
+last_busy : (m : Mode) (l : Lexing) → pending_of l.mode ≡ Some (rest_kind m []) → rest_len m [] ≡ 0 → last_tokens l ≡ in_progress m l []
 unfolding last_tokens
 last_busy m l e f =
     rw (e, f) (ap (λ (ts : List Token). token_from (rest_kind m []) l l.at ∷ ts) (sym (tokens_none l.at l.line))

@@ -1,6 +1,7 @@
 -- The theorems of specs/Lexing.antt.
 -- Assumes nothing.
 use Prim.Native.Nat.{ℕ, zero, suc, ◌+◌, ◌-◌, ◌≤◌, ◌<◌}
+use Rattle.std.specs.Prelude.{Ok, Err, Some, None}
 use mathlib.Core.Path.{◌≡◌, refl, sym, ap, ◌∙◌, subst}
 use mathlib.Core.Logic.{inl, inr}
 use mathlib.Core.Bool.{Bool, true, false, ◌||◌}
@@ -23,11 +24,9 @@ use Rattle.lexer_token.specs.Records.{token_of, record_of}
 use Rattle.lexer.specs.Lines.{line_feeds, line_of}
 use Rattle.lexer.specs.Table.{kind_of, extent, token_len}
 use Rattle.lexer.specs.Tokens.{token_at, eof_at, line_after, walk, tokens_from, has_bom, start_of, tokens_of}
-use Rattle.lexer.specs.Steps.{cursor_of, start_answer, start_cursor, step_within, astray, step_of}
+use Rattle.lexer.specs.Steps.{cursor_of, start_answer, start_cursor, Step, step_within, astray, step_of}
 use Rattle.lexer.specs.Whole.{records_of}
 use Rattle.lexer.specs.declared.Cursor.{Cursor}
-use Rattle.lexer.specs.declared.Step.{Step}
-use Rattle.lexer.specs.declared.Step.TheVariants.{Token as Next, End, Refused}
 use Rattle.text_classes.proofs.Conds.{cond_case, of_choice}
 use Rattle.lexer.proofs.LineLaws.{feeds_none, feeds_split, mark_bytes, start_no_lf, feeds_taken}
 use Rattle.lexer.proofs.TokenLaws.{token_fits, token_long, token_fits_at, line_fits_at, tokens_cons, tokens_step, tokens_end, start_fits}
@@ -46,7 +45,7 @@ module _ (doc : List ℕ) (l : length doc ≤ limit) where
   cursor_past at line = cursor_of (at + token_len (drop at doc)) (line_after line (drop at doc)) false
 
   pub step_token : (at line : ℕ) → at < length doc → line ≤ at + 1
-      → step_of doc (cursor_of at line false) ≡ Next (token_at at line (drop at doc)) (cursor_past at line)
+      → step_of doc (cursor_of at line false) ≡ Ok (Some (token_at at line (drop at doc), cursor_past at line))
   unfolding step_of
   step_token at line h o =
       let within : at ≤ length doc = omega arith in
@@ -54,13 +53,13 @@ module _ (doc : List ℕ) (l : length doc ≤ limit) where
       simp (le-ltb limit (length doc) l, le-ltb (length doc) at within, le-ltb (at + 1) line o, ne_eqb at (length doc) other)
 
   pub step_eof : (line : ℕ) → line ≤ length doc + 1
-      → step_of doc (cursor_of (length doc) line false) ≡ Next (eof_at (length doc) line) (cursor_of (length doc) line true)
+      → step_of doc (cursor_of (length doc) line false) ≡ Ok (Some (eof_at (length doc) line, cursor_of (length doc) line true))
   unfolding step_of
   step_eof line o =
       let n = length doc in
       simp (le-ltb limit n l, le-ltb n n (omega arith), le-ltb (n + 1) line o, eq-eqb n n refl)
 
-  pub step_end : (line : ℕ) → line ≤ length doc + 1 → step_of doc (cursor_of (length doc) line true) ≡ End
+  pub step_end : (line : ℕ) → line ≤ length doc + 1 → step_of doc (cursor_of (length doc) line true) ≡ Ok None
   unfolding step_of
   step_end line o =
       let n = length doc in
@@ -266,7 +265,7 @@ step_moved doc c d h =
     let moved-too = le-ltb (c.place + 1) (c.line + d) h in
     let same : astray doc (moved_cursor d c) ≡ astray doc c =
     ap (λ (x : Bool). ltb (length doc) c.place || x) (moved-too ∙ sym in_line) in
-    let token = ap (λ (n : ℕ). Next (token_at c.place (c.line + d) s) (cursor_of (c.place + token_len s) n c.ended)) on in
+    let token = ap (λ (n : ℕ). Ok (Some (token_at c.place (c.line + d) s, cursor_of (c.place + token_len s) n c.ended))) on in
     let within : step_within doc (moved_cursor d c) ≡ moved_step d (step_within doc c) =
     sym (of_choice (moved_step d) (eqb c.place (length doc)) (of_choice (moved_step d) c.ended refl refl) (sym token)) in
     let moved = of_choice (moved_step d) (astray doc c) refl (sym within) in
@@ -293,9 +292,9 @@ steps_moved doc c d h (suc k) =
     rw (step_moved doc c d h, moved_on (step_of doc c)) (ap (λ (r : List Step). moved_step d (step_of doc c) ∷ r) rest)
   where
     moved_on : (s : Step) → next_cursor (moved_cursor d c) (moved_step d s) ≡ moved_cursor d (next_cursor c s)
-    moved_on (Next t e) = refl
-    moved_on End = refl
-    moved_on (Refused r) = refl
+    moved_on (Ok (Some w)) = refl
+    moved_on (Ok None) = refl
+    moved_on (Err r) = refl
 
 nothing_kind : kind_of [] ≡ Eof
 unfolding kind_of

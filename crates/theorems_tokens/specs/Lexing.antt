@@ -1,6 +1,6 @@
 -- STATEMENT. Theorems about lexing, each proved in proofs/Lexing.antt under the name that its comment gives.
 -- Assumes nothing.
-use Rattle.std.specs.Prelude.{ℕ, zero, suc, ◌+◌, ◌-◌, ◌≤◌, ◌<◌, ◌≡◌, length, get_or, take, drop}
+use Rattle.std.specs.Prelude.{ℕ, zero, suc, ◌+◌, ◌-◌, ◌≤◌, ◌<◌, ◌≡◌, length, get_or, take, drop, Ok, Err, Some, None}
 use mathlib.Core.List.{List, [], ◌∷◌, map, Memᴰ}
 use Rattle.text_refusals.specs.Refusals.{limit}
 use Rattle.text_scalars.specs.Utf8.{Utf8}
@@ -10,21 +10,19 @@ use Rattle.lexer_token.specs.Records.{token_of, text_of}
 use Rattle.lexer.specs.Lines.{line_of}
 use Rattle.lexer.specs.Table.{kind_of, token_len}
 use Rattle.lexer.specs.Tokens.{start_of, tokens_of}
-use Rattle.lexer.specs.Steps.{cursor_of, start_answer, start_cursor, step_of}
+use Rattle.lexer.specs.Steps.{cursor_of, start_answer, start_cursor, Step, step_of}
 use Rattle.lexer.specs.Whole.{records_of}
 use Rattle.lexer_place.specs.Positions.{position_answer}
 use Rattle.lexer_place.specs.Told.{position_line}
 use Rattle.lexer.specs.declared.Cursor.{Cursor}
-use Rattle.lexer.specs.declared.Step.{Step}
-use Rattle.lexer.specs.declared.Step.TheVariants.{Token as Next, End, Refused}
 
 -- ---- steps and whole lexing
 
 -- the cursor after a step from c; after the end or a refusal it is c still
 abbrev pub next_cursor : Cursor → Step → Cursor
-next_cursor c (Next t d) = d
-next_cursor c End = c
-next_cursor c (Refused r) = c
+next_cursor c (Ok (Some w)) = w.1
+next_cursor c (Ok None) = c
+next_cursor c (Err r) = c
 
 -- the answers of k steps, each at the cursor that the one before it left
 unfoldable pub steps_from : ℕ → List ℕ → Cursor → List Step
@@ -34,12 +32,12 @@ steps_from (suc k) doc c = step_of doc c ∷ steps_from k doc (next_cursor c (st
 -- answers that give these tokens, one after the other, then the end for ever, and never a refusal
 abbrev pub Gives : List Token → List Step → Type 0
 Gives ts [] = Unit
-Gives [] (Next u c ∷ rest) = ⊥
-Gives [] (End ∷ rest) = Gives [] rest
-Gives [] (Refused r ∷ rest) = ⊥
-Gives (t ∷ ts) (Next u c ∷ rest) = (u ≡ t) × Gives ts rest
-Gives (t ∷ ts) (End ∷ rest) = ⊥
-Gives (t ∷ ts) (Refused r ∷ rest) = ⊥
+Gives [] (Ok (Some w) ∷ rest) = ⊥
+Gives [] (Ok None ∷ rest) = Gives [] rest
+Gives [] (Err r ∷ rest) = ⊥
+Gives (t ∷ ts) (Ok (Some w) ∷ rest) = (w.0 ≡ t) × Gives ts rest
+Gives (t ∷ ts) (Ok None ∷ rest) = ⊥
+Gives (t ∷ ts) (Err r ∷ rest) = ⊥
 
 -- `steps_whole`: the steps from the start, however many, give the tokens of whole lexing, then the end for ever
 abbrev pub StepsWhole : Type 0
@@ -66,9 +64,9 @@ abbrev pub moved_cursor : ℕ → Cursor → Cursor
 moved_cursor d c = cursor_of c.place (c.line + d) c.ended
 
 abbrev pub moved_step : ℕ → Step → Step
-moved_step d (Next t c) = Next (token_of t.kind t.span.start t.span.end (t.line + d)) (moved_cursor d c)
-moved_step d End = End
-moved_step d (Refused r) = Refused r
+moved_step d (Ok (Some (t, c))) = Ok (Some (token_of t.kind t.span.start t.span.end (t.line + d), moved_cursor d c))
+moved_step d (Ok None) = Ok None
+moved_step d (Err r) = Err r
 
 -- `steps_moved`: where d is added to a cursor's line, which its place still allows, it is added to the lines of all answers, and
 -- nothing else changes

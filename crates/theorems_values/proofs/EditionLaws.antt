@@ -1,13 +1,14 @@
 -- What is a value by TOML 1.0.0 is one by TOML 1.1.0: blanks are lines too, and a separator's blanks go to the keyvals around it.
 use Prim.Native.Nat.{ℕ}
 use mathlib.Core.Path.{◌≡◌, refl, sym, ap, subst, ◌∙◌}
+use mathlib.Core.Bool.{true}
 use mathlib.Core.List.{List, [], ◌∷◌, ◌++◌, append_assoc, append-nil}
 use native.Mathlib.Omega.{arith}
 use lib.ListN.{length}
+use Rattle.std.specs.Prelude.{Ok}
 use Rattle.decoder_rules.specs.declared.Edition.TheVariants.{Toml10, Toml11}
 use Rattle.decoder_rules.specs.Encodings.{edition_number}
 use Rattle.built_values.specs.Values.{Ws, WsCommentNewline, Spaced, Val, Keyval, Array, ArrayValues, InlineTable, Keyvals}
-use Rattle.built_values.specs.declared.ValueCheck.TheVariants.{Value}
 use Rattle.theorems_values.specs.ValuesTell.{TenInEleven, YesInBoth, Served}
 use Rattle.theorems_values.proofs.TellLaws.{tells}
 
@@ -76,7 +77,7 @@ ten_in_eleven run d = val d
 
 pub yes_in_both : YesInBoth
 yes_in_both records start end answer a b =
-    let (v, s, d) = (tells records 10 start end Value a).yes_value.0 refl in
+    let (v, s, d) = (tells records 10 start end (Ok true) a).yes_value.0 refl in
     let served : Served records 11 start end Toml11 =
     record { within = s.within; named = refl; shallow = s.shallow } in
     (tells records 11 start end answer b).yes_value.1 (Toml11, served, in_eleven v s.named d)

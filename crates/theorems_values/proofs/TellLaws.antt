@@ -1,18 +1,19 @@
 -- Each answer is given exactly when its conditions hold, and the kinds of the run decide it.
 use Prim.Native.Nat.{ℕ, ◌≤◌, ◌<◌}
 use mathlib.Core.Path.{◌≡◌, refl, sym, subst, ◌∙◌}
+use mathlib.Core.Bool.{Bool, true, false}
 use mathlib.Core.Logic.{◌⊎◌, inl, inr, ◌↔◌}
 use mathlib.Core.List.{List}
 use native.Mathlib.Omega.{arith}
 use lib.ListN.{length}
+use Rattle.std.specs.Prelude.{Result, Ok, Err}
+use Rattle.text_refusals.specs.declared.Refusal.{Refusal}
 use Rattle.text_refusals.specs.declared.Refusal.TheVariants.{OutOfPlace, NoEdition, TooDeep}
 use Rattle.decoder_rules.specs.declared.Edition.{Edition}
 use Rattle.decoder_rules.specs.Encodings.{edition_number}
 use Rattle.built_values.specs.Values.{Val}
 use Rattle.built_values.specs.Depth.{Deep}
 use Rattle.built_values.specs.Answers.{run_of, Judged, Named, ValueAnswer}
-use Rattle.built_values.specs.declared.ValueCheck.{ValueCheck}
-use Rattle.built_values.specs.declared.ValueCheck.TheVariants.{Value, NoValue, Refused}
 use Rattle.built_values.proofs.NumberLaws.{named_one, one_answer, away}
 use Rattle.theorems_values.specs.ValuesTell.{Within, Served, Tells, AnswersTell, KindsAlone}
 
@@ -20,37 +21,37 @@ use Rattle.theorems_values.specs.ValuesTell.{Within, Served, Tells, AnswersTell,
 
 module _ (records : List (List ℕ)) (edition start end : ℕ) where
   served_value : (v : Edition) → Served records edition start end v → Val v (run_of records start end)
-      → ValueAnswer records edition start end Value
+      → ValueAnswer records edition start end (Ok true)
   served_value v s d = ValueAnswer.within s.within.0 s.within.1 (Named.named v s.named (Judged.value s.shallow d))
 
   served_none : (v : Edition) → Served records edition start end v → (Val v (run_of records start end) → ⊥)
-      → ValueAnswer records edition start end NoValue
+      → ValueAnswer records edition start end (Ok false)
   served_none v s d = ValueAnswer.within s.within.0 s.within.1 (Named.named v s.named (Judged.no_value s.shallow d))
 
   unnamed : Within records start end → ((v : Edition) → edition_number v ≡ edition → ⊥)
-      → ValueAnswer records edition start end (Refused (NoEdition edition))
+      → ValueAnswer records edition start end (Err (NoEdition edition))
   unnamed w n = ValueAnswer.within w.0 w.1 (Named.no_edition n)
 
   deep : Within records start end → (v : Edition) → edition_number v ≡ edition → Deep (run_of records start end)
-      → ValueAnswer records edition start end (Refused TooDeep)
+      → ValueAnswer records edition start end (Err TooDeep)
   deep w v e d = ValueAnswer.within w.0 w.1 (Named.named v e (Judged.too_deep d))
 
   -- ---- and the answer the conditions
 
   -- what each answer says
-  abbrev Says : ValueCheck → Type 0
+  abbrev Says : Result Bool Refusal → Type 0
   Says answer =
-      (answer ≡ Value → (v : Edition) × Served records edition start end v × Val v (run_of records start end))
-      × ((answer ≡ NoValue → (v : Edition) × Served records edition start end v × (Val v (run_of records start end) → ⊥))
-      × ((answer ≡ Refused (OutOfPlace (length records)) → (length records < end) ⊎ (end < start))
-      × ((answer ≡ Refused (NoEdition edition) → Within records start end × ((v : Edition) → edition_number v ≡ edition → ⊥))
-      × (answer ≡ Refused TooDeep
+      (answer ≡ Ok true → (v : Edition) × Served records edition start end v × Val v (run_of records start end))
+      × ((answer ≡ Ok false → (v : Edition) × Served records edition start end v × (Val v (run_of records start end) → ⊥))
+      × ((answer ≡ Err (OutOfPlace (length records)) → (length records < end) ⊎ (end < start))
+      × ((answer ≡ Err (NoEdition edition) → Within records start end × ((v : Edition) → edition_number v ≡ edition → ⊥))
+      × (answer ≡ Err TooDeep
       → Within records start end × ((v : Edition) × (edition_number v ≡ edition)) × Deep (run_of records start end)))))
 
   differ : {P : Type 0} → ◌≡◌ {A = ℕ} 0 1 → P
   differ z = absurd (omega arith)
 
-  says : (answer : ValueCheck) → ValueAnswer records edition start end answer → Says answer
+  says : (answer : Result Bool Refusal) → ValueAnswer records edition start end answer → Says answer
   says answer (ValueAnswer.outside h) = (
     (λ e. differ cc),
     ((λ e. differ cc), ((λ e. h), ((λ e. differ cc), λ e. differ cc))),
@@ -88,7 +89,7 @@ tells records edition start end answer a =
 
 -- ---- the kinds of the run decide
 
-pub named_of : (records : List (List ℕ)) (edition start end : ℕ) (answer : ValueCheck) → Within records start end
+pub named_of : (records : List (List ℕ)) (edition start end : ℕ) (answer : Result Bool Refusal) → Within records start end
     → ValueAnswer records edition start end answer → Named edition (run_of records start end) answer
 named_of records edition start end answer w (ValueAnswer.outside h) = absurd (away (length records) h w.0 w.1)
 named_of records edition start end answer w (ValueAnswer.within a b d) = d

@@ -3,10 +3,11 @@
 --
 -- The names: `ValueAnswer`, `run_of`, `Val`, `Deep` (crate built_values) are what the calls promise, the kinds of a run,
 -- the grammar of a value, and a run whose brackets are nested too deep.
-use Rattle.std.specs.Prelude.{ℕ, zero, suc, ◌≤◌, ◌<◌}
-use mathlib.Core.{Path.◌≡◌, Bool.true, Logic.◌⊎◌, Logic.◌↔◌, List.List, List.[], List.◌∷◌, List.◌++◌}
+use Rattle.std.specs.Prelude.{ℕ, zero, suc, ◌≤◌, ◌<◌, Result, Ok, Err}
+use mathlib.Core.{Path.◌≡◌, Bool.Bool, Bool.true, Bool.false, Logic.◌⊎◌, Logic.◌↔◌, List.List, List.[], List.◌∷◌, List.◌++◌}
 use lib.{ListN.length}
 use Rattle.text_refusals.specs.Refusals.{depth}
+use Rattle.text_refusals.specs.declared.Refusal.{Refusal}
 use Rattle.text_refusals.specs.declared.Refusal.TheVariants.{OutOfPlace, NoEdition, TooDeep}
 use Rattle.text_scalars.specs.{Utf8.All}
 use Rattle.lexer_token.specs.{KindNumbers.kind_number, Told.is_kind}
@@ -17,8 +18,6 @@ use Rattle.decoder_rules.specs.Encodings.{edition_number}
 use Rattle.built_values.specs.Values.{Val}
 use Rattle.built_values.specs.Depth.{Deep}
 use Rattle.built_values.specs.Answers.{run_of, ValueAnswer}
-use Rattle.built_values.specs.declared.ValueCheck.{ValueCheck}
-use Rattle.built_values.specs.declared.ValueCheck.TheVariants.{Value, NoValue, Refused}
 
 -- the run is within the records
 abbrev pub Within : List (List ℕ) → ℕ → ℕ → Type 0
@@ -31,26 +30,26 @@ pub record Served (records : List (List ℕ)) (edition start end : ℕ) (v : Edi
   pub shallow : Deep (run_of records start end) → ⊥
 
 -- `tells`: each answer is given exactly when its conditions hold
-pub record Tells (records : List (List ℕ)) (edition start end : ℕ) (answer : ValueCheck) : Type 0 where
-  pub yes_value : (answer ≡ Value) ↔ ((v : Edition) × Served records edition start end v × Val v (run_of records start end))
-  pub not_value : (answer ≡ NoValue)
+pub record Tells (records : List (List ℕ)) (edition start end : ℕ) (answer : Result Bool Refusal) : Type 0 where
+  pub yes_value : (answer ≡ Ok true) ↔ ((v : Edition) × Served records edition start end v × Val v (run_of records start end))
+  pub not_value : (answer ≡ Ok false)
       ↔ ((v : Edition) × Served records edition start end v × (Val v (run_of records start end) → ⊥))
-  pub outside : (answer ≡ Refused (OutOfPlace (length records))) ↔ ((length records < end) ⊎ (end < start))
-  pub no_edition : (answer ≡ Refused (NoEdition edition))
+  pub outside : (answer ≡ Err (OutOfPlace (length records))) ↔ ((length records < end) ⊎ (end < start))
+  pub no_edition : (answer ≡ Err (NoEdition edition))
       ↔ (Within records start end × ((v : Edition) → edition_number v ≡ edition → ⊥))
-  pub too_deep : (answer ≡ Refused TooDeep)
+  pub too_deep : (answer ≡ Err TooDeep)
       ↔ (Within records start end × ((v : Edition) × (edition_number v ≡ edition)) × Deep (run_of records start end))
 
 abbrev pub AnswersTell : Type 0
 AnswersTell =
-    (records : List (List ℕ)) (edition start end : ℕ) (answer : ValueCheck) → ValueAnswer records edition start end answer
+    (records : List (List ℕ)) (edition start end : ℕ) (answer : Result Bool Refusal) → ValueAnswer records edition start end answer
     → Tells records edition start end answer
 
 -- `kinds_alone`: the answer depends on the kinds of the run alone, and on the edition: not on the other numbers of the
 -- records, nor on the records around the run
 abbrev pub KindsAlone : Type 0
 KindsAlone =
-    (records others : List (List ℕ)) (edition start end from to : ℕ) (answer other : ValueCheck)
+    (records others : List (List ℕ)) (edition start end from to : ℕ) (answer other : Result Bool Refusal)
     → Within records start end → Within others from to → run_of records start end ≡ run_of others from to
     → ValueAnswer records edition start end answer → ValueAnswer others edition from to other → answer ≡ other
 
@@ -64,8 +63,8 @@ TenInEleven = (run : List ℕ) → Val Toml10 run → Val Toml11 run
 
 abbrev pub YesInBoth : Type 0
 YesInBoth =
-    (records : List (List ℕ)) (start end : ℕ) (answer : ValueCheck) → ValueAnswer records (edition_number Toml10) start end Value
-    → ValueAnswer records (edition_number Toml11) start end answer → answer ≡ Value
+    (records : List (List ℕ)) (start end : ℕ) (answer : Result Bool Refusal) → ValueAnswer records (edition_number Toml10) start end (Ok true)
+    → ValueAnswer records (edition_number Toml11) start end answer → answer ≡ Ok true
 
 -- so many arrays, each the one item of the one around it: n opening brackets, before the same number of closing ones
 abbrev pub opened : ℕ → List ℕ → List ℕ
@@ -80,12 +79,12 @@ abbrev pub nested : ℕ → List ℕ
 nested n = opened n (closed n)
 
 -- `nested_answers`: arrays nested as deep as the depth are answered, and are a value; one deeper is refused
-pub record NestedAnswers (records : List (List ℕ)) (start end n : ℕ) (v : Edition) (answer : ValueCheck) : Type 0 where
-  pub answered : 1 ≤ n → n ≤ depth → answer ≡ Value
-  pub refused : depth < n → answer ≡ Refused TooDeep
+pub record NestedAnswers (records : List (List ℕ)) (start end n : ℕ) (v : Edition) (answer : Result Bool Refusal) : Type 0 where
+  pub answered : 1 ≤ n → n ≤ depth → answer ≡ Ok true
+  pub refused : depth < n → answer ≡ Err TooDeep
 
 abbrev pub NestedTell : Type 0
 NestedTell =
-    (records : List (List ℕ)) (start end n : ℕ) (v : Edition) (answer : ValueCheck) → Within records start end
+    (records : List (List ℕ)) (start end n : ℕ) (v : Edition) (answer : Result Bool Refusal) → Within records start end
     → run_of records start end ≡ nested n → ValueAnswer records (edition_number v) start end answer
     → NestedAnswers records start end n v answer

@@ -1,6 +1,6 @@
 -- A whole value: what is spelt is derived, and leads every other basic string; and a literal string has the value as it is.
 -- Bytes and code points are spelt alike.
-use Prim.Native.Nat.{ℕ, suc, ◌+◌, ◌≤◌}
+use Prim.Native.Nat.{ℕ, suc, ◌≤◌}
 use mathlib.Core.Path.{◌≡◌, refl, sym, ◌∙◌, ap}
 use mathlib.Core.Bool.{Bool, true, false, cond}
 use mathlib.Core.List.{List, [], ◌∷◌, ◌++◌, append_assoc, append-nil}
@@ -20,8 +20,7 @@ use Rattle.theorems_grammar.specs.Grammar.{BasicChars, BasicString, basic_string
 use Rattle.theorems_grammar.proofs.ClassLaws.{literal_at, literal_is}
 use Rattle.theorems_grammar.proofs.Encoded.{Side, ascii, beyond, side, ascii_whole, char_bytes, chars_bytes}
 use Rattle.theorems_grammar.proofs.LineMarks.{marked, encodes_marked}
-use Rattle.built_writing.specs.declared.spell.Spelling.{Spelling}
-use Rattle.built_writing.specs.declared.spell.Spelling.TheVariants.{Short, Coded}
+use Rattle.std.specs.Prelude.{Option, Some, None}
 use Rattle.built_writing.specs.Writing.{spelling_of, spelling, spell, spelt, literal_text, basic_text}
 use Rattle.theorems_writing.proofs.Order.{Leads, leads_self, leads_join}
 use Rattle.theorems_writing.proofs.Spelling.{spelled, spelled_derived, spelled_ascii, one_char, spell_least}
@@ -94,9 +93,9 @@ basic_leads {v = v} (basic_string {t} d) =
     rw (encodes_marked 0x22 (omega arith) t, spelt_bytes v)
     (leads_join (leads_self (0x22 ∷ [])) (leads_join (spelt_least d) (leads_self (0x22 ∷ []))))
 
-spelling_some : (r : Spelling) (b : ℕ) → 1 ≤ length (spelling r b)
-spelling_some (Short x) b = omega arith
-spelling_some Coded b = omega arith
+spelling_some : (r : Option ℕ) (b : ℕ) → 1 ≤ length (spelling r b)
+spelling_some (Some x) b = omega arith
+spelling_some None b = omega arith
 
 spell_some : (b : ℕ) → 1 ≤ length (spell b)
 unfolding spell

@@ -12,6 +12,7 @@ use Rattle.text_classes.specs.Classes.{literal_char}
 use Rattle.text_classes.specs.Runs.{run}
 use Rattle.text_scalars.specs.Utf8.{Scalar, All, encodes, Utf8}
 use Rattle.text_refusals.specs.Refusals.{limit}
+use Rattle.std.specs.Prelude.{Ok, Err}
 use Rattle.text_refusals.specs.declared.Refusal.TheVariants.{ShortOutput}
 use Rattle.text_scalars.proofs.ReadLaws.{utf8_iff}
 use Rattle.text.proofs.AnswerLaws.{answer_valid}
@@ -22,7 +23,6 @@ use Rattle.theorems_grammar.specs.Strings.{StringKind, literal, basic, ml_litera
 use Rattle.theorems_grammar.proofs.ScalarTexts.{derived_scalar}
 use Rattle.theorems_grammar.proofs.LineMarks.{marked}
 use Rattle.built_writing.specs.Writing.{spelt, literal_text, basic_text, written, fit_text, write_answer}
-use Rattle.built_writing.specs.declared.Wrote.TheVariants.{Text, Refused}
 use Rattle.built_writing.proofs.TextLaws.{around_long, as_literal, as_basic, answer_checked}
 use Rattle.theorems_writing.specs.Shortest.{OneLine, Has, Shortest, ReadBack, WritesShortest}
 use Rattle.theorems_writing.proofs.Order.{not_after_both, Leads, leads_long, leads_level}
@@ -145,11 +145,11 @@ module _ (value : List ℕ) (u : Utf8 value) (small : length value ≤ limit) (o
   answer_is : fit_text (written value) o ≡ write_answer value o
   answer_is = answer_checked value o (answer_valid value small ((utf8_iff value).1 u))
 
-  answer_text : length (written value) ≤ o → write_answer value o ≡ Text (length (written value))
+  answer_text : length (written value) ≤ o → write_answer value o ≡ Ok (length (written value))
   unfolding fit_text
   answer_text h = sym answer_is ∙ rw (le-ltb o (length (written value)) h)
 
-  answer_short : o < length (written value) → write_answer value o ≡ Refused (ShortOutput (length (written value)))
+  answer_short : o < length (written value) → write_answer value o ≡ Err (ShortOutput (length (written value)))
   unfolding fit_text
   answer_short h = sym answer_is ∙ rw (lt-ltb o (length (written value)) h)
 

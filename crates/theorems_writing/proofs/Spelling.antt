@@ -16,8 +16,7 @@ use Rattle.theorems_grammar.specs.Grammar.{HexDig, HexDigits, stop, more, Escape
 use Rattle.theorems_grammar.proofs.ClassLaws.{basic_at, basic_is}
 use Rattle.theorems_grammar.proofs.Encoded.{ascii, beyond, side, AllAscii, ascii_whole}
 use Rattle.theorems_grammar.proofs.Escapes.{digits_long, digit_small, none_left, escape_ascii}
-use Rattle.built_writing.specs.declared.spell.Spelling.{Spelling}
-use Rattle.built_writing.specs.declared.spell.Spelling.TheVariants.{Coded}
+use Rattle.std.specs.Prelude.{Option, None}
 use Rattle.built_writing.specs.Writing.{hex_digit, spelling_of, spelling, spell}
 use Rattle.theorems_writing.specs.Shortest.{NotAfter, end, same}
 use Rattle.theorems_writing.proofs.Order.{not_after_cons, Leads, shorter, level, leads_self}
@@ -27,7 +26,7 @@ use Rattle.theorems_writing.proofs.Order.{not_after_cons, Leads, shorter, level,
 pub data Spelled (c : ℕ) : List ℕ → Type 0 where
   plainly : basic_unescaped c ≡ true → Spelled c (c ∷ [])
   shortly : {x : ℕ} → ((ed : Edition) → EscapeSeqChar ed (x ∷ []) c) → x < 0x80 → c < 0x80 → Spelled c (0x5C ∷ (x ∷ []))
-  by_code : c < 0x80 → Spelled c (spelling Coded c)
+  by_code : c < 0x80 → Spelled c (spelling None c)
 
 plain_high : (c : ℕ) → basic_unescaped c ≡ false → c < 0x80
 plain_high c e = elim (side c) [ ascii h ↦ h | beyond h ↦ not_both (basic_high c h) e ]
@@ -35,7 +34,7 @@ plain_high c e = elim (side c) [ ascii h ↦ h | beyond h ↦ not_both (basic_hi
 pub spelled : (c : ℕ) → Spelled c (spell c)
 unfolding spell spelling_of
 spelled c = cond_case (Spelled c) (basic_unescaped c) plainly λ n.
-    let P : Spelling → Type 0 = λ r. Spelled c (spelling r c) in
+    let P : Option ℕ → Type 0 = λ r. Spelled c (spelling r c) in
     by_eq P c 0x22 (λ e. rw e (shortly (λ ed. x22) (omega arith) (omega arith)))
     λ _. by_eq P c 0x5C (λ e. rw e (shortly (λ ed. x5C) (omega arith) (omega arith)))
     λ _. by_eq P c 0x08 (λ e. rw e (shortly (λ ed. x62) (omega arith) (omega arith)))
@@ -63,7 +62,7 @@ spelled_derived {c = c} s (by_code h) = BasicChar.escaped_char (escaped (x75 (co
 
 -- ---- its bytes
 
-coded_ascii : (c : ℕ) → c < 0x80 → AllAscii (spelling Coded c)
+coded_ascii : (c : ℕ) → c < 0x80 → AllAscii (spelling None c)
 coded_ascii c h =
     let digits : AllAscii (0x75 ∷ (0x30 ∷ (0x30 ∷ (hex_digit (c / 16) ∷ (hex_digit (c % 16) ∷ []))))) =
     escape_ascii {ed = Toml10} (x75 (coded_digits c h)) in

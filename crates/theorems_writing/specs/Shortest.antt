@@ -9,20 +9,19 @@
 -- The names: `written`, `write_answer`, `written_after` (crate built_writing) are the text of a value, and what `write_value`
 -- promises to answer and to leave in the output; `TextDerived`, `answer_of`, `output_of` (crate theorems_grammar) are a text in
 -- bytes that the grammar derives, and the same of the call `decode_in`; the others are those of Demand3.antt there.
-use Rattle.std.specs.Prelude.{ℕ, ◌+◌, ◌≤◌, ◌<◌}
+use Rattle.std.specs.Prelude.{ℕ, ◌+◌, ◌≤◌, ◌<◌, Some, Ok, Err}
 use mathlib.Core.{Path.◌≡◌, List.List, List.[], List.◌∷◌, List.◌++◌, List.Memᴰ}
 use lib.{ListN.length, ListN.drop}
 use Rattle.text_scalars.specs.{Utf8.encodes, Utf8.Utf8}
 use Rattle.text_refusals.specs.{Refusals.limit}
 use Rattle.text_refusals.specs.declared.Refusal.TheVariants.{ShortOutput}
-use Rattle.decoder_rules.specs.declared.{Edition.Edition, Edition.TheVariants.Toml10, Decoded.TheVariants.Written}
-use Rattle.decoder_rules.specs.{Decoding.bytes_of, Decoding.errors_of}
+use Rattle.decoder_rules.specs.declared.{Edition.Edition, Edition.TheVariants.Toml10}
+use Rattle.decoder_rules.specs.{Decoding.bytes_of, Decoding.errors_of, Decoding.written as answered_with}
 use Rattle.lexer_token.specs.{Records.token_of, declared.Token.Token}
 use Rattle.lexer.specs.{Tokens.tokens_of, Tokens.eof_at, Lines.line_of, Steps.cursor_of, Steps.step_of}
-use Rattle.lexer.specs.declared.{Cursor.Cursor, Step.TheVariants.Token as Next}
+use Rattle.lexer.specs.declared.{Cursor.Cursor}
 use Rattle.theorems_grammar.specs.{Strings.StringKind, Strings.literal, Strings.basic, Strings.ml_literal, Strings.ml_basic, Strings.token_kind, Strings.encoding, Strings.mark, Strings.Apart, Demand3.TextDerived, Demand3.answer_of, Demand3.output_of}
 use Rattle.built_writing.specs.{Writing.written, Writing.write_answer, Writing.written_after}
-use Rattle.built_writing.specs.declared.Wrote.TheVariants.{Text, Refused}
 
 -- ---- texts, and which of them comes first
 
@@ -68,8 +67,10 @@ pub record ReadBack (k : StringKind) (value text : List ℕ) : Type 0 where
   pub step : (doc : List ℕ) → length doc ≤ limit → (c : Cursor) → c.line ≤ c.place + 1
       → (rest : List ℕ) → drop c.place doc ≡ text ++ rest → Apart (mark k) rest
       → step_of doc c
-      ≡ Next (token_of (token_kind k) c.place (c.place + length text) c.line)
-      (cursor_of (c.place + length text) c.line c.ended)
+      ≡ Ok (Some (
+        token_of (token_kind k) c.place (c.place + length text) c.line,
+        cursor_of (c.place + length text) c.line c.ended,
+      ))
   -- and where whole lexing has a token r that starts there, r is that token
   pub token : (doc : List ℕ) (r : Token) → Memᴰ r (tokens_of doc)
       → (rest : List ℕ) → drop r.span.start doc ≡ text ++ rest → Apart (mark k) rest
@@ -79,7 +80,7 @@ pub record ReadBack (k : StringKind) (value text : List ℕ) : Type 0 where
   pub value_back : (ed : Edition) → bytes_of (encoding ed k) text ≡ value
   -- and so it is answered by `decode_in`, given room for the value: its length and no error, and it stands in the output
   pub answered : (ed : Edition) (out : List ℕ) (e : ℕ) → length value ≤ length out
-      → answer_of ed k text out e ≡ Written (length value) 0
+      → answer_of ed k text out e ≡ answered_with (length value) 0
   pub output : (ed : Edition) (out : List ℕ) (e : ℕ) → length value ≤ length out
       → output_of ed k text out e ≡ value ++ drop (length value) out
 
@@ -93,13 +94,13 @@ pub record Writes (value : List ℕ) : Type 0 where
   pub back : length (written value) ≤ limit → ReadBack best.kind value (written value)
   -- a value within the limit is written, with the text's length as answer, wherever the text fits, past the limit too
   pub answered : length value ≤ limit → (out : List ℕ) → length (written value) ≤ length out
-      → write_answer value (length out) ≡ Text (length (written value))
+      → write_answer value (length out) ≡ Ok (length (written value))
   pub output : length value ≤ limit → (out : List ℕ) → length (written value) ≤ length out
       → written_after (write_answer value (length out)) (written value) out
       ≡ written value ++ drop (length (written value)) out
   -- and refused with that length wherever it does not
   pub refused : length value ≤ limit → (out : List ℕ) → length out < length (written value)
-      → write_answer value (length out) ≡ Refused (ShortOutput (length (written value)))
+      → write_answer value (length out) ≡ Err (ShortOutput (length (written value)))
 
 abbrev pub WritesShortest : Type 0
 WritesShortest = (value : List ℕ) → Utf8 value → Writes value

@@ -14,7 +14,7 @@ use Rattle.built_broken.specs.Broken.{is_utf8}
 use Rattle.built_broken.specs.Walk.{front_text, AskedOf, Looked}
 use Rattle.built_broken.specs.declared.look.Asks.TheVariants.{Nothing}
 use Rattle.built_broken.specs.declared.look.Look.{Look}
-use Rattle.built_broken.proofs.TurnLaws.{read_as, turn_refused, walk_sound, walk_other, walk_clean, walk_broken, walk_start, at_end}
+use Rattle.built_broken.proofs.TurnLaws.{read_as, turn_refused, walk_undecoded, walk_clean, walk_broken, walk_start, at_end}
 use Rattle.built_broken.proofs.find.Goals as goal
 
 -- within a turn, once the token at the place `at` is looked at
@@ -39,105 +39,81 @@ module _ (v : Edition) (doc : List ℕ) (at : ℕ) (h : at < length doc) (look :
 pub loop-at-init : goal.loop-at-init
 loop-at-init c = rw c.start_of-at.ensures (walk_start c.args.doc.now (edition_number c.args.v))
 
-pub slice_bounds-is_readable-count : goal.slice_bounds-is_readable-count
-slice_bounds-is_readable-count c =
-    omega (arith, forward c.args.v c.args.doc.now c.loop-at.at c.loop-at-test.true c.look_at-look.result c.look_at-look.ensures)
+pub slice_bounds-text-count : goal.slice_bounds-text-count
+slice_bounds-text-count c =
+    omega (arith, forward c.args.v c.args.doc.now c.loop-at.at c.loop-at-test.true c.look_at-asks.result c.look_at-asks.ensures)
 
-pub slice_bounds-is_readable-start : goal.slice_bounds-is_readable-start
-slice_bounds-is_readable-start c =
-    omega (arith, forward c.args.v c.args.doc.now c.loop-at.at c.loop-at-test.true c.look_at-look.result c.look_at-look.ensures)
+pub slice_bounds-text-start : goal.slice_bounds-text-start
+slice_bounds-text-start c =
+    omega (arith, forward c.args.v c.args.doc.now c.loop-at.at c.loop-at-test.true c.look_at-asks.result c.look_at-asks.ensures)
 
-pub slice_bounds-is_readable-end : goal.slice_bounds-is_readable-end
-slice_bounds-is_readable-end c = ends c.args.v c.args.doc.now c.loop-at.at c.loop-at-test.true c.look_at-look.result c.look_at-look.ensures
+pub slice_bounds-text-end : goal.slice_bounds-text-end
+slice_bounds-text-end c = ends c.args.v c.args.doc.now c.loop-at.at c.loop-at-test.true c.look_at-asks.result c.look_at-asks.ensures
 
 pub is_readable-requires : goal.is_readable-requires
 is_readable-requires c =
     let doc = c.args.doc.now in
     let at = c.loop-at.at in
-    omega (arith, c.requires, length-take (c.look_at-look.result.end - at) (drop at doc), length-drop at doc)
+    omega (arith, c.requires, length-take (c.look_at-asks.result.end - at) (drop at doc), length-drop at doc)
 
 pub refusal_at-requires : goal.refusal_at-requires
 refusal_at-requires c =
     let told = c.is_readable.ensures in
-    let look = c.look_at-look in
+    let look = c.look_at-asks in
     let utf8 = read c.args.v c.args.doc.now c.loop-at.at c.loop-at-test.true look.result look.ensures _ told.0 told.1 in
     (c.requires, c.loop-at-test.true, look.ensures.end, c.loop-at.invariant.front, utf8 ∙ c.if-not-is_readable.true)
 
 pub returns-then-not-is_readable : goal.returns-then-not-is_readable
 returns-then-not-is_readable c =
     let told = c.is_readable.ensures in
-    let look = c.look_at-look in
+    let look = c.look_at-asks in
     let h = c.loop-at-test.true in
     let utf8 = read c.args.v c.args.doc.now c.loop-at.at h look.result look.ensures _ told.0 told.1 in
     c.refusal_at.ensures ∙ sym (turn_refused c.args.doc.now (edition_number c.args.v) c.loop-at.at h (utf8 ∙ c.if-not-is_readable.true))
     ∙ c.loop-at.invariant.same
 
-pub loop-at-smaller-in-Nothing : goal.loop-at-smaller-in-Nothing
-loop-at-smaller-in-Nothing c =
-    omega (arith, forward c.args.v c.args.doc.now c.loop-at.at c.loop-at-test.true c.look_at-look.result c.look_at-look.ensures)
-
-pub loop-at-preserved-in-Nothing : goal.loop-at-preserved-in-Nothing
-loop-at-preserved-in-Nothing c =
-    let told = c.is_readable.ensures in
-    let look = c.look_at-look in
-    let h = c.loop-at-test.true in
-    let utf8 = read c.args.v c.args.doc.now c.loop-at.at h look.result look.ensures _ told.0 told.1 in
-    let asked = subst (AskedOf c.args.v (drop c.loop-at.at c.args.doc.now)) c.in-Nothing.is look.ensures.asks in
-    walk_sound c.args.v c.args.doc.now c.loop-at.at h _ c.loop-at.invariant (utf8 ∙ c.if-not-is_readable.false) _ look.ensures.end asked.1
-
-pub loop-at-smaller-in-Characters : goal.loop-at-smaller-in-Characters
-loop-at-smaller-in-Characters c =
-    omega (arith, forward c.args.v c.args.doc.now c.loop-at.at c.loop-at-test.true c.look_at-look.result c.look_at-look.ensures)
-
-pub loop-at-preserved-in-Characters : goal.loop-at-preserved-in-Characters
-loop-at-preserved-in-Characters c =
-    let told = c.is_readable.ensures in
-    let look = c.look_at-look in
-    let h = c.loop-at-test.true in
-    let utf8 = read c.args.v c.args.doc.now c.loop-at.at h look.result look.ensures _ told.0 told.1 in
-    let asked = subst (AskedOf c.args.v (drop c.loop-at.at c.args.doc.now)) c.in-Characters.is look.ensures.asks in
-    walk_other c.args.v c.args.doc.now c.loop-at.at h _ c.loop-at.invariant (utf8 ∙ c.if-not-is_readable.false) _ look.ensures.end asked
-
-pub slice_bounds-first_error-count : goal.slice_bounds-first_error-count
-slice_bounds-first_error-count c =
-    omega (arith, forward c.args.v c.args.doc.now c.loop-at.at c.loop-at-test.true c.look_at-look.result c.look_at-look.ensures)
-
-pub slice_bounds-first_error-start : goal.slice_bounds-first_error-start
-slice_bounds-first_error-start c =
-    omega (arith, forward c.args.v c.args.doc.now c.loop-at.at c.loop-at-test.true c.look_at-look.result c.look_at-look.ensures)
-
-pub slice_bounds-first_error-end : goal.slice_bounds-first_error-end
-slice_bounds-first_error-end c = ends c.args.v c.args.doc.now c.loop-at.at c.loop-at-test.true c.look_at-look.result c.look_at-look.ensures
-
 pub loop-at-smaller : goal.loop-at-smaller
 loop-at-smaller c =
-    omega (arith, forward c.args.v c.args.doc.now c.loop-at.at c.loop-at-test.true c.look_at-look.result c.look_at-look.ensures)
+    omega (arith, forward c.args.v c.args.doc.now c.loop-at.at c.loop-at-test.true c.look_at-asks.result c.look_at-asks.ensures)
 
 pub loop-at-preserved : goal.loop-at-preserved
 loop-at-preserved c =
+    let told = c.is_readable.ensures in
+    let look = c.look_at-asks in
+    let h = c.loop-at-test.true in
+    let utf8 = read c.args.v c.args.doc.now c.loop-at.at h look.result look.ensures _ told.0 told.1 in
+    walk_undecoded c.args.v c.args.doc.now c.loop-at.at h _ c.loop-at.invariant (utf8 ∙ c.if-not-is_readable.false) _ look.ensures.end
+    look.result.asks look.ensures.asks c.in_default.not-Decoding
+
+pub loop-at-smaller-in_default-first_error : goal.loop-at-smaller-in_default-first_error
+loop-at-smaller-in_default-first_error c =
+    omega (arith, forward c.args.v c.args.doc.now c.loop-at.at c.loop-at-test.true c.look_at-asks.result c.look_at-asks.ensures)
+
+pub loop-at-preserved-in_default-first_error : goal.loop-at-preserved-in_default-first_error
+loop-at-preserved-in_default-first_error c =
     let v = c.args.v in
     let doc = c.args.doc.now in
     let at = c.loop-at.at in
     let told = c.is_readable.ensures in
-    let look = c.look_at-look in
+    let look = c.look_at-asks in
     let h = c.loop-at-test.true in
     let utf8 = read v doc at h look.result look.ensures _ told.0 told.1 in
     let asked = subst (AskedOf v (drop at doc)) c.in-Decoding.is look.ensures.asks in
     walk_clean v doc at h _ c.loop-at.invariant (utf8 ∙ c.if-not-is_readable.false) _ look.ensures.end _ asked _
-    (text v doc at h look.result look.ensures) _ c.first_error.ensures c.in-Clean.is
+    (text v doc at h look.result look.ensures) _ c.first_error.ensures c.in_default-first_error.is
 
-pub returns-in-Wrong : goal.returns-in-Wrong
-returns-in-Wrong c =
+pub returns-in-Some : goal.returns-in-Some
+returns-in-Some c =
     let v = c.args.v in
     let doc = c.args.doc.now in
     let at = c.loop-at.at in
     let told = c.is_readable.ensures in
-    let look = c.look_at-look in
+    let look = c.look_at-asks in
     let h = c.loop-at-test.true in
     let utf8 = read v doc at h look.result look.ensures _ told.0 told.1 in
     let asked = subst (AskedOf v (drop at doc)) c.in-Decoding.is look.ensures.asks in
     walk_broken v doc at h _ c.loop-at.invariant (utf8 ∙ c.if-not-is_readable.false) _ look.ensures.end _ asked _
-    (text v doc at h look.result look.ensures) _ c.first_error.ensures _ _ _ c.in-Wrong.is _ c.string_token-token.ensures _ c.recorded.ensures
+    (text v doc at h look.result look.ensures) _ c.first_error.ensures _ c.in-Some.is _ c.string_token.ensures _ c.recorded.ensures
 
 pub returns : goal.returns
 returns c = sym (at_end c.args.doc.now (edition_number c.args.v) c.loop-at.at c.loop-at-test.false) ∙ c.loop-at.invariant.same

@@ -56,13 +56,13 @@ overflow_add-result c =
       | then-end-doc w ↦ with_next a.doc.now a.at a.end _ c.requires.1 c.requires.2 w.if-end-doc.true w.stop-is
       | else-end-doc w ↦ to_the_end a.doc.now a.at a.end _ c.requires.1 c.requires.2 w.if-end-doc.false w.stop-is
     ] in
-    let r = sym c.in-Refused.is ∙ c.check_utf8.ensures.answer ∙ ap check_of k.part in
+    let r = sym c.in-Err.is ∙ c.check_utf8.ensures.answer ∙ ap check_of k.part in
     let value =
     value_told a.doc.now a.at (token_len s) (omega arith) c.requires.3 (token_clean s) (token_fits s) (unread _ c.requires.4) c.requires.0 _ r in
     omega (arith, c.value.ensures, value, valid_le (take (suc (token_len s)) s), length-take (suc (token_len s)) s, length-drop a.at a.doc.now)
 
-pub returns-in-Valid : goal.returns-in-Valid
-returns-in-Valid c =
+pub returns-in-Ok : goal.returns-in-Ok
+returns-in-Ok c =
     let a = c.args in
     let s = drop a.at a.doc.now in
     let k : Stopped a.doc.now a.at c.if-end-doc.stop = elim c.if-end-doc.branch [
@@ -70,16 +70,16 @@ returns-in-Valid c =
       | else-end-doc w ↦ to_the_end a.doc.now a.at a.end _ c.requires.1 c.requires.2 w.if-end-doc.false w.stop-is
     ] in
     absurd (token_invalid a.doc.now a.at (token_len s) (omega arith) c.requires.3 (token_clean s) (token_fits s) (unread _ c.requires.4)
-    (sym c.in-Valid.is ∙ c.check_utf8.ensures.answer ∙ ap check_of k.part))
+    (sym c.in-Ok.is ∙ c.check_utf8.ensures.answer ∙ ap check_of k.part))
 
-pub returns-in-Refused : goal.returns-in-Refused
-returns-in-Refused c =
+pub returns-in-Err : goal.returns-in-Err
+returns-in-Err c =
     let a = c.args in
     let s = drop a.at a.doc.now in
     let k : Stopped a.doc.now a.at c.if-end-doc.stop = elim c.if-end-doc.branch [
       | then-end-doc w ↦ with_next a.doc.now a.at a.end _ c.requires.1 c.requires.2 w.if-end-doc.true w.stop-is
       | else-end-doc w ↦ to_the_end a.doc.now a.at a.end _ c.requires.1 c.requires.2 w.if-end-doc.false w.stop-is
     ] in
-    let r = sym c.in-Refused.is ∙ c.check_utf8.ensures.answer ∙ ap check_of k.part in
+    let r = sym c.in-Err.is ∙ c.check_utf8.ensures.answer ∙ ap check_of k.part in
     rw (c.value.ensures, c.length.ensures)
     (fault_told a.doc.now a.at (token_len s) (omega arith) c.requires.3 (token_clean s) (token_fits s) (unread _ c.requires.4) c.requires.0 _ r)

@@ -8,7 +8,7 @@ use lib.ListN.{length, length-take, length-drop}
 use Rattle.decoder_rules.specs.Pieces.{notes}
 use Rattle.decoder_pieces.specs.declared.body.Body.{Body}
 use Rattle.decoder_pieces.specs.Steps.{body_bytes, body_after, errors_left}
-use Rattle.decoder_pieces.proofs.StepLaws.{step_turn, none_left, ended_none, shorter}
+use Rattle.decoder_pieces.proofs.StepLaws.{past_fits, step_turn, none_left, ended_none, shorter}
 use Rattle.built_figures.proofs.BodyLaws.{errors_turn, front_room, sound_shorter, sound_fits, count_on, count_sound, count_end}
 use Rattle.built_figures.proofs.count_body.Goals as goal
 
@@ -21,26 +21,19 @@ loop-body-init c = record { within = c.requires.0; room = c.requires.1; whole = 
 pub slice_bounds-sound_at-end : goal.slice_bounds-sound_at-end
 slice_bounds-sound_at-end c = c.loop-body.invariant.within
 
-pub past-body-requires : goal.past-body-requires
-past-body-requires c =
-    let text = c.args.text.now in
-    let b = c.loop-body.body in
-    let some = more b text c.loop-body-test.true c.loop-body.invariant.within in
-    omega (arith, sound_fits c.args.e text b _ some (c.sound_at-n.ensures c.if-n-gt0.true))
-
 pub loop-body-smaller-then-n-gt0 : goal.loop-body-smaller-then-n-gt0
 loop-body-smaller-then-n-gt0 c =
     let text = c.args.text.now in
     let b = c.loop-body.body in
     let some = more b text c.loop-body-test.true c.loop-body.invariant.within in
-    rw c.past-body.ensures (sound_shorter c.args.e text b _ some (c.sound_at-n.ensures c.if-n-gt0.true))
+    rw (c.past-body.ensures ∙ past_fits b _ (omega (arith, sound_fits c.args.e text b _ some (c.sound_at-n.ensures c.if-n-gt0.true)))) (sound_shorter c.args.e text b _ some (c.sound_at-n.ensures c.if-n-gt0.true))
 
 pub loop-body-preserved-then-n-gt0 : goal.loop-body-preserved-then-n-gt0
 loop-body-preserved-then-n-gt0 c =
     let text = c.args.text.now in
     let b = c.loop-body.body in
     let some = more b text c.loop-body-test.true c.loop-body.invariant.within in
-    rw c.past-body.ensures (count_sound c.args.e text c.loop-body.invariant _ some (c.sound_at-n.ensures c.if-n-gt0.true))
+    rw (c.past-body.ensures ∙ past_fits b _ (omega (arith, sound_fits c.args.e text b _ some (c.sound_at-n.ensures c.if-n-gt0.true)))) (count_sound c.args.e text c.loop-body.invariant _ some (c.sound_at-n.ensures c.if-n-gt0.true))
 
 pub count_error-requires : goal.count_error-requires
 unfolding notes
@@ -48,8 +41,8 @@ count_error-requires c =
     let e = c.args.e in
     let text = c.args.text.now in
     let b = c.loop-body.body in
-    let p = c.in-Piece.p in
-    let turn = (step_turn e text b _ _ (sym c.step.ensures ∙ c.in-Piece.is)).0 in
+    let p = c.in-Some.p in
+    let turn = (step_turn e text b _ _ (sym c.step.ensures ∙ c.in-Some.is)).0 in
     front_room c.loop-body.figures _ (notes p) (errors_left e text (body_after b p)) (errors_turn e text b _ turn) c.loop-body.invariant.room
 
 pub loop-body-smaller : goal.loop-body-smaller
@@ -57,7 +50,7 @@ loop-body-smaller c =
     let e = c.args.e in
     let text = c.args.text.now in
     let b = c.loop-body.body in
-    let turn = step_turn e text b _ _ (sym c.step.ensures ∙ c.in-Piece.is) in
+    let turn = step_turn e text b _ _ (sym c.step.ensures ∙ c.in-Some.is) in
     rw turn.1 (shorter e text b _ turn.0)
 
 pub loop-body-preserved : goal.loop-body-preserved
@@ -65,14 +58,14 @@ unfolding notes
 loop-body-preserved c =
     let e = c.args.e in
     let text = c.args.text.now in
-    let turn = step_turn e text c.loop-body.body _ _ (sym c.step.ensures ∙ c.in-Piece.is) in
+    let turn = step_turn e text c.loop-body.body _ _ (sym c.step.ensures ∙ c.in-Some.is) in
     rw turn.1 (count_on e text c.loop-body.invariant _ turn.0 _ c.count_error.ensures)
 
 pub returns-after-loop-body : goal.returns-after-loop-body
 returns-after-loop-body c =
     count_end c.args.e c.args.text.now c.loop-body.invariant (ended_none c.loop-body.body c.args.text.now c.loop-body-test.false)
 
-pub returns-in-End : goal.returns-in-End
-returns-in-End c =
-    let step = sym c.step.ensures ∙ c.in-End.is in
+pub returns-in-None : goal.returns-in-None
+returns-in-None c =
+    let step = sym c.step.ensures ∙ c.in-None.is in
     count_end c.args.e c.args.text.now c.loop-body.invariant (none_left c.args.e c.args.text.now c.loop-body.body step)

@@ -1,10 +1,8 @@
 -- `count_errors` is right because a text's errors are those of its marks and then those of its body.
 use Prim.Native.Nat.{ℕ}
-use mathlib.Core.Path.{◌≡◌, refl, sym, ap, ◌∙◌}
+use mathlib.Core.Path.{◌≡◌, refl, ap, ◌∙◌}
 use mathlib.Core.List.{List, ◌++◌}
 use Rattle.decoder_rules.specs.Pieces.{notes_of}
-use Rattle.decoder_rules.specs.Decoding.{errors_of}
-use Rattle.decoder_pieces.specs.Steps.{errors_left}
 use Rattle.decoder_marks.proofs.OpenLaws.{opened_errors, opened_fits}
 use Rattle.built_figures.specs.Figures.{added}
 use Rattle.built_figures.specs.Counting.{Room, error_figures}

@@ -1,9 +1,8 @@
 -- `count_in` is right because what a document adds goes by its length and then by the check.
 use Prim.Native.Nat.{ℕ}
-use mathlib.Core.Path.{◌≡◌, sym, ap, ◌∙◌}
+use mathlib.Core.Path.{sym, ap, ◌∙◌}
 use mathlib.Core.List.{List}
 use native.Mathlib.Omega.{arith}
-use borrow.Author.Rules.{rules}
 use lib.ListN.{length, set}
 use Rattle.built_figures.proofs.AnswerLaws.{long, short}
 use Rattle.built_figures.proofs.count_in.Goals as goal
@@ -19,9 +18,9 @@ returns-then-doc-gt-MOST c =
 pub bounds-figures-31 : goal.bounds-figures-31
 bounds-figures-31 c = omega (arith, ap length c.requires)
 
-pub returns-in-Refused : goal.returns-in-Refused
-returns-in-Refused c =
-    let check = sym c.check_utf8.ensures.answer ∙ c.in-Refused.is in
+pub returns-in-Err : goal.returns-in-Err
+returns-in-Err c =
+    let check = sym c.check_utf8.ensures.answer ∙ c.in-Err.is in
     let is = short c.args.doc.now c.if-doc-gt-MOST.false _ check in
     record { verdict = sym is.verdict; figures = ap (λ (r : List ℕ). set r 31 1) c.requires ∙ sym is.figures }
 

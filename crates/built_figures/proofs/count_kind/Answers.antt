@@ -1,5 +1,4 @@
 -- `count_kind` is right because a kind is counted at its own place in the table.
-use borrow.Author.Rules.{rules}
 use Rattle.built_figures.proofs.FigureLaws.{kind_at}
 use Rattle.built_figures.proofs.count_kind.Goals as goal
 

@@ -1,6 +1,5 @@
 -- `count_one` is right because there is room for one more at that place.
 use native.Mathlib.Omega.{arith}
-use borrow.Author.Rules.{rules}
 use Rattle.built_figures.proofs.FigureLaws.{one_more, one_fits}
 use Rattle.built_figures.proofs.count_one.Goals as goal
 

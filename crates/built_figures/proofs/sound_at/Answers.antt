@@ -1,6 +1,5 @@
 -- `sound_at` is right because a run of plain bytes, outside a line-ending escape, and an escape that stands for a character are
 -- each the rule's piece, and neither has an error.
-use borrow.Author.Rules.{rules}
 use Rattle.built_figures.proofs.BodyLaws.{plain_sound, escape_sound}
 use Rattle.built_figures.proofs.sound_at.Goals as goal
 
@@ -10,7 +9,7 @@ returns-then-n-gt0 c = λ h.
     let run = c.plain_run-n in
     rw c.if-not-dropping.true (plain_sound a.e a.s.now run.result run.ensures h)
 
-pub returns : goal.returns
-returns c = λ h.
+pub returns-in-Some : goal.returns-in-Some
+returns-in-Some c = λ h.
     let a = c.args in
-    escape_sound a.e a.dropping a.s.now c.escape_at.result c.escape_at.ensures h
+    escape_sound a.e a.dropping a.s.now _ c.in-Some.ensures

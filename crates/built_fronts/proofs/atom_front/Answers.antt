@@ -1,8 +1,7 @@
 -- `atom_front` is right because a byte that goes on leaves the end of the run where it was.
-use Rattle.std.proofs.Common.{◌≡◌, ℕ, ◌+◌, ◌<◌, List, length, get_or, true, arith, sym, ◌∙◌, refl}
+use Rattle.std.proofs.Common.{◌≡◌, ℕ, ◌+◌, ◌<◌, List, length, get_or, true, arith, sym, ◌∙◌}
 use Rattle.text_classes.proofs.RunLaws.{run_step, run_stop, Block, block_step}
 use Rattle.built_fronts.specs.Fronts.{ascii_atom}
-use Rattle.built_fronts.proofs.atom_front.Goals.{then-doc-lt4, else-doc-lt4}
 use Rattle.built_fronts.proofs.atom_front.Goals as goal
 
 -- the bytes of a turn that go on, one after another
@@ -17,54 +16,45 @@ module _ (doc : List ℕ) (i : ℕ) (within : i + 3 < length doc) where
       → Block ascii_atom doc i 3
   three a b d = block_step ascii_atom doc i 2 (omega arith) d (two a b)
 
-pub loop-i-init : goal.loop-i-init
-loop-i-init c = record {
-  room = elim c.if-doc-lt4.branch [
-    | then-doc-lt4 w ↦ omega arith
-    | else-doc-lt4 w ↦ omega arith
-  ];
-  same_end = refl;
-}
-
-pub returns-then-not-is_ascii_atom : goal.returns-then-not-is_ascii_atom
-returns-then-not-is_ascii_atom c =
-    let stop = sym c.is_ascii_atom.ensures ∙ c.if-not-is_ascii_atom.true in
+pub returns-then-not-holds : goal.returns-then-not-holds
+returns-then-not-holds c =
+    let stop = sym c.holds.ensures ∙ c.if-not-holds.true in
     omega (arith, run_stop ascii_atom c.args.doc.now c.loop-i.i (omega arith) stop)
 
-pub returns-then-not-is_ascii_atom-2 : goal.returns-then-not-is_ascii_atom-2
-returns-then-not-is_ascii_atom-2 c =
+pub returns-then-not-holds-2 : goal.returns-then-not-holds-2
+returns-then-not-holds-2 c =
     let doc = c.args.doc.now in
     let i = c.loop-i.i in
-    let a = sym c.is_ascii_atom.ensures ∙ c.if-not-is_ascii_atom.false in
-    let stop = sym c.is_ascii_atom-in-loop-i.ensures ∙ c.if-not-is_ascii_atom-2.true in
+    let a = sym c.holds.ensures ∙ c.if-not-holds.false in
+    let stop = sym c.holds-in-loop-i.ensures ∙ c.if-not-holds-2.true in
     omega (arith, one doc i (omega arith) a, run_stop ascii_atom doc (i + 1) (omega arith) stop)
 
-pub returns-then-not-is_ascii_atom-3 : goal.returns-then-not-is_ascii_atom-3
-returns-then-not-is_ascii_atom-3 c =
+pub returns-then-not-holds-3 : goal.returns-then-not-holds-3
+returns-then-not-holds-3 c =
     let doc = c.args.doc.now in
     let i = c.loop-i.i in
-    let a = sym c.is_ascii_atom.ensures ∙ c.if-not-is_ascii_atom.false in
-    let b = sym c.is_ascii_atom-in-loop-i.ensures ∙ c.if-not-is_ascii_atom-2.false in
-    let stop = sym c.is_ascii_atom-in-loop-i-2.ensures ∙ c.if-not-is_ascii_atom-3.true in
+    let a = sym c.holds.ensures ∙ c.if-not-holds.false in
+    let b = sym c.holds-in-loop-i.ensures ∙ c.if-not-holds-2.false in
+    let stop = sym c.holds-in-loop-i-2.ensures ∙ c.if-not-holds-3.true in
     omega (arith, two doc i (omega arith) a b, run_stop ascii_atom doc (i + 2) (omega arith) stop)
 
-pub returns-then-not-is_ascii_atom-4 : goal.returns-then-not-is_ascii_atom-4
-returns-then-not-is_ascii_atom-4 c =
+pub returns-then-not-holds-4 : goal.returns-then-not-holds-4
+returns-then-not-holds-4 c =
     let doc = c.args.doc.now in
     let i = c.loop-i.i in
-    let a = sym c.is_ascii_atom.ensures ∙ c.if-not-is_ascii_atom.false in
-    let b = sym c.is_ascii_atom-in-loop-i.ensures ∙ c.if-not-is_ascii_atom-2.false in
-    let d = sym c.is_ascii_atom-in-loop-i-2.ensures ∙ c.if-not-is_ascii_atom-3.false in
-    let stop = sym c.is_ascii_atom-in-loop-i-3.ensures ∙ c.if-not-is_ascii_atom-4.true in
+    let a = sym c.holds.ensures ∙ c.if-not-holds.false in
+    let b = sym c.holds-in-loop-i.ensures ∙ c.if-not-holds-2.false in
+    let d = sym c.holds-in-loop-i-2.ensures ∙ c.if-not-holds-3.false in
+    let stop = sym c.holds-in-loop-i-3.ensures ∙ c.if-not-holds-4.true in
     omega (arith, three doc i (omega arith) a b d, run_stop ascii_atom doc (i + 3) (omega arith) stop)
 
 pub loop-i-preserved : goal.loop-i-preserved
 loop-i-preserved c =
     let doc = c.args.doc.now in
     let i = c.loop-i.i in
-    let a = sym c.is_ascii_atom.ensures ∙ c.if-not-is_ascii_atom.false in
-    let b = sym c.is_ascii_atom-in-loop-i.ensures ∙ c.if-not-is_ascii_atom-2.false in
-    let d = sym c.is_ascii_atom-in-loop-i-2.ensures ∙ c.if-not-is_ascii_atom-3.false in
-    let e = sym c.is_ascii_atom-in-loop-i-3.ensures ∙ c.if-not-is_ascii_atom-4.false in
+    let a = sym c.holds.ensures ∙ c.if-not-holds.false in
+    let b = sym c.holds-in-loop-i.ensures ∙ c.if-not-holds-2.false in
+    let d = sym c.holds-in-loop-i-2.ensures ∙ c.if-not-holds-3.false in
+    let e = sym c.holds-in-loop-i-3.ensures ∙ c.if-not-holds-4.false in
     let block = block_step ascii_atom doc i 3 (omega arith) e (three doc i (omega arith) a b d) in
-    record { room = c.loop-i.invariant.room; same_end = omega (arith, block) }
+    omega (arith, block)

@@ -1,5 +1,5 @@
 -- `is_plain_in` is right because the bytes that stand for themselves are the same in every edition.
-use Rattle.std.proofs.Common.{sym, ap, ◌∙◌, rules}
+use Rattle.std.proofs.Common.{sym, ap, ◌∙◌}
 use Rattle.built_fronts.specs.Fronts.{plain_of}
 use Rattle.built_fronts.specs.declared.Line.{Line}
 use Rattle.built_fronts.proofs.is_plain_in.Goals as goal

@@ -28,7 +28,7 @@ copy_in-o1-requires c =
     let t = c.token_at-next in
     let r = c.reading_of in
     let pre = c.requires in
-    let s = filled_space a.doc.now l.at l.line c.loop-at-test.true t.result.token t.ensures.token a.edition t.result.line t.ensures.line r.result r.ensures a.output.now a.records.now l.invariant c.in-Broken.e c.in-Broken.is pre.1 pre.2 in
+    let s = filled_space a.doc.now l.at l.line c.loop-at-test.true t.result.token t.ensures.token a.edition t.result.line t.ensures.line r.result r.ensures a.output.now a.records.now l.invariant c.in-Some.e c.in-Some.is pre.1 pre.2 in
     (l.invariant.back, l.invariant.within, omega (arith, s.0))
 
 pub slice_bounds-replace-count : goal.slice_bounds-replace-count
@@ -62,27 +62,27 @@ replace-done-requires c =
     let t = c.token_at-next in
     let r = c.reading_of in
     let pre = c.requires in
-    let s = filled_space a.doc.now l.at l.line c.loop-at-test.true t.result.token t.ensures.token a.edition t.result.line t.ensures.line r.result r.ensures a.output.now a.records.now l.invariant c.in-Broken.e c.in-Broken.is pre.1 pre.2 in
+    let s = filled_space a.doc.now l.at l.line c.loop-at-test.true t.result.token t.ensures.token a.edition t.result.line t.ensures.line r.result r.ensures a.output.now a.records.now l.invariant c.in-Some.e c.in-Some.is pre.1 pre.2 in
     let copy = c.copy_in-o1 in
     (omega (arith, s.0, copy.ensures.place, copy.auto.output), s.1)
 
-pub loop-at-smaller-in-Broken : goal.loop-at-smaller-in-Broken
-loop-at-smaller-in-Broken c =
+pub loop-at-smaller-in-Some : goal.loop-at-smaller-in-Some
+loop-at-smaller-in-Some c =
     let a = c.args in
     let l = c.loop-at in
     let t = c.token_at-next in
     let fits = token_within a.doc.now l.at l.line c.loop-at-test.true t.result.token t.ensures.token in
     omega (arith, fits.1, fits.2)
 
-pub loop-at-preserved-in-Broken : goal.loop-at-preserved-in-Broken
-loop-at-preserved-in-Broken c =
+pub loop-at-preserved-in-Some : goal.loop-at-preserved-in-Some
+loop-at-preserved-in-Some c =
     let a = c.args in
     let l = c.loop-at in
     let t = c.token_at-next in
     let r = c.reading_of in
     let copy = c.copy_in-o1 in
     let put = c.replace-done in
-    filled_replaced a.doc.now l.at l.line c.loop-at-test.true t.result.token t.ensures.token a.edition t.result.line t.ensures.line r.result r.ensures a.output.now a.records.now l.invariant c.in-Broken.e c.in-Broken.is
+    filled_replaced a.doc.now l.at l.line c.loop-at-test.true t.result.token t.ensures.token a.edition t.result.line t.ensures.line r.result r.ensures a.output.now a.records.now l.invariant c.in-Some.e c.in-Some.is
     (put.auto.output ∙ copy.auto.output) put.auto.records copy.ensures put.ensures.output put.ensures.records
 
 pub overflow_sub-quoted : goal.overflow_sub-quoted

@@ -40,8 +40,8 @@ returns-then-records-need c =
     wrote_few (mended a.edition a.doc.now) (listed a.edition a.doc.now) a.output.now a.records.now n.result.bytes n.result.records
     n.ensures.bytes c.if-need-gt-LIMIT.false c.if-output-need.false n.ensures.records c.if-records-need.true
 
-pub fill-done-requires : goal.fill-done-requires
-fill-done-requires c =
+pub fill-requires : goal.fill-requires
+fill-requires c =
     let a = c.args in
     let r : Fits a.doc.now a.edition (length a.output.now) (length a.records.now) =
     elim c.if-not-is_roomy.branch [
@@ -68,7 +68,7 @@ returns c =
       | else-not-is_roomy w ↦
           roomy a.doc.now a.edition _ _ (c.is_roomy.ensures w.if-not-is_roomy.false)
     ] in
-    let done = c.fill-done in
+    let done = c.fill in
     let n = front_long done.ensures.output in
     let m = front_long done.ensures.records in
     wrote_both (mended a.edition a.doc.now) (listed a.edition a.doc.now) a.output.now a.records.now

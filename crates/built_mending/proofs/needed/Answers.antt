@@ -65,22 +65,22 @@ overflow_add-n c =
     let r = c.reading_of in
     let need = c.replacement_needs-need in
     let gap = c.gap_width in
-    let same : gap.result + need.result.bytes ≡ length (gap_of l.quoted) + length (replacement (bytes_of c.in-Broken.e (between a.doc.now l.at t.result.token.span.end))) =
+    let same : gap.result + need.result.bytes ≡ length (gap_of l.quoted) + length (replacement (bytes_of c.in-Some.e (between a.doc.now l.at t.result.token.span.end))) =
     omega (arith, gap.ensures, need.ensures.bytes) in
-    let v = counted_replaced a.doc.now l.at l.line c.loop-at-test.true t.result.token t.ensures.token a.edition t.result.line t.ensures.line r.result r.ensures c.in-Broken.e c.in-Broken.is l.invariant same need.ensures.records in
+    let v = counted_replaced a.doc.now l.at l.line c.loop-at-test.true t.result.token t.ensures.token a.edition t.result.line t.ensures.line r.result r.ensures c.in-Some.e c.in-Some.is l.invariant same need.ensures.records in
     omega (arith, v.bytes, mended_most a.edition a.doc.now, c.requires)
 
-pub overflow_add-n-in-Broken : goal.overflow_add-n-in-Broken
-overflow_add-n-in-Broken c =
+pub overflow_add-n-in-Some : goal.overflow_add-n-in-Some
+overflow_add-n-in-Some c =
     let a = c.args in
     let l = c.loop-at in
     let t = c.token_at-next in
     let r = c.reading_of in
     let need = c.replacement_needs-need in
     let gap = c.gap_width in
-    let same : gap.result + need.result.bytes ≡ length (gap_of l.quoted) + length (replacement (bytes_of c.in-Broken.e (between a.doc.now l.at t.result.token.span.end))) =
+    let same : gap.result + need.result.bytes ≡ length (gap_of l.quoted) + length (replacement (bytes_of c.in-Some.e (between a.doc.now l.at t.result.token.span.end))) =
     omega (arith, gap.ensures, need.ensures.bytes) in
-    let v = counted_replaced a.doc.now l.at l.line c.loop-at-test.true t.result.token t.ensures.token a.edition t.result.line t.ensures.line r.result r.ensures c.in-Broken.e c.in-Broken.is l.invariant same need.ensures.records in
+    let v = counted_replaced a.doc.now l.at l.line c.loop-at-test.true t.result.token t.ensures.token a.edition t.result.line t.ensures.line r.result r.ensures c.in-Some.e c.in-Some.is l.invariant same need.ensures.records in
     omega (arith, v.bytes, mended_most a.edition a.doc.now, c.requires)
 
 pub overflow_add-m : goal.overflow_add-m
@@ -91,30 +91,30 @@ overflow_add-m c =
     let r = c.reading_of in
     let need = c.replacement_needs-need in
     let gap = c.gap_width in
-    let same : gap.result + need.result.bytes ≡ length (gap_of l.quoted) + length (replacement (bytes_of c.in-Broken.e (between a.doc.now l.at t.result.token.span.end))) =
+    let same : gap.result + need.result.bytes ≡ length (gap_of l.quoted) + length (replacement (bytes_of c.in-Some.e (between a.doc.now l.at t.result.token.span.end))) =
     omega (arith, gap.ensures, need.ensures.bytes) in
-    let v = counted_replaced a.doc.now l.at l.line c.loop-at-test.true t.result.token t.ensures.token a.edition t.result.line t.ensures.line r.result r.ensures c.in-Broken.e c.in-Broken.is l.invariant same need.ensures.records in
+    let v = counted_replaced a.doc.now l.at l.line c.loop-at-test.true t.result.token t.ensures.token a.edition t.result.line t.ensures.line r.result r.ensures c.in-Some.e c.in-Some.is l.invariant same need.ensures.records in
     omega (arith, v.records, listed_few a.edition a.doc.now, c.requires)
 
-pub loop-at-smaller-in-Broken : goal.loop-at-smaller-in-Broken
-loop-at-smaller-in-Broken c =
+pub loop-at-smaller-in-Some : goal.loop-at-smaller-in-Some
+loop-at-smaller-in-Some c =
     let a = c.args in
     let l = c.loop-at in
     let t = c.token_at-next in
     let fits = token_within a.doc.now l.at l.line c.loop-at-test.true t.result.token t.ensures.token in
     omega (arith, fits.1, fits.2)
 
-pub loop-at-preserved-in-Broken : goal.loop-at-preserved-in-Broken
-loop-at-preserved-in-Broken c =
+pub loop-at-preserved-in-Some : goal.loop-at-preserved-in-Some
+loop-at-preserved-in-Some c =
     let a = c.args in
     let l = c.loop-at in
     let t = c.token_at-next in
     let r = c.reading_of in
     let need = c.replacement_needs-need in
     let gap = c.gap_width in
-    let same : gap.result + need.result.bytes ≡ length (gap_of l.quoted) + length (replacement (bytes_of c.in-Broken.e (between a.doc.now l.at t.result.token.span.end))) =
+    let same : gap.result + need.result.bytes ≡ length (gap_of l.quoted) + length (replacement (bytes_of c.in-Some.e (between a.doc.now l.at t.result.token.span.end))) =
     omega (arith, gap.ensures, need.ensures.bytes) in
-    let v = counted_replaced a.doc.now l.at l.line c.loop-at-test.true t.result.token t.ensures.token a.edition t.result.line t.ensures.line r.result r.ensures c.in-Broken.e c.in-Broken.is l.invariant same need.ensures.records in
+    let v = counted_replaced a.doc.now l.at l.line c.loop-at-test.true t.result.token t.ensures.token a.edition t.result.line t.ensures.line r.result r.ensures c.in-Some.e c.in-Some.is l.invariant same need.ensures.records in
     v
 
 pub overflow_sub-n : goal.overflow_sub-n

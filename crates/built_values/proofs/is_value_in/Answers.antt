@@ -1,9 +1,9 @@
 -- `is_value_in` is right because its tests stand in the order of the rule's refusals.
-use mathlib.Core.Path.{sym}
+use Rattle.std.proofs.lemmas.Result.{err_from_is_err_and}
 use mathlib.Core.Logic.{inl, inr}
-use Rattle.decoder_rules.specs.declared.Edition.TheVariants.{Toml10, Toml11}
+use Rattle.decoder_rules.proofs.EditionNumbers.{named_number}
 use Rattle.built_values.specs.Answers.{Named, ValueAnswer}
-use Rattle.built_values.proofs.NumberLaws.{none_has, told}
+use Rattle.built_values.proofs.NumberLaws.{unnamed_by, told}
 use Rattle.built_values.proofs.is_value_in.Goals as goal
 
 pub returns-then-n-end : goal.returns-then-n-end
@@ -12,25 +12,15 @@ returns-then-n-end c = told (ValueAnswer.outside (inl c.if-n-end.true))
 pub returns-then-end-start : goal.returns-then-end-start
 returns-then-end-start c = told (ValueAnswer.outside (inr c.if-end-start.true))
 
-pub returns-in-10 : goal.returns-in-10
-returns-in-10 c =
-    let if1 = c.if-n-end in
-    let if2 = c.if-end-start in
-    let judged = c.judge in
-    told (ValueAnswer.within if1.false if2.false (Named.named Toml10 (sym c.in-10.is) judged.ensures))
-
-pub returns-in-11 : goal.returns-in-11
-returns-in-11 c =
-    let if1 = c.if-n-end in
-    let if2 = c.if-end-start in
-    let judged = c.judge-in-11 in
-    told (ValueAnswer.within if1.false if2.false (Named.named Toml11 (sym c.in-11.is) judged.ensures))
-
-pub returns-in_default : goal.returns-in_default
-returns-in_default c =
+pub returns-in_err-try_from : goal.returns-in_err-try_from
+returns-in_err-try_from c =
     let is = c.args in
-    let if1 = c.if-n-end in
-    let if2 = c.if-end-start in
-    let arms = c.in_default.in_default-own in
-    let r = arms.rest in
-    told (ValueAnswer.within if1.false if2.false (Named.no_edition (none_has is.edition r.0.1 r.1)))
+    let p = err_from_is_err_and c.from_residual.result c.from_residual.ensures.1 in
+    let refused = unnamed_by is.edition _ _ c.in_err-try_from.ensures in
+    told (ValueAnswer.within c.if-n-end.false c.if-end-start.false (rw (p.1, p.2) refused))
+
+pub returns : goal.returns
+returns c =
+    let is = c.args in
+    let named = named_number is.edition _ c.in_ok-try_from.ensures in
+    told (ValueAnswer.within c.if-n-end.false c.if-end-start.false (Named.named _ named c.judge.ensures))

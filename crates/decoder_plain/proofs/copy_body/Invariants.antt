@@ -1,5 +1,5 @@
 use Rattle.std.proofs.Common.{◌+◌, ◌-◌, ◌<◌, ◌≤◌, inl, inr, arith, rules}
-use Rattle.decoder_rules.proofs.PlainLaws.{Held, held_none, held_part, held_pair, held_all, least_le}
+use Rattle.decoder_rules.proofs.PlainLaws.{Held, held_none, held_part, held_pair, held_all}
 use Rattle.decoder_plain.proofs.copy_body.Given as goal
 
 abbrev pub invariant-loop-i : goal.invariant-loop-i

@@ -3,7 +3,7 @@ use Rattle.std.proofs.Common.{◌≡◌, ℕ, ◌+◌, ◌-◌, ◌<◌, ◌≤�
 use mathlib.Core.Bool.{false≢true}
 use native.Mathlib.Decide.{dec_lt}
 use borrow.Author.Tests.{not-false}
-use Rattle.decoder_rules.proofs.PlainLaws.{Clear, least_le, clear_pair}
+use Rattle.decoder_rules.proofs.PlainLaws.{Clear, clear_pair}
 use Rattle.decoder_plain.proofs.is_clear.Goals as goal
 
 pub returns-then-n-lt4 : goal.returns-then-n-lt4
@@ -20,7 +20,7 @@ pub loop-i-init : goal.loop-i-init
 loop-i-init c = (omega arith, λ k l r e. absurd (omega arith))
 
 pub is_clear_pair-requires-in-loop-i : goal.is_clear_pair-requires-in-loop-i
-is_clear_pair-requires-in-loop-i c = omega (arith, least_le c.least.ensures, least_le c.least-in-loop-i.ensures)
+is_clear_pair-requires-in-loop-i c = omega (arith, c.min.ensures, c.min-in-loop-i.ensures)
 
 pub returns-then-not-is_clear_pair : goal.returns-then-not-is_clear_pair
 returns-then-not-is_clear_pair c = λ h. absurd (false≢true h)
@@ -31,7 +31,7 @@ loop-i-preserved c =
     let at = c.loop-i in
     let p = c.is_clear_pair-in-loop-i.ensures (not-false _ c.if-not-is_clear_pair.false-raw) in (
       omega arith,
-      clear_pair a.q a.z a.s.now a.end (a.end - 8) at.i _ _ (omega arith) c.least.ensures c.least-in-loop-i.ensures
+      clear_pair a.q a.z a.s.now a.end (a.end - 8) at.i _ _ (omega arith) c.min.ensures c.min-in-loop-i.ensures
           p.0 p.1 at.invariant.1,
     )
 

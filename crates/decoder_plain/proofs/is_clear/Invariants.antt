@@ -2,7 +2,7 @@ use Rattle.std.proofs.Common.{◌≡◌, ℕ, ◌+◌, ◌-◌, ◌<◌, ◌≤�
 use mathlib.Core.Bool.{false≢true}
 use native.Mathlib.Decide.{dec_lt}
 use borrow.Author.Tests.{not-false}
-use Rattle.decoder_rules.proofs.PlainLaws.{Clear, least_le, clear_pair}
+use Rattle.decoder_rules.proofs.PlainLaws.{Clear, clear_pair}
 use Rattle.decoder_plain.proofs.is_clear.Given as goal
 
 abbrev pub invariant-loop-i : goal.invariant-loop-i

@@ -1,37 +1,18 @@
 -- `is_plain_line` is right because it asks for the limit, for both marks, and for all between them: at once where that is
 -- printable ASCII, else up to the closing mark.
 use Rattle.std.proofs.Common.{arith, rules, eqb-true}
-use mathlib.Core.Bool.{false≢true}
 use Rattle.decoder_rules.proofs.PlainLaws.{clear_line}
 use Rattle.decoder_rules.proofs.OwnLaws.{marks_close, own_line}
 use Rattle.decoder_plain.proofs.is_plain_line.Goals as goal
-
-pub returns-then-n-lt2 : goal.returns-then-n-lt2
-returns-then-n-lt2 c = λ h. absurd (false≢true h)
-
-pub returns-then-n-gt-LIMIT : goal.returns-then-n-gt-LIMIT
-returns-then-n-gt-LIMIT c = λ h. absurd (false≢true h)
-
-pub returns-then-text-q : goal.returns-then-text-q
-returns-then-text-q c = λ h. absurd (false≢true h)
-
-pub returns-then-text-n : goal.returns-then-text-n
-returns-then-text-n c = λ h. absurd (false≢true h)
 
 pub returns-then-is_clear : goal.returns-then-is_clear
 returns-then-is_clear c = λ h.
     clear_line c.requires c.args.text.now (omega arith) (omega arith) c.if-text-q.false
     c.if-text-n.false (c.is_clear.ensures c.if-is_clear.true)
 
-pub returns-then-n-gt40 : goal.returns-then-n-gt40
-returns-then-n-gt40 c = λ h. absurd (false≢true h)
-
 pub own_run-requires : goal.own_run-requires
 own_run-requires c =
     rw c.line_of.ensures (marks_close c.requires c.args.text.now (omega arith) c.if-text-n.false)
-
-pub overflow_add-result : goal.overflow_add-result
-overflow_add-result c = omega (arith, c.own_run.ensures.within)
 
 pub returns : goal.returns
 returns c = λ h.

@@ -4,8 +4,8 @@ use Rattle.decoder_pieces.specs.Steps.{body_bytes}
 use Rattle.decoder_reading.proofs.CountLaws.{CountedTo}
 use Rattle.decoder_reading.proofs.count.Given as goal
 
-abbrev pub invariant-loop-body : goal.invariant-loop-body
-invariant-loop-body l = CountedTo l.e l.text l.fn.start l.body l.n l.m
+abbrev pub invariant-loop-p : goal.invariant-loop-p
+invariant-loop-p g l = CountedTo l.e l.text l.fn.start l.body l.bytes l.errors
 
-abbrev pub decreases-loop-body : goal.decreases-loop-body
-decreases-loop-body l = length (body_bytes l.body l.text)
+abbrev pub decreases-loop-p : goal.decreases-loop-p
+decreases-loop-p g l = length (body_bytes l.body l.text)

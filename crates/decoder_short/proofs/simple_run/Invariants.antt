@@ -1,11 +1,5 @@
-use Prim.Native.Nat.{◌+◌, ◌-◌, ◌<◌}
-use mathlib.Core.Path.{sym, ◌∙◌}
-use native.Mathlib.Omega.{arith}
-use borrow.Author.Rules.{rules}
-use borrow.Author.Tests.{not-false}
-use lib.ListN.{length, get_or}
-use Rattle.decoder_short.specs.Letters.{letter_char, SimpleTo}
-use Rattle.decoder_short.proofs.ShortLaws.{simple_start, simple_ascii, simple_escape, simple_wide}
+use Rattle.std.proofs.Common.{◌-◌, length}
+use Rattle.decoder_short.specs.Letters.{SimpleTo}
 use Rattle.decoder_short.proofs.simple_run.Given as goal
 
 abbrev pub invariant-loop-i : goal.invariant-loop-i

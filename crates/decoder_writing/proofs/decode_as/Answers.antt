@@ -17,14 +17,14 @@ module _ (e : Encoding) (t : List ℕ) (o m : ℕ) where
   roomy h = (omega (arith, bytes_most e t, h.0), omega (arith, errors_few e t, h.1))
 
 pub returns-then-output-need : goal.returns-then-output-need
-returns-then-output-need c =
+returns-then-output-need g c =
     let a = c.args in
     let n = c.needed-need in
     let short = fitted_short (bytes_of a.e a.text.now) (errors_of a.e a.text.now) (length a.output.now) (length a.errors.now) in
     record { answer = short _ n.ensures.bytes c.if-output-need.true; output = refl; records = refl }
 
 pub returns-then-errors-need : goal.returns-then-errors-need
-returns-then-errors-need c =
+returns-then-errors-need g c =
     let a = c.args in
     let n = c.needed-need in
     let few = fitted_few (bytes_of a.e a.text.now) (errors_of a.e a.text.now) (length a.output.now) (length a.errors.now) in
@@ -35,8 +35,8 @@ returns-then-errors-need c =
     }
 
 -- Else it was counted.
-pub fill-done-requires : goal.fill-done-requires
-fill-done-requires c =
+pub fill-requires : goal.fill-requires
+fill-requires g c =
     let a = c.args in
     let room : Room a.e a.text.now (length a.output.now) (length a.errors.now) =
     elim c.if-not-is_roomy.branch [
@@ -47,10 +47,10 @@ fill-done-requires c =
     (c.open_text-opened.ensures, room.0, room.1)
 
 pub returns : goal.returns
-returns c =
+returns g c =
     let a = c.args in
-    let output = c.fill-done.ensures.output in
-    let records = c.fill-done.ensures.records in
+    let output = c.fill.ensures.output in
+    let records = c.fill.ensures.records in
     let room : Room a.e a.text.now (length a.output.now) (length a.errors.now) =
     elim c.if-not-is_roomy.branch [
       | then-not-is_roomy+else-output-need+else-errors-need w ↦

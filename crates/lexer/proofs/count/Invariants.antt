@@ -7,7 +7,7 @@ use Rattle.lexer.proofs.UntilLaws.{tokens_before}
 use Rattle.lexer.proofs.count.Given as goal
 
 abbrev pub invariant-loop-at : goal.invariant-loop-at
-invariant-loop-at l =
+invariant-loop-at g l =
     record {
       size : length l.spare ≡ 64;
       within : l.at ≤ length l.doc;
@@ -17,4 +17,4 @@ invariant-loop-at l =
     }
 
 abbrev pub decreases-loop-at : goal.decreases-loop-at
-decreases-loop-at l = length l.doc - l.at
+decreases-loop-at g l = length l.doc - l.at

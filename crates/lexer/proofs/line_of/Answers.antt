@@ -1,5 +1,4 @@
 -- `line_of` is right because it counts the LFs before the offset, or all of them where it lies beyond the end.
-use Prim.Native.Nat.{◌-◌}
 use native.Mathlib.Omega.{arith}
 use lib.ListN.{take, length-take}
 use Rattle.lexer.proofs.LineLaws.{feeds_le}
@@ -8,5 +7,5 @@ use Rattle.lexer.proofs.line_of.Goals as goal
 pub overflow_add-result : goal.overflow_add-result
 overflow_add-result c =
     let doc = c.args.doc.now in
-    let end = c.if-offset-doc.end - 0 in
+    let end = c.min.result in
     omega (arith, c.line_feeds.ensures, feeds_le (take end doc), length-take end doc)

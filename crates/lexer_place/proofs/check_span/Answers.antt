@@ -2,52 +2,39 @@
 use mathlib.Core.Path.{sym, ◌∙◌}
 use borrow.Author.Tests.{lt-ltb, le-ltb}
 use Rattle.lexer_place.specs.Spans.{span_answer}
-use Rattle.lexer_place.proofs.NumberLaws.{span_checked}
 use Rattle.lexer_place.proofs.check_span.Goals as goal
 
-pub returns-then-doc-gt-LIMIT : goal.returns-then-doc-gt-LIMIT
+pub returns-then-doc-gt-LIMIT-clause-answer : goal.returns-then-doc-gt-LIMIT-clause-answer
 unfolding span_answer
-returns-then-doc-gt-LIMIT c =
-    let given = c.args in
-    span_checked given.doc.now given.span _
-    (simp (lt-ltb _ _ c.if-doc-gt-LIMIT.true))
+returns-then-doc-gt-LIMIT-clause-answer c =
+    simp (lt-ltb _ _ c.if-doc-gt-LIMIT.true)
 
-pub returns-then-doc-end : goal.returns-then-doc-end
+pub returns-then-doc-end-clause-answer : goal.returns-then-doc-end-clause-answer
 unfolding span_answer
-returns-then-doc-end c =
-    let given = c.args in
-    span_checked given.doc.now given.span _
-    (simp (le-ltb _ _ c.if-doc-gt-LIMIT.false, lt-ltb _ _ c.if-doc-end.true))
+returns-then-doc-end-clause-answer c =
+    simp (le-ltb _ _ c.if-doc-gt-LIMIT.false, lt-ltb _ _ c.if-doc-end.true)
 
-pub returns-then-end-start : goal.returns-then-end-start
+pub returns-then-end-start-clause-answer : goal.returns-then-end-start-clause-answer
 unfolding span_answer
-returns-then-end-start c =
-    let given = c.args in
-    span_checked given.doc.now given.span _
-    (simp (le-ltb _ _ c.if-doc-gt-LIMIT.false, le-ltb _ _ c.if-doc-end.false, lt-ltb _ _ c.if-end-start.true))
+returns-then-end-start-clause-answer c =
+    simp (le-ltb _ _ c.if-doc-gt-LIMIT.false, le-ltb _ _ c.if-doc-end.false, lt-ltb _ _ c.if-end-start.true)
 
-pub returns-then-is_inside : goal.returns-then-is_inside
+pub returns-then-is_inside-clause-answer : goal.returns-then-is_inside-clause-answer
 unfolding span_answer
-returns-then-is_inside c =
-    let given = c.args in
+returns-then-is_inside-clause-answer c =
     let start = sym c.is_inside.ensures ∙ c.if-is_inside.true in
-    span_checked given.doc.now given.span _
-    (simp (le-ltb _ _ c.if-doc-gt-LIMIT.false, le-ltb _ _ c.if-doc-end.false, le-ltb _ _ c.if-end-start.false, start))
+    simp (le-ltb _ _ c.if-doc-gt-LIMIT.false, le-ltb _ _ c.if-doc-end.false, le-ltb _ _ c.if-end-start.false, start)
 
-pub returns-then-is_inside-2 : goal.returns-then-is_inside-2
+pub returns-then-is_inside-2-clause-answer : goal.returns-then-is_inside-2-clause-answer
 unfolding span_answer
-returns-then-is_inside-2 c =
-    let given = c.args in
+returns-then-is_inside-2-clause-answer c =
     let start = sym c.is_inside.ensures ∙ c.if-is_inside.false in
     let end = sym c.is_inside-2.ensures ∙ c.if-is_inside-2.true in
-    span_checked given.doc.now given.span _
-    (simp (le-ltb _ _ c.if-doc-gt-LIMIT.false, le-ltb _ _ c.if-doc-end.false, le-ltb _ _ c.if-end-start.false, start, end))
+    simp (le-ltb _ _ c.if-doc-gt-LIMIT.false, le-ltb _ _ c.if-doc-end.false, le-ltb _ _ c.if-end-start.false, start, end)
 
-pub returns : goal.returns
+pub returns-clause-answer : goal.returns-clause-answer
 unfolding span_answer
-returns c =
-    let given = c.args in
+returns-clause-answer c =
     let start = sym c.is_inside.ensures ∙ c.if-is_inside.false in
     let end = sym c.is_inside-2.ensures ∙ c.if-is_inside-2.false in
-    span_checked given.doc.now given.span _
-    (simp (le-ltb _ _ c.if-doc-gt-LIMIT.false, le-ltb _ _ c.if-doc-end.false, le-ltb _ _ c.if-end-start.false, start, end))
+    simp (le-ltb _ _ c.if-doc-gt-LIMIT.false, le-ltb _ _ c.if-doc-end.false, le-ltb _ _ c.if-end-start.false, start, end)

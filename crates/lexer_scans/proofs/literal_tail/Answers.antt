@@ -8,15 +8,15 @@ use Rattle.lexer_scans.proofs.literal_tail.Goals as goal
 pub returns-then-is_at : goal.returns-then-is_at
 returns-then-is_at c =
     let is = c.args in
-    let i = c.find_two-i.result in
-    let found = literal_found is.doc.now is.start i c.find_two-i.ensures in
+    let i = c.find-i.result in
+    let found = literal_found is.doc.now is.start i c.find-i.ensures in
     let marked = sym c.is_at.ensures ∙ c.if-is_at.true in
     omega (arith, found.same, line_closed 39 is.doc.now i marked)
 
 pub returns : goal.returns
 returns c =
     let is = c.args in
-    let i = c.find_two-i.result in
-    let found = literal_found is.doc.now is.start i c.find_two-i.ensures in
+    let i = c.find-i.result in
+    let found = literal_found is.doc.now is.start i c.find-i.ensures in
     let unmarked = sym c.is_at.ensures ∙ c.if-is_at.false in
     omega (arith, found.same, literal_halts is.doc.now is.start i found unmarked)

@@ -10,18 +10,18 @@ use Rattle.lexer_scans.proofs.ml_literal_tail.Goals as goal
 pub overflow_add-i : goal.overflow_add-i
 overflow_add-i c =
     let three = sym c.is_triple.ensures ∙ c.if-is_triple.true in
-    omega (arith, triple_fits_at 39 c.args.doc.now c.find_one-i.result three)
+    omega (arith, triple_fits_at 39 c.args.doc.now c.find-i.result three)
 
 pub over_marks-requires : goal.over_marks-requires
 over_marks-requires c =
     let three = sym c.is_triple.ensures ∙ c.if-is_triple.true in
-    omega (arith, triple_fits_at 39 c.args.doc.now c.find_one-i.result three)
+    omega (arith, triple_fits_at 39 c.args.doc.now c.find-i.result three)
 
 pub returns-then-is_triple : goal.returns-then-is_triple
 returns-then-is_triple c =
     let doc = c.args.doc.now in
-    let i = c.find_one-i.result in
-    let found = ml_literal_found doc c.loop-i.i i c.find_one-i.ensures in
+    let i = c.find-i.result in
+    let found = ml_literal_found doc c.loop-i.i i c.find-i.ensures in
     let three = sym c.is_triple.ensures ∙ c.if-is_triple.true in
     let fit = triple_fits_at 39 doc i three in
     let closed = ml_close 39 false doc i (omega arith) three in
@@ -30,20 +30,20 @@ returns-then-is_triple c =
 pub returns-then-i-doc : goal.returns-then-i-doc
 returns-then-i-doc c =
     let doc = c.args.doc.now in
-    let i = c.find_one-i.result in
-    let found = ml_literal_found doc c.loop-i.i i c.find_one-i.ensures in
+    let i = c.find-i.result in
+    let found = ml_literal_found doc c.loop-i.i i c.find-i.ensures in
     omega (arith, found.same, ml_end 39 false doc i (omega arith))
 
 pub overflow_add-i-in-loop-i : goal.overflow_add-i-in-loop-i
 overflow_add-i-in-loop-i c =
-    let found = ml_literal_found c.args.doc.now c.loop-i.i c.find_one-i.result c.find_one-i.ensures in
+    let found = ml_literal_found c.args.doc.now c.loop-i.i c.find-i.result c.find-i.ensures in
     omega (arith, found.within (omega arith))
 
 pub loop-i-preserved : goal.loop-i-preserved
 loop-i-preserved c =
     let doc = c.args.doc.now in
-    let i = c.find_one-i.result in
-    let found = ml_literal_found doc c.loop-i.i i c.find_one-i.ensures in
+    let i = c.find-i.result in
+    let found = ml_literal_found doc c.loop-i.i i c.find-i.ensures in
     let fewer = sym c.is_triple.ensures ∙ c.if-is_triple.false in
     omega (arith, found.same, ml_literal_on doc i (omega (arith, found.within (omega arith))) fewer)
 

@@ -23,33 +23,33 @@ next s i n j r e p same h b =
 pub returns-then-ends_plain-2 : goal.returns-then-ends_plain-2
 returns-then-ends_plain-2 c =
     let s = c.args.doc.now in
-    let i = c.loop-n.i in
+    let i = c.loop.i in
     let one = next s i 0 _ _ c.ends_plain.ensures c.if-ends_plain.false (omega arith) (omega arith) (block_start plain s i) in
     omega (arith, one)
 
 pub returns-then-ends_plain-3 : goal.returns-then-ends_plain-3
 returns-then-ends_plain-3 c =
     let s = c.args.doc.now in
-    let i = c.loop-n.i in
+    let i = c.loop.i in
     let one = next s i 0 _ _ c.ends_plain.ensures c.if-ends_plain.false (omega arith) (omega arith) (block_start plain s i) in
-    let two = next s i 1 _ _ c.ends_plain-in-loop-n.ensures c.if-ends_plain-2.false refl (omega arith) one in
+    let two = next s i 1 _ _ c.ends_plain-in-loop.ensures c.if-ends_plain-2.false refl (omega arith) one in
     omega (arith, two)
 
 pub returns-then-ends_plain-4 : goal.returns-then-ends_plain-4
 returns-then-ends_plain-4 c =
     let s = c.args.doc.now in
-    let i = c.loop-n.i in
+    let i = c.loop.i in
     let one = next s i 0 _ _ c.ends_plain.ensures c.if-ends_plain.false (omega arith) (omega arith) (block_start plain s i) in
-    let two = next s i 1 _ _ c.ends_plain-in-loop-n.ensures c.if-ends_plain-2.false refl (omega arith) one in
-    let three = next s i 2 _ _ c.ends_plain-in-loop-n-2.ensures c.if-ends_plain-3.false refl (omega arith) two in
+    let two = next s i 1 _ _ c.ends_plain-in-loop.ensures c.if-ends_plain-2.false refl (omega arith) one in
+    let three = next s i 2 _ _ c.ends_plain-in-loop-2.ensures c.if-ends_plain-3.false refl (omega arith) two in
     omega (arith, three)
 
-pub loop-n-preserved : goal.loop-n-preserved
-loop-n-preserved c =
+pub loop-preserved : goal.loop-preserved
+loop-preserved c =
     let s = c.args.doc.now in
-    let i = c.loop-n.i in
+    let i = c.loop.i in
     let one = next s i 0 _ _ c.ends_plain.ensures c.if-ends_plain.false (omega arith) (omega arith) (block_start plain s i) in
-    let two = next s i 1 _ _ c.ends_plain-in-loop-n.ensures c.if-ends_plain-2.false refl (omega arith) one in
-    let three = next s i 2 _ _ c.ends_plain-in-loop-n-2.ensures c.if-ends_plain-3.false refl (omega arith) two in
-    let four = next s i 3 _ _ c.ends_plain-in-loop-n-3.ensures c.if-ends_plain-4.false refl (omega arith) three in
+    let two = next s i 1 _ _ c.ends_plain-in-loop.ensures c.if-ends_plain-2.false refl (omega arith) one in
+    let three = next s i 2 _ _ c.ends_plain-in-loop-2.ensures c.if-ends_plain-3.false refl (omega arith) two in
+    let four = next s i 3 _ _ c.ends_plain-in-loop-3.ensures c.if-ends_plain-4.false refl (omega arith) three in
     omega (arith, four)

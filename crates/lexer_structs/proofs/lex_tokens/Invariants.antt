@@ -1,5 +1,4 @@
 -- After i turns the cursor is the one after i steps, and the first i tokens stand in the records.
-use Prim.Native.Nat.{◌-◌, ◌≤◌}
 use mathlib.Core.Path.{◌≡◌}
 use Rattle.lexer_structs.specs.Turns.{cursor_after, stored}
 use Rattle.lexer_structs.proofs.lex_tokens.Given as goal
@@ -7,10 +6,6 @@ use Rattle.lexer_structs.proofs.lex_tokens.Given as goal
 abbrev pub invariant-loop-i : goal.invariant-loop-i
 invariant-loop-i l =
     record {
-      within : l.i ≤ l.n;
-      cursor : l.c ≡ cursor_after l.doc l.i;
+      cursor : l.cursor ≡ cursor_after l.doc l.i;
       stores : l.records ≡ stored l.doc l.initial.records l.i;
     }
-
-abbrev pub decreases-loop-i : goal.decreases-loop-i
-decreases-loop-i l = l.n - l.i

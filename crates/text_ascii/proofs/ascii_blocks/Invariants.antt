@@ -5,8 +5,8 @@ use Rattle.text_classes.specs.Runs.{run}
 use Rattle.text_classes.proofs.RunLaws.{SameEnd}
 use Rattle.text_ascii.proofs.ascii_blocks.Given as goal
 
-abbrev pub invariant-loop-i : goal.invariant-loop-i
-invariant-loop-i l = SameEnd (run ascii) l.s l.start l.i
+abbrev pub invariant-loop-block : goal.invariant-loop-block
+invariant-loop-block l = SameEnd (run ascii) l.s l.start l.i
 
-abbrev pub decreases-loop-i : goal.decreases-loop-i
-decreases-loop-i l = length l.s - l.i
+abbrev pub decreases-loop-block : goal.decreases-loop-block
+decreases-loop-block l = length l.s - l.i

@@ -4,8 +4,8 @@ use Rattle.text_characters.proofs.CharLaws.{asked}
 use Rattle.text_characters.proofs.OnesLaws.{two_ones}
 use Rattle.text_characters.proofs.is_two.Goals as goal
 
-pub returns : goal.returns
-returns c =
+pub returns-then-a-ge194 : goal.returns-then-a-ge194
+returns-then-a-ge194 c =
     let a = c.args.a in
     λ t third fourth. record {
       some = omega arith;

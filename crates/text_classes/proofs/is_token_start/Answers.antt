@@ -34,4 +34,4 @@ pub returns-then-b-lt64 : goal.returns-then-b-lt64
 unfolding token_start
 returns-then-b-lt64 c =
     let b = c.args.b in
-    ap bit c.wide-then-b-lt64.ensures ∙ classes_agree bit token_start 0 64 tt b (omega arith) (omega arith)
+    ap bit c.from-then-b-lt64.ensures ∙ classes_agree bit token_start 0 64 tt b (omega arith) (omega arith)

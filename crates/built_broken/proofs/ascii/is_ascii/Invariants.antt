@@ -1,10 +1,6 @@
-use Prim.Native.Nat.{◌+◌, ◌-◌, ◌≤◌}
-use mathlib.Core.Bool.{false≢true}
-use native.Mathlib.Omega.{arith}
-use borrow.Author.Rules.{rules}
+use Prim.Native.Nat.{◌-◌, ◌≤◌}
 use lib.ListN.{length}
 use Rattle.built_broken.specs.Walk.{AsciiIn}
-use Rattle.built_broken.proofs.ReadableLaws.{ascii_joined}
 use Rattle.built_broken.proofs.ascii.is_ascii.Given as goal
 
 abbrev pub invariant-loop-i : goal.invariant-loop-i

@@ -3,7 +3,6 @@ use Prim.Native.Nat.{◌-◌, ◌/◌, ◌<◌}
 use lib.Bits.{bit_or}
 use lib.ListN.{length, get_or}
 use native.Mathlib.Omega.{arith}
-use borrow.Author.Rules.{rules}
 use borrow.Author.Tests.{ltb-true}
 use Rattle.text_scalars.proofs.FieldLaws.{bits_left, bits_right}
 use Rattle.built_broken.proofs.ReadableLaws.{ascii_few}

@@ -11,7 +11,6 @@ use Rattle.text_classes.specs.Runs.{run}
 use Rattle.text_classes.proofs.RunLaws.{there}
 use Rattle.lexer_scans.proofs.MarkLaws.{stands_at}
 use Rattle.built_broken.proofs.LookLaws.{one_byte_lem, blanks, cr_lf, cr_alone, atom, one_front, two_front, blank_front, nothing}
-use borrow.Author.Rules.{rules}
 use Rattle.built_broken.proofs.look.look_at.Goals as goal
 
 pub look_comment-requires : goal.look_comment-requires

@@ -5,7 +5,6 @@ use borrow.Author.Tests.{ltb-true}
 use lib.ListN.{get_or}
 use lib.Seq.{drop-drop}
 use Rattle.built_broken.proofs.LookLaws.{atom_other, atom_sized, atom_front, nothing, characters}
-use borrow.Author.Rules.{rules}
 use Rattle.built_broken.proofs.look.look_atom.Goals as goal
 
 pub returns-then-is_ascii_at : goal.returns-then-is_ascii_at

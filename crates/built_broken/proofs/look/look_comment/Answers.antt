@@ -1,6 +1,6 @@
 -- `look_comment` is right because what is gone over is UTF-8 and goes on with the comment: it ends there, or is asked for as a whole.
 use Prim.Native.Nat.{◌+◌}
-use mathlib.Core.Path.{sym, ◌∙◌}
+use mathlib.Core.Path.{◌∙◌}
 use native.Mathlib.Omega.{arith}
 use Rattle.lexer_comments.specs.Fronts.{Fronted}
 use Rattle.built_broken.proofs.LookLaws.{comment, comment_sized, comment_front, rest_ends, rest_same, nothing, characters}

@@ -10,7 +10,6 @@ use Rattle.decoder_rules.specs.Encodings.{choice_in}
 use Rattle.built_fronts.specs.declared.Line.TheVariants.{Literal}
 use Rattle.decoder_rules.specs.declared.Encoding.TheVariants.{LiteralString, MlLiteralString}
 use Rattle.built_broken.proofs.LookLaws.{decoding, sound}
-use borrow.Author.Rules.{rules}
 use Rattle.built_broken.proofs.look.look_literal.Goals as goal
 
 pub returns-then-is_triple : goal.returns-then-is_triple

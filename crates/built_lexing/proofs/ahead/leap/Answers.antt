@@ -2,7 +2,6 @@
 use mathlib.Core.Path.{refl}
 use native.Mathlib.Omega.{arith}
 use Rattle.built_lexing.proofs.LeapLaws.{whole_found, open_found, whole_leap, open_leap}
-use borrow.Author.Rules.{rules}
 use Rattle.built_lexing.proofs.ahead.leap.Goals as goal
 
 pub overflow_sub-at : goal.overflow_sub-at
@@ -23,20 +22,20 @@ overflow_add-l c =
     let w = whole_found a.l.mode a.part.now a.i (omega arith) c.look.result _ _ _ c.in-Whole.is c.look.ensures in
     omega (arith, w.1.0, w.1.1.0, w.1.1.1)
 
-pub overflow_sub-end : goal.overflow_sub-end
-overflow_sub-end c =
+pub overflow_sub-result : goal.overflow_sub-result
+overflow_sub-result c =
     let a = c.args in
     let w = open_found a.l.mode a.part.now a.i (omega arith) c.look.result _ _ _ c.in-Open.is c.look.ensures in
     omega (arith, w.1.0, w.1.1.0, w.1.1.1)
 
-pub overflow_add-l-in-Open : goal.overflow_add-l-in-Open
-overflow_add-l-in-Open c =
+pub overflow_add-result : goal.overflow_add-result
+overflow_add-result c =
     let a = c.args in
     let w = open_found a.l.mode a.part.now a.i (omega arith) c.look.result _ _ _ c.in-Open.is c.look.ensures in
     omega (arith, w.1.0, w.1.1.0, w.1.1.1)
 
-pub overflow_add-l-in-Open-2 : goal.overflow_add-l-in-Open-2
-overflow_add-l-in-Open-2 c =
+pub overflow_add-result-in-Open : goal.overflow_add-result-in-Open
+overflow_add-result-in-Open c =
     let a = c.args in
     let w = open_found a.l.mode a.part.now a.i (omega arith) c.look.result _ _ _ c.in-Open.is c.look.ensures in
     omega (arith, w.1.0, w.1.1.0, w.1.1.1)
@@ -45,11 +44,11 @@ pub returns-in-Whole : goal.returns-in-Whole
 returns-in-Whole c =
     let a = c.args in
     let w = whole_found a.l.mode a.part.now a.i (omega arith) c.look.result _ _ _ c.in-Whole.is c.look.ensures in
-    rw (c.token_of.ensures, c.idle_at.ensures)
+    rw (c.token.ensures, c.idle.ensures)
     (whole_leap a.l a.part.now a.i (omega arith) (omega arith) _ _ _ _ _ w.0 refl refl)
 
 pub returns-in-Open : goal.returns-in-Open
 returns-in-Open c =
     let a = c.args in
     let w = open_found a.l.mode a.part.now a.i (omega arith) c.look.result _ _ _ c.in-Open.is c.look.ensures in
-    rw c.lexing_of.ensures (open_leap a.l a.part.now a.i (omega arith) (omega arith) _ _ _ _ _ w.0 refl refl)
+    open_leap a.l a.part.now a.i (omega arith) (omega arith) _ _ _ _ _ w.0 refl refl

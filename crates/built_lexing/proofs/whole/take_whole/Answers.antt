@@ -3,15 +3,12 @@
 use mathlib.Core.Path.{ap, ◌∙◌}
 use mathlib.Core.List.{[], ◌∷◌, map}
 use native.Mathlib.Omega.{arith}
-use Prim.Native.Nat.{◌-◌}
-use lib.ListN.{length}
 use lib.Seq.{sets}
 use Rattle.lexer_token.specs.declared.Token.{Token}
-use Rattle.lexer_token.specs.Records.{record_of}
+use Rattle.lexer_token.specs.declared.Span.{Span}
+use Rattle.lexer_token.specs.Records.{record_of, token_of}
 use Rattle.built_lexing.specs.States.{idle_at}
-use Rattle.built_lexing.specs.Whole.{Onward}
 use Rattle.built_lexing.proofs.WholeLaws.{token_found, open_token, onward_none, onward_leapt, onward_open}
-use borrow.Author.Rules.{rules}
 use Rattle.built_lexing.proofs.whole.take_whole.Goals as goal
 
 pub loop-kind-init : goal.loop-kind-init
@@ -57,23 +54,23 @@ loop-kind-preserved c =
     let w = token_found a.part.now l.i l.invariant.within c.token_at.result _ _ _ c.in-Whole.is c.token_at.ensures in
     let u = l.invariant in
     onward_leapt a.part.now u _ (w.taken l.at l.on u.low) c.put-count.result c.put-count.new.records c.put-count.ensures.count
-    (c.put-count.ensures.memory ∙ ap (λ (t : Token). sets l.records l.count (map record_of (t ∷ []))) c.token_of.ensures)
+    (c.put-count.ensures.memory ∙ ap (λ (t : Token). sets l.records l.count (map record_of (t ∷ []))) (c.new-token.ensures ∙ ap (λ (p : Span). token_of c.in-Whole.kind p.start p.end l.on) c.new.ensures))
 
-pub overflow_sub-end : goal.overflow_sub-end
-overflow_sub-end c =
+pub overflow_sub-result : goal.overflow_sub-result
+overflow_sub-result c =
     let l = c.loop-kind in
     let w = open_token c.args.part.now l.i l.invariant.within c.token_at.result _ _ _ c.in-Open.is c.token_at.ensures in
     omega (arith, w.forward)
 
-pub overflow_add-at : goal.overflow_add-at
-overflow_add-at c =
+pub overflow_add-result : goal.overflow_add-result
+overflow_add-result c =
     let l = c.loop-kind in
     let w = open_token c.args.part.now l.i l.invariant.within c.token_at.result _ _ _ c.in-Open.is c.token_at.ensures in
     let u = l.invariant in
     omega (arith, w.forward, w.within, w.few, u.at, u.low, u.forward, c.requires.1)
 
-pub overflow_add-on-in-Open : goal.overflow_add-on-in-Open
-overflow_add-on-in-Open c =
+pub overflow_add-result-in-Open : goal.overflow_add-result-in-Open
+overflow_add-result-in-Open c =
     let l = c.loop-kind in
     let w = open_token c.args.part.now l.i l.invariant.within c.token_at.result _ _ _ c.in-Open.is c.token_at.ensures in
     let u = l.invariant in
@@ -88,4 +85,4 @@ returns-in-Open c =
     let l = c.loop-kind in
     let w = open_token a.part.now l.i l.invariant.within c.token_at.result _ _ _ c.in-Open.is c.token_at.ensures in
     let u = l.invariant in
-    rw c.lexing_of.ensures (onward_open a.part.now u _ _ (w.led l.at l.on u.low))
+    onward_open a.part.now u _ _ (w.led l.at l.on u.low)

@@ -1,15 +1,7 @@
-use mathlib.Core.Path.{ap, ◌∙◌}
-use mathlib.Core.List.{[], ◌∷◌, map}
-use native.Mathlib.Omega.{arith}
 use Prim.Native.Nat.{◌-◌}
 use lib.ListN.{length}
-use lib.Seq.{sets}
-use Rattle.lexer_token.specs.declared.Token.{Token}
-use Rattle.lexer_token.specs.Records.{record_of}
 use Rattle.built_lexing.specs.States.{idle_at}
 use Rattle.built_lexing.specs.Whole.{Onward}
-use Rattle.built_lexing.proofs.WholeLaws.{token_found, open_token, onward_none, onward_leapt, onward_open}
-use borrow.Author.Rules.{rules}
 use Rattle.built_lexing.proofs.whole.take_whole.Given as goal
 
 abbrev pub invariant-loop-kind : goal.invariant-loop-kind

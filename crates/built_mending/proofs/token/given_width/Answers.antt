@@ -1,13 +1,12 @@
 -- `given_width` is right because each of the three things that a piece gives has its arm.
 use native.Mathlib.Omega.{arith}
+use lib.ListN.{length-take}
 use Rattle.decoder_rules.proofs.PieceLaws.{gives_copy, gives_char, gives_nothing}
 use Rattle.built_mending.proofs.SpellLaws.{respelt_none}
 use Rattle.built_mending.proofs.token.given_width.Goals as goal
 
 pub width_of-requires : goal.width_of-requires
-width_of-requires c =
-    let fits = c.requires.0.fits in
-    (fits, omega arith)
+width_of-requires c = omega (arith, length-take c.args.p.take c.args.s.now, c.requires.1)
 
 pub char_width-requires : goal.char_width-requires
 char_width-requires c = rw c.in-Char.is at c.requires.0.char

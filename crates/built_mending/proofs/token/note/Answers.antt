@@ -7,10 +7,10 @@ use Rattle.decoder_rules.proofs.StoreLaws.{store_none}
 use Rattle.built_mending.proofs.token.note.Goals as goal
 
 pub put_record-requires : goal.put_record-requires
-put_record-requires c = omega (arith, ap (λ w. length (notes_of w)) c.in-Wrong.is, c.requires)
+put_record-requires c = omega (arith, ap (λ w. length (notes_of w)) c.in-Some.is, c.requires)
 
-pub returns-in-Clean : goal.returns-in-Clean
-returns-in-Clean c = rw c.in-Clean.is (store_none _ _)
+pub returns-in-None : goal.returns-in-None
+returns-in-None c = rw c.in-None.is (store_none _ _)
 
-pub returns-in-Wrong : goal.returns-in-Wrong
-returns-in-Wrong c = rw c.in-Wrong.is c.put_record.ensures
+pub returns-in-Some : goal.returns-in-Some
+returns-in-Some c = rw c.in-Some.is c.put_record.ensures

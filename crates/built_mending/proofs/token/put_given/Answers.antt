@@ -14,7 +14,7 @@ pub put_bytes-requires : goal.put_bytes-requires
 put_bytes-requires c =
     let a = c.args in
     let all = ap (λ (x : List ℕ). length (respelt x)) (gives_copy a.p a.s.now c.in-Copy.is) in
-    (c.requires.0.fits, omega (arith, all))
+    omega (arith, all)
 
 pub put_char-requires : goal.put_char-requires
 put_char-requires c =

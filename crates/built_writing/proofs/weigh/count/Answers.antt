@@ -1,47 +1,34 @@
--- `count` is right because what is counted in blocks, and what is left to be spelt, are always the whole.
-use Rattle.std.proofs.Common.{◌≡◌, ℕ, ◌+◌, List, length, ap, arith}
-use Rattle.decoder_rules.proofs.Fine.{rest, rest_is}
+-- `count` is right because a block and what is left after it are what was left.
+use Rattle.std.proofs.Common.{◌≡◌, ℕ, ◌+◌, ◌≤◌, List, ◌++◌, length, take, drop, sym, ap, arith, length-append, length-take-le}
+use Rattle.std.proofs.lemmas.List.{take-append-drop}
 use Rattle.built_writing.specs.Writing.{spelt}
-use Rattle.built_writing.specs.Measured.{Counting}
-use Rattle.built_writing.proofs.SpellLaws.{spelt_six}
-use Rattle.built_writing.proofs.WeighLaws.{counting_weighed}
+use Rattle.built_writing.proofs.SpellLaws.{spelt_six, spelt_append}
 use Rattle.built_writing.proofs.weigh.count.Goals as goal
 
--- what is counted, and the rest, are the whole
-whole : (s : List ℕ) (i n k : ℕ) → Counting s i n → k ≡ length (spelt (rest s i)) → n + k ≡ length (spelt s)
-whole s i n k counted e = omega (arith, e, counted.left, ap (λ (t : List ℕ). length (spelt t)) (rest_is s i))
-
-pub loop-i-init : goal.loop-i-init
-loop-i-init c = record { within = omega arith; left = omega arith }
+on : (rest block after : List ℕ) (m : ℕ) → block ≡ take 32 rest → after ≡ drop 32 rest → 32 ≤ length rest
+    → length (spelt block) ≡ length block + m → length (spelt rest) ≡ 32 + m + length (spelt after)
+on rest block after m front back fits weighs =
+    let whole : length block ≡ 32 = rw front (length-take-le 32 rest fits) in
+    let parts : rest ≡ block ++ after = rw (front, back) (sym (take-append-drop 32 rest)) in
+    rw parts (omega (arith, ap length (spelt_append block after), length-append (spelt block) (spelt after), weighs, whole))
 
 pub overflow_add-n : goal.overflow_add-n
 overflow_add-n c =
-    let s = c.args.s.now in
-    let l = c.loop-i in
-    let next : Counting s (l.i + 32) (l.n + (32 + c.extra_in.result)) =
-    counting_weighed _ (omega arith) c.extra_in.ensures l.invariant in
-    omega (arith, next.left, spelt_six s)
+    let cut = c.in-Some.ensures.cases in
+    let said = on c.loop-block.rest.now c.in-Some.block.now c.in-Some.after.now _ cut.0 cut.1 (omega (arith, cut.2)) c.extra_in.ensures in
+    omega (arith, said, c.loop-block.invariant, spelt_six c.args.s.now)
 
-pub overflow_add-n-in-loop-i : goal.overflow_add-n-in-loop-i
-overflow_add-n-in-loop-i c =
-    let s = c.args.s.now in
-    let l = c.loop-i in
-    let next : Counting s (l.i + 32) (l.n + (32 + c.extra_in.result)) =
-    counting_weighed _ (omega arith) c.extra_in.ensures l.invariant in
-    omega (arith, next.left, spelt_six s)
+pub overflow_add-n-in-Some : goal.overflow_add-n-in-Some
+overflow_add-n-in-Some c =
+    let cut = c.in-Some.ensures.cases in
+    let said = on c.loop-block.rest.now c.in-Some.block.now c.in-Some.after.now _ cut.0 cut.1 (omega (arith, cut.2)) c.extra_in.ensures in
+    omega (arith, said, c.loop-block.invariant, spelt_six c.args.s.now)
 
-pub loop-i-preserved : goal.loop-i-preserved
-loop-i-preserved c = counting_weighed _ (omega arith) c.extra_in.ensures c.loop-i.invariant
-
-pub count_rest-requires : goal.count_rest-requires
-count_rest-requires c = omega (arith, ap length (rest_is c.args.s.now c.loop-i.i))
+pub loop-block-preserved : goal.loop-block-preserved
+loop-block-preserved c =
+    let cut = c.in-Some.ensures.cases in
+    let said = on c.loop-block.rest.now c.in-Some.block.now c.in-Some.after.now _ cut.0 cut.1 (omega (arith, cut.2)) c.extra_in.ensures in
+    omega (arith, said, c.loop-block.invariant)
 
 pub overflow_add-result : goal.overflow_add-result
-overflow_add-result c =
-    omega (arith, whole c.args.s.now _ _ _ c.loop-i.invariant c.count_rest.ensures.0, spelt_six c.args.s.now)
-
-pub returns : goal.returns
-returns c =
-    let s = c.args.s.now in
-    let all = whole s _ _ _ c.loop-i.invariant c.count_rest.ensures.0 in
-    (all, omega (arith, all, spelt_six s))
+overflow_add-result c = omega (arith, c.loop-block.invariant, c.count_rest.ensures, spelt_six c.args.s.now)

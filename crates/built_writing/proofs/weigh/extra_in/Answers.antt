@@ -1,22 +1,15 @@
--- `extra_in` is right because each byte passed adds what it has more than itself.
-use Rattle.std.proofs.Common.{◌≡◌, arith}
-use Rattle.built_writing.proofs.WeighLaws.{weighs_none, weighs_more}
+-- `extra_in` is right because each byte has at most five more than itself.
+use Rattle.std.proofs.Common.{refl, arith}
+use Rattle.built_writing.specs.Writing.{spelt}
+use Rattle.built_writing.proofs.WeighLaws.{weighs_more}
 use Rattle.built_writing.proofs.weigh.extra_in.Goals as goal
 
-pub loop-j-init : goal.loop-j-init
-loop-j-init c =
-    let a = c.args in
-    (omega arith, omega arith, weighs_none a.s.now a.i)
+pub loop-b-init : goal.loop-b-init
+unfolding spelt
+loop-b-init c = (omega arith, refl)
 
-pub loop-j-preserved : goal.loop-j-preserved
-loop-j-preserved c =
-    let a = c.args in
-    let at = c.loop-j in
-    let more = weighs_more a.s.now a.i at.j _ _ (omega arith) c.extra-n.ensures.0 at.invariant.2 in
-    (omega arith, omega arith, omega (arith, more))
-
-pub returns : goal.returns
-returns c =
-    let at = c.loop-j in
-    let all : at.j ≡ 32 = omega arith in
-    rw all at at.invariant.2
+pub loop-b-preserved : goal.loop-b-preserved
+loop-b-preserved c =
+    let l = c.loop-b in
+    let more = weighs_more c.args.block.now l.b-index _ c.loop-b-test.true c.extra-n.ensures.0 in
+    (omega (arith, l.invariant.0, c.extra-n.ensures.1), omega (arith, l.invariant.1, more))

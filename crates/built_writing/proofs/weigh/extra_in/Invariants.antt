@@ -1,9 +1,7 @@
-use Rattle.std.proofs.Common.{◌+◌, ◌-◌, ◌*◌, ◌≤◌}
-use Rattle.built_writing.specs.Measured.{Weighs}
+-- n is what the bytes so far have more than themselves, at most five each.
+use Rattle.std.proofs.Common.{◌≡◌, ◌+◌, ◌*◌, ◌≤◌, length, take}
+use Rattle.built_writing.specs.Writing.{spelt}
 use Rattle.built_writing.proofs.weigh.extra_in.Given as goal
 
-abbrev pub invariant-loop-j : goal.invariant-loop-j
-invariant-loop-j l = (l.j ≤ 32) × (l.n ≤ 5 * l.j) × Weighs l.s l.i (l.i + l.j) (l.j + l.n)
-
-abbrev pub decreases-loop-j : goal.decreases-loop-j
-decreases-loop-j l = 32 - l.j
+abbrev pub invariant-loop-b : goal.invariant-loop-b
+invariant-loop-b l = (l.n ≤ 5 * l.b-index) × (length (spelt (take l.b-index l.block)) ≡ l.b-index + l.n)

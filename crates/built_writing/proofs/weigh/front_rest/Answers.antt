@@ -1,34 +1,23 @@
--- `front_rest` is right because each byte that may stand in a literal string leaves the end of the run where it was, and
--- adds what it has in a basic string.
-use Rattle.std.proofs.Common.{sym, ◌∙◌, arith}
+-- `front_rest` is right because each byte that is passed over is one that a literal string could hold, and the first that is not
+-- ends the run.
+use Rattle.std.proofs.Common.{sym, ◌∙◌}
 use Rattle.text_classes.specs.Classes.{literal_char}
-use Rattle.text_classes.proofs.RunLaws.{run_stop, run_end, same_end_byte}
-use Rattle.built_writing.proofs.SpellLaws.{spelt_six}
-use Rattle.built_writing.proofs.WeighLaws.{counting_byte}
+use Rattle.built_writing.proofs.WeighLaws.{passed_on, passed_byte, run_ended, run_stopped}
 use Rattle.built_writing.proofs.weigh.front_rest.Goals as goal
+use Rattle.built_writing.proofs.weigh.front_rest.Goals.{in-Some+then-not-is_plain, in_default}
 
-pub loop-i-init : goal.loop-i-init
-loop-i-init c = c.requires.0
-
-pub returns-then-not-is_plain : goal.returns-then-not-is_plain
-returns-then-not-is_plain c =
-    let at = c.loop-i in
-    let stop = sym c.is_plain.ensures ∙ c.if-not-is_plain.true in
-    (at.invariant, run_stop literal_char c.args.s.now at.i (omega arith) stop)
-
-pub overflow_add-bytes-in-loop-i : goal.overflow_add-bytes-in-loop-i
-overflow_add-bytes-in-loop-i c = omega (arith, c.loop-i.invariant.0.left, spelt_six c.args.s.now)
-
-pub loop-i-preserved : goal.loop-i-preserved
-loop-i-preserved c =
-    let s = c.args.s.now in
-    let at = c.loop-i in
-    let literal = sym c.is_plain.ensures ∙ c.if-not-is_plain.false in (
-      counting_byte _ (omega arith) (c.mark.ensures.0 literal) at.invariant.0,
-      same_end_byte literal_char s 0 at.i (omega arith) literal at.invariant.1,
-    )
+pub loop-b-preserved : goal.loop-b-preserved
+loop-b-preserved c =
+    let l = c.loop-b in
+    let plain = sym c.is_plain.ensures ∙ c.if-not-is_plain.false in
+    passed_on l.invariant (passed_byte l.rest.now _ _ l.bytes _ c.in-Some.ensures.cases.0 plain (c.mark.ensures.0 plain))
 
 pub returns : goal.returns
-returns c =
-    let at = c.loop-i in
-    (at.invariant, run_end literal_char c.args.s.now at.i (omega arith))
+returns c = (
+  c.loop-b.invariant,
+  elim c.match-split_first.branch [
+    | in-Some+then-not-is_plain w ↦
+        run_stopped literal_char c.loop-b.rest.now _ _ w.in-Some.ensures.cases.0 (sym w.is_plain.ensures ∙ w.if-not-is_plain.true)
+    | in_default w ↦ run_ended literal_char c.loop-b.rest.now w.in_default.ensures.cases
+  ],
+)

@@ -1,9 +1,10 @@
-use Rattle.std.proofs.Common.{◌-◌, length}
-use Rattle.built_writing.specs.Measured.{Fronted}
+-- What is passed over so far is counted; and each turn leaves fewer bytes.
+use Rattle.std.proofs.Common.{length}
+use Rattle.built_writing.specs.Measured.{Passed}
 use Rattle.built_writing.proofs.weigh.front_rest.Given as goal
 
-abbrev pub invariant-loop-i : goal.invariant-loop-i
-invariant-loop-i l = Fronted l.s (record { end = l.i; bytes = l.bytes })
+abbrev pub invariant-loop-b : goal.invariant-loop-b
+invariant-loop-b l = Passed l.fn.front.rest.now l.fn.front.bytes l.rest l.bytes
 
-abbrev pub decreases-loop-i : goal.decreases-loop-i
-decreases-loop-i l = length l.s - l.i
+abbrev pub decreases-loop-b : goal.decreases-loop-b
+decreases-loop-b l = length l.rest

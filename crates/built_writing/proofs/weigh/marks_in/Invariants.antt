@@ -1,12 +1,11 @@
-use Rattle.std.proofs.Common.{◌+◌, ◌-◌, ◌<◌, ◌≤◌}
+-- Where no bit is set, a literal string could hold all bytes so far, and the marks are what they have more.
+use Rattle.std.proofs.Common.{◌≡◌, ◌+◌, ◌<◌, ◌≤◌, length, take}
 use Rattle.text_classes.specs.Classes.{literal_char}
-use Rattle.text_classes.proofs.RunLaws.{Block}
-use Rattle.built_writing.specs.Measured.{Weighs}
+use Rattle.text_classes.specs.Runs.{run}
+use Rattle.built_writing.specs.Writing.{spelt}
 use Rattle.built_writing.proofs.weigh.marks_in.Given as goal
 
-abbrev pub invariant-loop-j : goal.invariant-loop-j
-invariant-loop-j l =
-    (l.j ≤ l.n) × (l.marks ≤ l.j) × (l.bits < 0x80 → Block literal_char l.s l.i l.j × Weighs l.s l.i (l.i + l.j) (l.j + l.marks))
-
-abbrev pub decreases-loop-j : goal.decreases-loop-j
-decreases-loop-j l = l.n - l.j
+abbrev pub invariant-loop-b : goal.invariant-loop-b
+invariant-loop-b l =
+    (l.marks ≤ l.b-index)
+    × (l.bits < 0x80 → (run literal_char (take l.b-index l.block) ≡ l.b-index) × (length (spelt (take l.b-index l.block)) ≡ l.b-index + l.marks))

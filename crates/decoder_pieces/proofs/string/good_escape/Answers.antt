@@ -1,6 +1,5 @@
 -- `good_escape` is right because a letter stands for a character, or asks for digits, or neither.
 use Rattle.std.proofs.Common.{drop, sym, ◌∙◌, arith, length-drop, drop-drop}
-use Rattle.decoder_rules.specs.Escapes.{letter_at}
 use Rattle.decoder_rules.proofs.Fine.{rest_is}
 use Rattle.decoder_rules.proofs.EscapeLaws.{asks_fit}
 use Rattle.decoder_pieces.proofs.EscapeAtLaws.{good_simple, good_digits, good_neither}
@@ -23,4 +22,4 @@ returns-in-Asks c =
 
 pub returns-in-Neither : goal.returns-in-Neither
 returns-in-Neither c =
-    c.no_escape.ensures ∙ good_neither c.args.v (drop 1 c.args.s.now) (sym (rw rest_is at c.in-Neither.ensures))
+    good_neither c.args.v (drop 1 c.args.s.now) (sym (rw rest_is at c.in-Neither.ensures))

@@ -1,8 +1,7 @@
 -- `copy_few` is right because what is still to be copied, stored from place o + j on, makes the whole copy.
-use Prim.Native.Nat.{◌+◌, ◌-◌, ◌≤◌}
 use mathlib.Core.Path.{refl}
 use native.Mathlib.Omega.{arith}
-use Rattle.decoder_rules.proofs.StoreLaws.{Copying, copying_start, copying_turn, copying_end}
+use Rattle.decoder_rules.proofs.StoreLaws.{copying_start, copying_turn, copying_end}
 use Rattle.decoder_writing.proofs.write.copy_few.Goals as goal
 
 pub loop-j-init : goal.loop-j-init

@@ -1,30 +1,10 @@
--- `copy_in` is right because what is still to be copied, stored from place o + j on, makes the whole copy.
-use Prim.Native.Nat.{◌+◌, ◌-◌, ◌≤◌}
-use mathlib.Core.Path.{refl}
-use native.Mathlib.Omega.{arith}
-use borrow.Author.Rules.{rules}
-use Rattle.decoder_rules.proofs.StoreLaws.{Copying, copying_start, copying_turn, copying_end}
+-- `copy_in` is right because the part that it overwrites is as long as what it copies.
+use Rattle.std.proofs.Common.{◌+◌, take, arith, length-take-le}
+use Rattle.decoder_rules.proofs.StoreLaws.{store_part}
 use Rattle.decoder_writing.proofs.write.copy_in.Goals as goal
-
-pub returns-then-n-le16 : goal.returns-then-n-le16
-returns-then-n-le16 c = c.copy_few.ensures
-
-pub loop-j-init : goal.loop-j-init
-loop-j-init c =
-    let a = c.args in
-    copying_start a.s.now a.n a.output.now a.o
-
-pub loop-j-preserved : goal.loop-j-preserved
-loop-j-preserved c =
-    let a = c.args in
-    let l = c.loop-j in
-    copying_turn a.s.now a.n a.output.now a.o l.output l.j (omega arith) (omega arith) l.invariant
-
-pub shape_of-output : goal.shape_of-output
-shape_of-output c = c.loop-j.invariant.long
 
 pub returns : goal.returns
 returns c =
     let a = c.args in
-    let l = c.loop-j in
-    copying_end a.s.now a.n a.output.now a.o l.output l.j _ (omega arith) (omega arith) refl l.invariant
+    let long = length-take-le a.n a.s.now (omega arith) in
+    store_part a.output.now (take a.n a.s.now) _ a.o (a.o + a.n) c.copy_from_slice.ensures.after (omega (arith, long)) (omega arith)

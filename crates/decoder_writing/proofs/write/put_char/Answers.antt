@@ -1,9 +1,7 @@
 -- `put_char` is right because a character of one byte is that byte, and of any other the encoding's answer holds the bytes in
 -- front, and their count.
-use Prim.Native.Nat.{◌≤◌}
-use mathlib.Core.Path.{◌≡◌, refl, ap}
+use mathlib.Core.Path.{refl, ap}
 use native.Mathlib.Omega.{arith}
-use borrow.Author.Rules.{rules}
 use lib.ListN.{length}
 use Rattle.text_scalars.proofs.EncodeLaws.{encode_1}
 use Rattle.decoder_rules.proofs.EncodedLaws.{encoded_len, encoded_fits, encoded_few, encoded_bytes}

@@ -1,8 +1,6 @@
-use Rattle.std.proofs.Common.{◌≡◌, length, rules}
+-- What is kept of a name is within its memory.
+use Rattle.std.proofs.Common.{◌≡◌, ◌≤◌, length}
 use Rattle.figures_report.proofs.names.next_name.Given as goal
 
-abbrev pub invariant-loop-turns : goal.invariant-loop-turns
-invariant-loop-turns g l = (length l.input ≡ length l.initial.input) × (length l.name ≡ length l.initial.name)
-
-abbrev pub decreases-loop-turns : goal.decreases-loop-turns
-decreases-loop-turns g l = l.turns
+abbrev pub invariant-loop : goal.invariant-loop
+invariant-loop g l = (length l.input ≡ length l.initial.input) × (length l.name ≡ length l.initial.name) × (l.len ≤ length l.name)

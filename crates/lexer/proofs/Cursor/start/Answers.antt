@@ -1,15 +1,12 @@
 -- `start` is right because its test is the definition's.
 use borrow.Author.Tests.{lt-ltb, le-ltb}
 use Rattle.lexer.specs.Steps.{start_answer}
-use Rattle.lexer.proofs.NumberLaws.{started}
 use Rattle.lexer.proofs.Cursor.start.Goals as goal
 
-pub returns-then-doc-gt-LIMIT : goal.returns-then-doc-gt-LIMIT
+pub returns-then-doc-gt-LIMIT-clause-answer : goal.returns-then-doc-gt-LIMIT-clause-answer
 unfolding start_answer
-returns-then-doc-gt-LIMIT c = started c.args.doc.now _ (simp (lt-ltb _ _ c.if-doc-gt-LIMIT.true))
+returns-then-doc-gt-LIMIT-clause-answer c = simp (lt-ltb _ _ c.if-doc-gt-LIMIT.true)
 
-pub returns : goal.returns
+pub returns-clause-answer : goal.returns-clause-answer
 unfolding start_answer
-returns c =
-    let short = le-ltb _ _ c.if-doc-gt-LIMIT.false in
-    started c.args.doc.now _ (simp (short, c.start_of.ensures))
+returns-clause-answer c = simp (le-ltb _ _ c.if-doc-gt-LIMIT.false, c.start_of.ensures)

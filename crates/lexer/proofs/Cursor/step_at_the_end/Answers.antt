@@ -10,7 +10,6 @@ use Rattle.text_refusals.specs.Refusals.{limit}
 use Rattle.lexer.specs.declared.Cursor.{Cursor}
 use Rattle.lexer.specs.Loops.{Before}
 use Rattle.lexer.specs.Steps.{step_within, step_of}
-use Rattle.lexer.proofs.NumberLaws.{stepped}
 use Rattle.lexer.proofs.StepLaws.{step_end, step_eof}
 use Rattle.lexer.proofs.Cursor.step_at_the_end.Goals as goal
 
@@ -27,34 +26,29 @@ module _ (doc : List ℕ) (c : Cursor) (short : length doc ≤ limit) (near : c.
         | no l ↦ omega arith
       ]
 
-pub returns-then-doc-gt-LIMIT : goal.returns-then-doc-gt-LIMIT
+pub returns-then-doc-gt-LIMIT-clause-answer : goal.returns-then-doc-gt-LIMIT-clause-answer
 unfolding step_of
-returns-then-doc-gt-LIMIT c = stepped c.args.doc.now c.args.self _ (simp (lt-ltb _ _ c.if-doc-gt-LIMIT.true))
+returns-then-doc-gt-LIMIT-clause-answer c = simp (lt-ltb _ _ c.if-doc-gt-LIMIT.true)
 
-pub returns-then-doc-self : goal.returns-then-doc-self
+pub returns-then-doc-self-clause-answer : goal.returns-then-doc-self-clause-answer
 unfolding step_of
-returns-then-doc-self c =
-    let short = le-ltb _ _ c.if-doc-gt-LIMIT.false in
-    stepped c.args.doc.now c.args.self _ (simp (short, lt-ltb _ _ c.if-doc-self.true))
+returns-then-doc-self-clause-answer c = simp (le-ltb _ _ c.if-doc-gt-LIMIT.false, lt-ltb _ _ c.if-doc-self.true)
 
-pub returns-then-self : goal.returns-then-self
+pub returns-then-self-clause-answer : goal.returns-then-self-clause-answer
 unfolding step_of
-returns-then-self c =
-    let short = le-ltb _ _ c.if-doc-gt-LIMIT.false in
-    let near = le-ltb _ _ c.if-doc-self.false in
-    stepped c.args.doc.now c.args.self _ (simp (short, near, lt-ltb _ _ c.if-self.true))
+returns-then-self-clause-answer c =
+    simp (le-ltb _ _ c.if-doc-gt-LIMIT.false, le-ltb _ _ c.if-doc-self.false, lt-ltb _ _ c.if-self.true)
 
-pub returns-then-self-2 : goal.returns-then-self-2
-returns-then-self-2 c =
+pub returns-then-self-2-clause-answer : goal.returns-then-self-2-clause-answer
+returns-then-self-2-clause-answer c =
     let is = c.args in
     let one = within is.doc.now is.self c.if-doc-gt-LIMIT.false c.if-doc-self.false c.if-self.false in
     let end = at_end is.doc.now is.self c.if-doc-gt-LIMIT.false c.if-doc-self.false c.if-self.false c.requires in
-    stepped is.doc.now is.self _ (step_end is.doc.now is.self one end c.if-self-2.true)
+    step_end is.doc.now is.self one end c.if-self-2.true
 
-pub returns : goal.returns
-returns c =
+pub returns-clause-answer : goal.returns-clause-answer
+returns-clause-answer c =
     let is = c.args in
     let one = within is.doc.now is.self c.if-doc-gt-LIMIT.false c.if-doc-self.false c.if-self.false in
     let end = at_end is.doc.now is.self c.if-doc-gt-LIMIT.false c.if-doc-self.false c.if-self.false c.requires in
-    let eof = step_eof is.doc.now is.self one end c.if-self-2.false _ _ in
-    stepped is.doc.now is.self _ (eof c.token_of-eof.ensures c.cursor_of.ensures)
+    step_eof is.doc.now is.self one end c.if-self-2.false _ _ c.token_of-eof.ensures c.cursor_of.ensures

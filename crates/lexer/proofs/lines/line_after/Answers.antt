@@ -1,11 +1,10 @@
 -- `line_after` is right because it counts the LFs of the token that stands there.
 use Prim.Native.Nat.{ℕ, ◌+◌, ◌-◌, ◌≤◌}
-use mathlib.Core.Path.{◌≡◌, ap, ◌∙◌}
+use mathlib.Core.Path.{◌≡◌, ap}
 use mathlib.Core.List.{List}
 use native.Mathlib.Omega.{arith}
-use lib.ListN.{length, take, drop}
+use lib.ListN.{length, drop}
 use Rattle.lexer_token.specs.declared.Token.{Token}
-use Rattle.lexer.specs.Lines.{line_feeds}
 use Rattle.lexer.specs.Table.{token_len}
 use Rattle.lexer.specs.Loops.{TokenStands}
 use Rattle.lexer.proofs.TokenLaws.{token_fits_at}
@@ -20,8 +19,8 @@ ends doc t h =
     let start : t.span.start ≤ length doc = omega (arith, h.within) in
     (end, omega (arith, token_fits_at doc t.span.start start))
 
-pub line_feeds-requires : goal.line_feeds-requires
-line_feeds-requires c = let e = ends c.args.doc.now c.args.token c.requires in (omega (arith, e), omega (arith, e))
+pub slice_bounds-line_feeds-end : goal.slice_bounds-line_feeds-end
+slice_bounds-line_feeds-end c = let e = ends c.args.doc.now c.args.token c.requires in omega (arith, e)
 
 pub overflow_add-result : goal.overflow_add-result
 overflow_add-result c =
@@ -29,11 +28,3 @@ overflow_add-result c =
     let at = is.token.span in
     let e = ends is.doc.now is.token c.requires in
     omega (arith, e, c.line_feeds.ensures, feeds_taken (at.end - at.start) (drop at.start is.doc.now))
-
-pub returns : goal.returns
-returns c =
-    let is = c.args in
-    let at = is.token.span in
-    let s = drop at.start is.doc.now in
-    let size : at.end - at.start ≡ token_len s = omega (arith, ends is.doc.now is.token c.requires) in
-    ap (λ (n : ℕ). is.token.line + n) (c.line_feeds.ensures ∙ ap (λ (n : ℕ). line_feeds (take n s)) size)

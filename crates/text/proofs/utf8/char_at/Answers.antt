@@ -1,4 +1,6 @@
 -- `char_at` is right because a character stands where all the bytes are that its first byte asks for.
+use mathlib.Core.Path.{sym, ◌∙◌}
+use native.Mathlib.Omega.{arith}
 use Rattle.text_characters.proofs.LeadLaws.{all_begun, part_begun}
 use Rattle.text.proofs.utf8.char_at.Goals as goal
 
@@ -7,11 +9,18 @@ returns-then-begun-n c =
     let a = c.args in
     let lead = c.lead_of-lead in
     let found = c.begun in
-    part_begun a.s.now a.at lead.result lead.ensures found.result found.ensures c.if-begun-n.true
+    sym (part_begun a.s.now a.at lead.result lead.ensures found.result found.ensures c.if-begun-n.true)
 
-pub returns : goal.returns
-returns c =
+pub returns-then-n-eq0 : goal.returns-then-n-eq0
+returns-then-n-eq0 c =
     let a = c.args in
     let lead = c.lead_of-lead in
     let found = c.begun in
-    all_begun a.s.now a.at lead.result lead.ensures found.result found.ensures c.if-begun-n.false
+    sym (all_begun a.s.now a.at lead.result lead.ensures found.result found.ensures c.if-begun-n.false) ∙ c.if-n-eq0.true
+
+pub returns-else-n-eq0 : goal.returns-else-n-eq0
+returns-else-n-eq0 c =
+    let a = c.args in
+    let lead = c.lead_of-lead in
+    let found = c.begun in
+    (omega arith, all_begun a.s.now a.at lead.result lead.ensures found.result found.ensures c.if-begun-n.false)

@@ -10,11 +10,11 @@ returns-then-is_short_ascii c =
     let s = c.args.s.now in
     told s _ (answer_ascii s (omega arith) (c.is_short_ascii.ensures c.if-is_short_ascii.true))
 
-pub returns-then-next-at : goal.returns-then-next-at
-returns-then-next-at c =
-    let none = c.passed-next.ensures.stuck c.if-next-at.true in
+pub returns-in_default : goal.returns-in_default
+returns-in_default c =
+    let none = c.in_default.ensures in
     let s = c.args.s.now in
-    told s _ (answer_broken s _ _ (omega arith) (omega arith) (omega arith) c.fault_at-length.ensures)
+    told s _ (answer_broken s _ _ (omega arith) (omega (arith, none)) (omega arith) c.fault_at-length.ensures)
 
 pub returns : goal.returns
 returns c =

@@ -1,9 +1,0 @@
--- `ml_tail` is right because each of the two marks has its scan.
-use borrow.Author.Rules.{rules}
-use Rattle.built_ahead.proofs.ml_tail.Goals as goal
-
-pub returns-in-Apostrophe : goal.returns-in-Apostrophe
-returns-in-Apostrophe c = simp (c.ml_literal_tail.ensures, c.in-Apostrophe.is)
-
-pub returns-in-Quotation : goal.returns-in-Quotation
-returns-in-Quotation c = simp (c.ml_basic_tail.ensures, c.in-Quotation.is)

@@ -1,9 +1,0 @@
--- `is_eol` is right because it asks for the two bytes in turn.
-use borrow.Author.Tests.{eq-eqb, ne_eqb}
-use Rattle.built_bytes.proofs.is_eol.Goals as goal
-
-pub returns-then-b-eq13 : goal.returns-then-b-eq13
-returns-then-b-eq13 c = simp (eq-eqb _ _ c.if-b-eq13.true)
-
-pub returns-else-b-eq13 : goal.returns-else-b-eq13
-returns-else-b-eq13 c = simp (ne_eqb _ _ c.if-b-eq13.false)

@@ -1,9 +1,0 @@
--- `stopped` is right because its two branches are the rule's.
-use borrow.Author.Tests.{eq-eqb, ne_eqb}
-use Rattle.built_parts.proofs.checks.stopped.Goals as goal
-
-pub returns-then-length-eq0 : goal.returns-then-length-eq0
-returns-then-length-eq0 c = simp (eq-eqb _ _ c.if-length-eq0.true)
-
-pub returns : goal.returns
-returns c = simp (ne_eqb _ _ c.if-length-eq0.false)

@@ -1,9 +1,0 @@
--- `hex_digit` is right because each of its branches is the rule's.
-use Rattle.std.proofs.Common.{arith, le-ltb, lt-ltb}
-use Rattle.built_writing.proofs.spell.hex_digit.Goals as goal
-
-pub returns-then-d-lt10 : goal.returns-then-d-lt10
-returns-then-d-lt10 c = rw (lt-ltb c.args.d 10 c.if-d-lt10.true)
-
-pub returns-else-d-lt10 : goal.returns-else-d-lt10
-returns-else-d-lt10 c = rw (le-ltb c.args.d 10 c.if-d-lt10.false) (omega arith)
