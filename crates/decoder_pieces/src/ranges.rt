@@ -13,6 +13,7 @@ use decoder_scans::{BasicInvalid, MlbInvalid, plain_few, plain_run};
 use std::num::wrapping_sub_u8;
 use text_classes::{ESCAPE, Wschar, is_at, is_wschar, run_of};
 
+#[derive(Clone, Copy)]
 pub struct Ranges;
 
 impl Bytes for Ranges {

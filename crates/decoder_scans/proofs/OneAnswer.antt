@@ -13,3 +13,10 @@ plain_few κs a x y s t p q = p ∙ sym q
 
 pub plain_run : OneAnswer promised.plain_run.Reads.Learnt
 plain_run κs a x y s t p q = p ∙ sym q
+
+-- of each set as a value: by its type's name and its function's
+pub basic_invalid_holds : OneAnswer promised.BasicInvalidByteSet.holds.Reads.Learnt
+basic_invalid_holds κs a x y s t p q = p ∙ sym q
+
+pub mlb_invalid_holds : OneAnswer promised.MlbInvalidByteSet.holds.Reads.Learnt
+mlb_invalid_holds κs a x y s t p q = p ∙ sym q

@@ -22,6 +22,10 @@ module _ (E : RattleType) (L : Laws E) (S : StepEngine.Ghosts E.Denot) (d : Dict
   pub step_by : OneAnswer (promised.Cursor.step_by.Reads.Learnt E L S d G e)
   step_by κs a x y s t p q = p.0 ∙ sym q.0
 
+  -- what the trait says of a step by itself
+  pub step_engine_step_token : OneAnswer (promised.StepEngine.step_token.Reads.Learnt E L S d G e)
+  step_engine_step_token κs a x y s t p q = p ∙ sym q
+
 -- the answer, and what the records hold
 pub lex : OneOutcome promised.lex.Reads.Learnt (λ κs r s. r and s.1.0.now)
 lex κs a x y s t p q = both (p.0 ∙ sym q.0) (p.1.1.1.1 ∙ sym q.1.1.1.1)

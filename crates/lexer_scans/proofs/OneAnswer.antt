@@ -36,6 +36,16 @@ pub find : (T : _) (laws : _) (copy : _) (P : _) (c : _) (G : _) (d : _) (C : _)
     → OneAnswer (promised.search.find.Reads.Learnt T laws copy P c G d C e)
 find T laws copy P c G d C e κs a x y s t p q = p ∙ sym q
 
+-- of each set as a value: by its type's name and its function's
+pub but_one_holds : OneAnswer promised.search.ButOneByteSet.holds.Reads.Learnt
+but_one_holds κs a x y s t p q = p ∙ sym q
+
+pub but_two_holds : OneAnswer promised.search.ButTwoByteSet.holds.Reads.Learnt
+but_two_holds κs a x y s t p q = p ∙ sym q
+
+pub but_three_holds : OneAnswer promised.search.ButThreeByteSet.holds.Reads.Learnt
+but_three_holds κs a x y s t p q = p ∙ sym q
+
 -- The promise of `find_in_blocks` admits two answers, and this theorem says so: where no byte is found, any place before which there
 -- is none. Here of a search for 0, of one byte 1.
 abbrev one : List ℕ

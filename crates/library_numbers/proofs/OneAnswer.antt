@@ -52,3 +52,13 @@ cursor_from κs a x y s t p q = p ∙ sym q
 
 pub token_from : OneAnswer promised.TokenNumbersFromToken.from.Reads.Learnt
 token_from κs a x y s t p q = p ∙ sym q
+
+-- an answer's value as a number: of a count, a flag and nothing
+pub usize_value : OneAnswer promised.UsizeValue.value.Reads.Learnt
+usize_value κs a x y s t p q = p ∙ sym q
+
+pub bool_value : OneAnswer promised.BoolValue.value.Reads.Learnt
+bool_value κs a x y s t p q = p ∙ sym q
+
+pub unit_value : OneAnswer promised.UnitValue.value.Reads.Learnt
+unit_value κs a x y s t p q = p ∙ sym q

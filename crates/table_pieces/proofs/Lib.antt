@@ -1,2 +1,3 @@
 pub mod LetterLaws
 pub mod DigitLaws
+pub mod OneAnswer

@@ -9,6 +9,7 @@ use decoder_pieces::{Bytes, Engine, Escape};
 use decoder_rules::{Edition, Encoding, Letter};
 use table_classes::{Set, Sign, class, class_of, class_run, is_at, is_in};
 
+#[derive(Clone, Copy)]
 pub struct Table;
 
 impl Bytes for Table {

@@ -72,3 +72,21 @@ run_of T laws copy G d C e κs a x y s t p q = p ∙ sym q
 pub count_of : (T : _) (laws : _) (copy : _) (G : _) (d : _) (C : _) (e : _)
     → OneAnswer (promised.sets.count_of.Reads.Learnt T laws copy G d C e)
 count_of T laws copy G d C e κs a x y s t p q = p ∙ sym q
+
+-- of each set as a value: by its type's name and its function's
+pub wschar_holds : OneAnswer promised.sets.WscharByteSet.holds.Reads.Learnt
+wschar_holds κs a x y s t p q = p ∙ sym q
+
+pub token_start_holds : OneAnswer promised.sets.TokenStartByteSet.holds.Reads.Learnt
+token_start_holds κs a x y s t p q = p ∙ sym q
+
+pub unquoted_char_holds : OneAnswer promised.sets.UnquotedCharByteSet.holds.Reads.Learnt
+unquoted_char_holds κs a x y s t p q = p ∙ sym q
+
+pub continuation_holds : OneAnswer promised.sets.ContinuationByteSet.holds.Reads.Learnt
+continuation_holds κs a x y s t p q = p ∙ sym q
+
+-- over any set: whatever the set's type is
+pub not_holds : (T : _) (laws : _) (copy : _) (G : _) (d : _) (C : _) (e : _)
+    → OneAnswer (promised.sets.NotByteSet.holds.Reads.Learnt T laws copy G d C e)
+not_holds T laws copy G d C e κs a x y s t p q = p ∙ sym q
