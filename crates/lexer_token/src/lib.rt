@@ -3,7 +3,7 @@
 // Rules: specs/KindNumbers.antt, Descriptions.antt, Encodings.antt, Records.antt.
 #![tactic(auto)]
 
-ghost use Rattle.std.specs.Prelude.{◌≡◌, MatchResult};
+ghost use Rattle.std.specs.Prelude.{◌≡◌, ◌≤◌, length, IfOk, MatchResult};
 ghost use Rattle.text_refusals.specs.Told.{told_number, told_value};
 ghost use Rattle.lexer_token.specs.KindNumbers.{kind_number};
 ghost use Rattle.lexer_token.specs.Descriptions.{kind_text, description_of};
@@ -168,12 +168,15 @@ impl TokenKind {
         ensures answer { MatchResult result (λ text. description_of number ≡ Ok text.now) (λ r. description_of number ≡ Err r) }
         ensures number { told_number result ≡ kind_refusal number }
         ensures value { told_value result ≡ kind_returned number }
+        ensures short { IfOk result (λ text. length text.now ≤ 25) }
     {
         Ok(TokenKind::try_from(number)?.text())
     }
 
+    #[tactic(auto, using(crate::proofs::KindLaws::text_short))]
     fn text(self) -> &'static [u8]
-        ensures { result.now ≡ kind_text self }
+        ensures words { result.now ≡ kind_text self }
+        ensures short { length result.now ≤ 25 }
     {
         match self {
             TokenKind::Dot => b"`.`",

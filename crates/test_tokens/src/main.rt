@@ -6,7 +6,6 @@ use lexer::Cursor;
 use lexer_place::Position;
 use lexer_token::{Span, Token, TokenKind};
 use program_io::{Console, print_decimal};
-use std::cmp::min;
 use std::io;
 use text_refusals::Refusal;
 
@@ -133,9 +132,9 @@ fn kind(console: &impl Console, n: usize) -> io::Result<()> {
     let description = TokenKind::description(n);
     answered(console, description)?;
     let text = description.unwrap_or(b"");
-    let len = min(text.len(), 25);
+    let len = text.len();
     let mut bytes = [0u8; 25];
-    bytes[..len].copy_from_slice(&text[..len]);
+    bytes[..len].copy_from_slice(text);
     number(console, len, b" ")?;
     say(console, &bytes)?;
     say(console, b"\n")?;
