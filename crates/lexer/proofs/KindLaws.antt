@@ -1,4 +1,4 @@
--- A token's kind and end at a place of the document.
+-- A token's kind at a place of the document.
 -- Assumes nothing.
 use Prim.Native.Nat.{ℕ, ◌<◌}
 use mathlib.Core.Path.{◌≡◌, ap}
@@ -12,11 +12,10 @@ use Rattle.text_classes.specs.Classes.{wschar}
 use Rattle.text_classes.proofs.Conds.{cond_case}
 use Rattle.lexer_token.specs.declared.TokenKind.{TokenKind}
 use Rattle.lexer_token.specs.declared.TokenKind.TheVariants.{Dot, Equals, Comma, LeftSquareBracket, RightSquareBracket, LeftCurlyBracket, RightCurlyBracket, Whitespace, Comment, Newline, LiteralString, BasicString, MlLiteralString, MlBasicString, Atom}
-use Rattle.lexer_token.specs.Records.{token_of}
 use Rattle.lexer_scans.specs.Extents.{eol}
 use Rattle.text_classes.specs.Runs.{triple}
-use Rattle.lexer.specs.Table.{kind_by, kind_of, token_len}
-use Rattle.lexer.specs.Tokens.{token_by, token_at}
+use Rattle.lexer.specs.Table.{kind_by, kind_of}
+use Rattle.lexer.specs.Loops.{found_of}
 
 pub kind_at : (s : List ℕ) (i : ℕ) → i < length s → kind_of (drop i s) ≡ kind_by (get_or s i 0) (triple (get_or s i 0) (drop i s))
 unfolding kind_of
@@ -25,14 +24,6 @@ kind_at s i h = rw (drop-cons s i 0)
 -- the kind by the byte at a place
 abbrev pub KindThere : List ℕ → ℕ → TokenKind → Type 0
 KindThere doc at k = kind_by (get_or doc at 0) (triple (get_or doc at 0) (drop at doc)) ≡ k
-
--- a token of that kind is the token there
-abbrev pub Made : TokenKind → List ℕ → ℕ → ℕ → Type 0
-Made k doc at line = token_by k at line (drop at doc) ≡ token_at at line (drop at doc)
-
-pub token_there : (k : TokenKind) (doc : List ℕ) (at line : ℕ) → at < length doc → KindThere doc at k → Made k doc at line
-unfolding token_len
-token_there k doc at line h e = rw (kind_at doc at h, e)
 
 -- b is none of some bytes
 abbrev pub NoneOf : ℕ → List ℕ → Type 0
@@ -61,9 +52,9 @@ atom_by b three r =
       ne_eqb b 46 r.0.0.0.0.0.0.0.0.0.0.0.0.0.1,
     )
 
--- the same token by an equal end
-pub end_is : {k : TokenKind} {at line e f : ℕ} → e ≡ f → token_of k at e line ≡ token_of k at f line
-end_is {k} {at} {line} e = ap (λ (n : ℕ). token_of k at n line) e
+-- the same by an equal end
+pub end_is : {k : TokenKind} {e f n : ℕ} → e ≡ f → found_of k e n ≡ found_of k f n
+end_is {k} {e} {f} {n} same = ap (λ (i : ℕ). found_of k i n) same
 
 -- the kinds in turn: what holds of each kind under its test holds of the kind by a first byte
 pub by_kind : (P : TokenKind → Type 0) (b : ℕ) (three : Bool)

@@ -1,6 +1,6 @@
 pub mod KindLaws
 pub mod LineLaws
-pub mod NextLaws
+pub mod FoundLaws
 pub mod TokenLaws
 pub mod UntilLaws
 pub mod WholeLaws

@@ -43,7 +43,7 @@ line_feeds κs a x y s t p q = p ∙ sym q
 pub line_of : OneAnswer promised.line_of.Reads.Learnt
 line_of κs a x y s t p q = p ∙ sym q
 
--- the token that `Ranges` gives, in the loop and in a step
+-- what `Ranges` says of a place, in the loop and in a step
 pub token : OneAnswer promised.RangesEngine.token.Reads.Learnt
 token κs a x y s t p q = p ∙ sym q
 

@@ -4,30 +4,18 @@
 use Rattle.std.specs.Prelude.{ℕ, ◌+◌, ◌-◌, ◌≤◌, ◌<◌, ◌≡◌, Bool, cond, List, [], ◌∷◌, ◌++◌, map, length, take, drop, ltb, Ok, Some}
 use Rattle.std.proofs.lemmas.List.Edits.{sets}
 use Rattle.text_refusals.specs.Refusals.{limit}
+use Rattle.lexer_token.specs.declared.TokenKind.{TokenKind}
 use Rattle.lexer_token.specs.declared.Token.{Token}
-use Rattle.lexer_token.specs.Records.{record_of}
+use Rattle.lexer_token.specs.Records.{token_of, record_of}
 use Rattle.lexer.specs.Lines.{line_feeds}
-use Rattle.lexer.specs.Tokens.{token_at, line_after, tokens_from}
+use Rattle.lexer.specs.Tokens.{tokens_from}
 use Rattle.lexer.specs.Whole.{records_of, token_count}
 use Rattle.lexer.specs.Steps.{cursor_of, Step}
 use Rattle.lexer.specs.declared.Cursor.{Cursor}
-use Rattle.lexer.specs.declared.Next.{Next}
+use Rattle.lexer.specs.declared.Found.{Found}
 use Rattle.lexer.specs.declared.TokensPassed.{TokensPassed}
 
 -- ---- tokens
-
--- a token is the one at its place of the document, on a line that does not pass that place plus 1
-pub record TokenStands (doc : List ℕ) (t : Token) : Type 0 where
-  pub within : t.span.start < length doc
-  pub here : t ≡ token_at t.span.start t.line (drop t.span.start doc)
-  pub low : t.line ≤ t.span.start + 1
-
--- a token with the line after it, and the one at a place
-abbrev pub next_of : Token → ℕ → Next
-next_of t line = record { token = t; line = line }
-
-abbrev pub next_at : ℕ → ℕ → List ℕ → Next
-next_at at line s = next_of (token_at at line s) (line_after line s)
 
 -- the tokens at the front that begin before a place
 unfoldable pub before : ℕ → List Token → List Token
@@ -75,9 +63,13 @@ pub record GoesOn (doc : List ℕ) (stop start first : ℕ) (out : TokensPassed)
 abbrev pub Before : List ℕ → Cursor → Type 0
 Before doc c = (length doc ≤ limit) × (c.place < length doc) × (c.line ≤ c.place + 1)
 
--- the step over a token
-abbrev pub step_over : Next → Bool → Step
-step_over n ended = Ok (Some (n.token, cursor_of n.token.span.end n.line ended))
+-- what stands at a place, by its kind, its end and the LFs in it
+abbrev pub found_of : TokenKind → ℕ → ℕ → Found
+found_of k end feeds = record { kind = k; end = end; feeds = feeds }
+
+-- the step over what stands at a place, on a line
+abbrev pub step_over : Found → ℕ → ℕ → Bool → Step
+step_over f place line ended = Ok (Some (token_of f.kind place f.end line, cursor_of f.end (line + f.feeds) ended))
 
 -- ---- records
 

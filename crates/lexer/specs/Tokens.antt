@@ -3,15 +3,13 @@ use Rattle.std.specs.Prelude.{ℕ, zero, suc, pred, ◌+◌}
 use mathlib.Core.{Bool.Bool, Bool.cond, Bool.◌&&◌, List.List, List.[], List.◌∷◌}
 use lib.{ListN.take, ListN.drop}
 use Rattle.text_classes.specs.{Runs.stands}
-use Rattle.lexer_token.specs.declared.{TokenKind.TokenKind, TokenKind.TheVariants.Eof, Token.Token}
+use Rattle.lexer_token.specs.declared.{TokenKind.TheVariants.Eof, Token.Token}
 use Rattle.lexer_token.specs.{Records.token_of}
-use Rattle.lexer.specs.{Lines.line_feeds, Lines.line_behind, Table.kind_of, Table.extent, Table.token_len}
+use Rattle.lexer.specs.{Lines.line_feeds, Lines.line_behind, Table.kind_of, Table.token_len}
+use Rattle.lexer.specs.declared.{Found.Found}
 
--- a token of the kind k, over the bytes s, which stand from the place `at` on; `line` is the line of its first byte
-abbrev pub token_by : TokenKind → ℕ → ℕ → List ℕ → Token
-token_by k at line s = token_of k at (at + extent k s) line
-
--- the token at the front of the bytes s, with `at` and `line` as above; where there are no bytes it is Eof
+-- the token at the front of the bytes s, which stand from the place `at` on; `line` is the line of its first byte. Where there are
+-- no bytes it is Eof
 abbrev pub token_at : ℕ → ℕ → List ℕ → Token
 token_at at line s = token_of (kind_of s) at (at + token_len s) line
 
@@ -22,6 +20,10 @@ eof_at at line = token_of Eof at at line
 -- the line after that token, counted on by the LFs in it
 abbrev pub line_after : ℕ → List ℕ → ℕ
 line_after line s = line + line_feeds (take (token_len s) s)
+
+-- what an engine says of that token: its kind, its end and the LFs in it. Of no bytes: Eof, which ends where it begins and holds none
+abbrev pub found_at : ℕ → List ℕ → Found
+found_at at s = record { kind = kind_of s; end = at + token_len s; feeds = line_feeds (take (token_len s) s) }
 
 -- tokens without gap to the end, then one Eof; `skip` counts the bytes of a token that are still to be passed, and each LF
 -- that is passed is a line more. `Tokens-none` and `tokens_cons` in proofs/TokenLaws.antt say it without the counter

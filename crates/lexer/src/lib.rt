@@ -4,17 +4,17 @@
 
 mod lines;
 
-ghost use Rattle.std.specs.Prelude.{◌≡◌, true, false, ◌+◌, ◌≤◌, ◌<◌, length, drop, get_or};
+ghost use Rattle.std.specs.Prelude.{◌≡◌, true, false, ◌+◌, ◌^◌, ◌≤◌, ◌<◌, length, drop, get_or};
 ghost use Rattle.text_refusals.specs.Told.{told_number, told_value, told_length, told_count};
 ghost use Rattle.lexer_token.specs.Records.{token_of};
 ghost use Rattle.lexer.specs.Lines.{line_of};
-ghost use Rattle.lexer.specs.Tokens.{has_bom, start_of, token_by, line_after};
-ghost use Rattle.lexer.specs.Table.{kind_of};
+ghost use Rattle.lexer.specs.Tokens.{has_bom, start_of, found_at};
+ghost use Rattle.lexer.specs.Table.{kind_of, extent};
 ghost use Rattle.lexer.specs.Steps.{cursor_of, start_answer};
 ghost use Rattle.lexer.specs.Told.{start_refusal, start_returned, step_refusal, step_returned, lex_refusal, lex_returned, lex_fault};
 ghost use Rattle.lexer.specs.Steps.{step_of};
 ghost use Rattle.lexer.specs.Whole.{token_count, lex_answer, lex_memory};
-ghost use Rattle.lexer.specs.Loops.{TokenStands, GoesOn, Before, step_over, next_of, next_at, tokens_until, line_until, store, records_over};
+ghost use Rattle.lexer.specs.Loops.{GoesOn, Before, found_of, step_over, tokens_until, line_until, store, records_over};
 
 use lexer_token::{Record, Span, Token, TokenKind};
 pub use lines::line_feeds;
@@ -64,7 +64,8 @@ impl Cursor {
         ensures value { told_value result ≡ step_returned doc.now self }
     {
         if self.is_before_the_end(doc) {
-            return step_of(E::step_token(doc, self.place, self.line), self.ended);
+            let found = E::step_token(doc, self.place);
+            return step_of(found, self.place, self.line, self.ended);
         }
         self.step_at_the_end(doc)
     }
@@ -108,13 +109,18 @@ impl Cursor {
     }
 }
 
-// The step over a token: the next cursor stands after it.
-fn step_of(next: Next, ended: bool) -> Result<Option<(Token, Cursor)>, Refusal>
-    ensures { result ≡ step_over next ended }
+// The step over what stands at a place, on a line: the next cursor stands after it.
+fn step_of(
+    found: Found,
+    place: usize,
+    line: usize,
+    ended: bool,
+) -> Result<Option<(Token, Cursor)>, Refusal>
+    requires { line + found.feeds < 2 ^ 64 }
+    ensures { result ≡ step_over found place line ended }
 {
-    let token = next.token;
-    let end = token.span.end;
-    Ok(Some((token, cursor_of(end, next.line, ended))))
+    let token = token_of(found.kind, place, found.end, line);
+    Ok(Some((token, cursor_of(found.end, line + found.feeds, ended))))
 }
 
 fn cursor_of(place: usize, line: usize, ended: bool) -> Cursor
@@ -185,67 +191,70 @@ fn fill<E: Engine>(doc: &[u8], records: &mut [Record]) -> usize
     n + 1
 }
 
-// A token, and the line after it.
+// What stands at a place of a document: the kind of the token there, where it ends, and how many LFs it holds.
 #[derive(Clone, Copy)]
-pub struct Next {
-    pub token: Token,
-    pub line: usize,
+pub struct Found {
+    pub kind: TokenKind,
+    pub end: usize,
+    pub feeds: usize,
 }
 
-// How a token's bytes are read in the loop over a document, into which it is compiled: the token that begins at a place of the
-// document, and the line after it.
-// Document, place and line stay parameters: a struct of them holds a reference, and clauses would say `here.entry.at` for `at`.
+// How a token's bytes are read in the loop over a document, into which it is compiled: what stands at a place of the document. Beyond
+// its last byte that is the end, as the rule has it, so an engine answers for every place; where the loop knows that a byte is there,
+// the compiler leaves the question out.
 pub trait Engine {
-    fn token(doc: &[u8], at: usize, line: usize) -> Next
-        requires { (at < length doc.now) × (line ≤ at + 1) }
-        ensures { result ≡ next_at at line (drop at doc.now) };
+    fn token(doc: &[u8], at: usize) -> Found
+        ensures { result ≡ found_at at (drop at doc.now) };
 }
 
-// And in one step, the same token. A trait of its own: that of `Ranges` goes over some tokens by the loop, which stands on `Engine`.
+// And in one step, the same. A trait of its own: that of `Ranges` goes over some tokens by the loop, which stands on `Engine`.
 pub trait StepEngine: Engine {
-    fn step_token(doc: &[u8], at: usize, line: usize) -> Next
-        requires { (at < length doc.now) × (line ≤ at + 1) }
-        ensures { result ≡ next_at at line (drop at doc.now) }
+    fn step_token(doc: &[u8], at: usize) -> Found
+        ensures { result ≡ found_at at (drop at doc.now) }
     {
-        Self::token(doc, at, line)
+        Self::token(doc, at)
     }
 }
 
 // The engine that tests ranges of bytes.
+#[derive(Clone, Copy)]
 pub struct Ranges;
 
 impl Engine for Ranges {
     #[inline(always)]
-    fn token(doc: &[u8], at: usize, line: usize) -> Next {
+    fn token(doc: &[u8], at: usize) -> Found {
+        if doc.len() <= at {
+            return past_the_end(doc, at);
+        }
         let b = doc[at];
         match b {
-            b'.' => same_line(lex_ascii_char(doc, at, line, TokenKind::Dot)),
-            b'=' => same_line(lex_ascii_char(doc, at, line, TokenKind::Equals)),
-            b',' => same_line(lex_ascii_char(doc, at, line, TokenKind::Comma)),
-            b'[' => same_line(lex_ascii_char(doc, at, line, TokenKind::LeftSquareBracket)),
-            b']' => same_line(lex_ascii_char(doc, at, line, TokenKind::RightSquareBracket)),
-            b'{' => same_line(lex_ascii_char(doc, at, line, TokenKind::LeftCurlyBracket)),
-            b'}' => same_line(lex_ascii_char(doc, at, line, TokenKind::RightCurlyBracket)),
-            b' ' => same_line(lex_whitespace(doc, at, line)),
-            b'\t' => same_line(lex_whitespace(doc, at, line)),
-            COMMENT_START_SYMBOL => same_line(lex_comment(doc, at, line)),
-            b'\r' => lex_crlf(doc, at, line),
-            b'\n' => lex_lf(doc, at, line),
+            b'.' => lex_ascii_char(doc, at, TokenKind::Dot),
+            b'=' => lex_ascii_char(doc, at, TokenKind::Equals),
+            b',' => lex_ascii_char(doc, at, TokenKind::Comma),
+            b'[' => lex_ascii_char(doc, at, TokenKind::LeftSquareBracket),
+            b']' => lex_ascii_char(doc, at, TokenKind::RightSquareBracket),
+            b'{' => lex_ascii_char(doc, at, TokenKind::LeftCurlyBracket),
+            b'}' => lex_ascii_char(doc, at, TokenKind::RightCurlyBracket),
+            b' ' => lex_whitespace(doc, at),
+            b'\t' => lex_whitespace(doc, at),
+            COMMENT_START_SYMBOL => lex_comment(doc, at),
+            b'\r' => lex_crlf(doc, at),
+            b'\n' => lex_lf(doc, at),
             APOSTROPHE => {
                 if is_triple(doc, at, APOSTROPHE) {
-                    over_lines(doc, lex_ml_literal_string(doc, at, line))
+                    lex_ml_literal_string(doc, at)
                 } else {
-                    same_line(lex_literal_string(doc, at, line))
+                    lex_literal_string(doc, at)
                 }
             }
             QUOTATION_MARK => {
                 if is_triple(doc, at, QUOTATION_MARK) {
-                    over_lines(doc, lex_ml_basic_string(doc, at, line))
+                    lex_ml_basic_string(doc, at)
                 } else {
-                    same_line(lex_basic_string(doc, at, line))
+                    lex_basic_string(doc, at)
                 }
             }
-            _ => same_line(lex_atom(doc, at, line)),
+            _ => lex_atom(doc, at),
         }
     }
 }
@@ -253,48 +262,51 @@ impl Engine for Ranges {
 impl StepEngine for Ranges {
     // What is soon read is read here: the loop of `lex_until` sets up more before its first token than such a token costs.
     #[inline(always)]
-    fn step_token(doc: &[u8], at: usize, line: usize) -> Next {
+    fn step_token(doc: &[u8], at: usize) -> Found {
+        if doc.len() <= at {
+            return past_the_end(doc, at);
+        }
         let b = doc[at];
         match b {
-            b'.' => same_line(lex_ascii_char(doc, at, line, TokenKind::Dot)),
-            b'=' => same_line(lex_ascii_char(doc, at, line, TokenKind::Equals)),
-            b',' => same_line(lex_ascii_char(doc, at, line, TokenKind::Comma)),
-            b'[' => same_line(lex_ascii_char(doc, at, line, TokenKind::LeftSquareBracket)),
-            b']' => same_line(lex_ascii_char(doc, at, line, TokenKind::RightSquareBracket)),
-            b'{' => same_line(lex_ascii_char(doc, at, line, TokenKind::LeftCurlyBracket)),
-            b'}' => same_line(lex_ascii_char(doc, at, line, TokenKind::RightCurlyBracket)),
-            b' ' => same_line(lex_whitespace(doc, at, line)),
-            b'\t' => same_line(lex_whitespace(doc, at, line)),
-            COMMENT_START_SYMBOL => by_loop(doc, at, line, TokenKind::Comment),
-            b'\r' => by_loop(doc, at, line, TokenKind::Newline),
-            b'\n' => lex_lf(doc, at, line),
+            b'.' => lex_ascii_char(doc, at, TokenKind::Dot),
+            b'=' => lex_ascii_char(doc, at, TokenKind::Equals),
+            b',' => lex_ascii_char(doc, at, TokenKind::Comma),
+            b'[' => lex_ascii_char(doc, at, TokenKind::LeftSquareBracket),
+            b']' => lex_ascii_char(doc, at, TokenKind::RightSquareBracket),
+            b'{' => lex_ascii_char(doc, at, TokenKind::LeftCurlyBracket),
+            b'}' => lex_ascii_char(doc, at, TokenKind::RightCurlyBracket),
+            b' ' => lex_whitespace(doc, at),
+            b'\t' => lex_whitespace(doc, at),
+            COMMENT_START_SYMBOL => by_loop(doc, at, TokenKind::Comment),
+            b'\r' => by_loop(doc, at, TokenKind::Newline),
+            b'\n' => lex_lf(doc, at),
             APOSTROPHE => {
                 if is_triple(doc, at, APOSTROPHE) {
-                    by_loop(doc, at, line, TokenKind::MlLiteralString)
+                    by_loop(doc, at, TokenKind::MlLiteralString)
                 } else {
-                    by_loop(doc, at, line, TokenKind::LiteralString)
+                    by_loop(doc, at, TokenKind::LiteralString)
                 }
             }
             QUOTATION_MARK => {
                 if is_triple(doc, at, QUOTATION_MARK) {
-                    by_loop(doc, at, line, TokenKind::MlBasicString)
+                    by_loop(doc, at, TokenKind::MlBasicString)
                 } else {
-                    by_loop(doc, at, line, TokenKind::BasicString)
+                    by_loop(doc, at, TokenKind::BasicString)
                 }
             }
-            _ => same_line(lex_atom(doc, at, line)),
+            _ => lex_atom(doc, at),
         }
     }
 }
 
-// A token of a kind, whose end and the line after it are found by the loop.
-fn by_loop(doc: &[u8], at: usize, line: usize, kind: TokenKind) -> Next
-    requires { (at < length doc.now) × (line ≤ at + 1) × (kind_of (drop at doc.now) ≡ kind) }
-    ensures { result ≡ next_at at line (drop at doc.now) }
+// A token of a kind, whose end and LFs are found by the loop.
+fn by_loop(doc: &[u8], at: usize, kind: TokenKind) -> Found
+    requires { (at < length doc.now) × (kind_of (drop at doc.now) ≡ kind) }
+    ensures { result ≡ found_at at (drop at doc.now) }
 {
     let mut one = [[0usize; 4]; 1];
-    let passed = lex_until::<Ranges>(doc, at, line, at + 1, &mut one);
-    next_of(token_of(kind, at, passed.place, line), passed.line)
+    let passed = lex_until::<Ranges>(doc, at, 0, at + 1, &mut one);
+    found_of(kind, passed.place, passed.line)
 }
 
 // How many tokens were passed, and the place and the line after them.
@@ -323,14 +335,15 @@ fn lex_until<E: Engine>(
     let mut at = start;
     let mut line = first;
     let mut n: usize = 0;
+    // `stop` lies within the document. It is said here so that the compiler sees it, and leaves out what an engine asks first.
+    let last = stop.min(doc.len());
     // no iterator: a turn goes over a token, as far as it reaches
-    while at < stop {
-        let next = E::token(doc, at, line);
-        let token = next.token;
-        records[n] = token.as_record();
+    while at < last {
+        let found = E::token(doc, at);
+        records[n] = token_of(found.kind, at, found.end, line).as_record();
         n += 1;
-        line = next.line;
-        at = token.span.end;
+        line += found.feeds;
+        at = found.end;
     }
     TokensPassed {
         count: n,
@@ -366,141 +379,121 @@ fn token_of(kind: TokenKind, start: usize, end: usize, line: usize) -> Token
     Token::new(kind, Span::new(start, end), line)
 }
 
-fn next_of(token: Token, line: usize) -> Next
-    ensures { result ≡ next_of token line }
+fn found_of(kind: TokenKind, end: usize, feeds: usize) -> Found
+    ensures { result ≡ found_of kind end feeds }
 {
-    Next { token, line }
+    Found { kind, end, feeds }
 }
 
-// Of a token that holds no LF.
-fn same_line(token: Token) -> Next
-    ensures { result ≡ next_of token token.line }
+// Beyond the last byte stands the end, of no bytes.
+fn past_the_end(doc: &[u8], at: usize) -> Found
+    requires { length doc.now ≤ at }
+    ensures { result ≡ found_at at (drop at doc.now) }
 {
-    next_of(token, token.line)
+    found_of(TokenKind::Eof, at, 0)
 }
 
 // Of a token that may hold LFs: they are counted.
-fn over_lines(doc: &[u8], token: Token) -> Next
-    requires { TokenStands doc.now token }
-    ensures { result ≡ next_of token (line_after token.line (drop token.span.start doc.now)) }
+fn over_lines(doc: &[u8], at: usize, kind: TokenKind, end: usize) -> Found
+    requires { (at < length doc.now) × (kind_of (drop at doc.now) ≡ kind) × (end ≡ at + extent kind (drop at doc.now)) }
+    ensures { result ≡ found_at at (drop at doc.now) }
 {
-    next_of(token, lines::line_after(doc, token))
+    found_of(kind, end, line_feeds(&doc[at..end]))
 }
 
 // A token of one byte.
-fn lex_ascii_char(doc: &[u8], at: usize, line: usize, kind: TokenKind) -> Token
+fn lex_ascii_char(doc: &[u8], at: usize, kind: TokenKind) -> Found
     requires { at < length doc.now }
-    ensures { result ≡ token_of kind at (at + 1) line }
+    ensures { result ≡ found_of kind (at + 1) 0 }
 {
-    token_of(kind, at, at + 1, line)
+    found_of(kind, at + 1, 0)
 }
 
 // ws = *wschar
-fn lex_whitespace(doc: &[u8], at: usize, line: usize) -> Token
+fn lex_whitespace(doc: &[u8], at: usize) -> Found
     requires { at < length doc.now }
-    ensures { result ≡ token_by TokenKind.Whitespace at line (drop at doc.now) }
+    ensures { result ≡ found_of TokenKind.Whitespace (at + extent TokenKind.Whitespace (drop at doc.now)) 0 }
 {
-    token_of(
+    found_of(
         TokenKind::Whitespace,
-        at,
         lexer_scans::wschar_run(doc, at + 1),
-        line,
+        0,
     )
 }
 
 // comment = comment-start-symbol *non-eol, up to a CR or an LF, whatever stands before it
-fn lex_comment(doc: &[u8], at: usize, line: usize) -> Token
+fn lex_comment(doc: &[u8], at: usize) -> Found
     requires { at < length doc.now }
-    ensures { result ≡ token_by TokenKind.Comment at line (drop at doc.now) }
+    ensures { result ≡ found_of TokenKind.Comment (at + extent TokenKind.Comment (drop at doc.now)) 0 }
 {
-    token_of(
-        TokenKind::Comment,
-        at,
-        lexer_scans::comment_run(doc, at + 1),
-        line,
-    )
+    found_of(TokenKind::Comment, lexer_scans::comment_run(doc, at + 1), 0)
 }
 
 // newline = %x0A
-fn lex_lf(doc: &[u8], at: usize, line: usize) -> Next
-    requires { (at < length doc.now) × (line ≤ at + 1) × (get_or doc.now at 0 ≡ 10) }
-    ensures { result ≡ next_at at line (drop at doc.now) }
+fn lex_lf(doc: &[u8], at: usize) -> Found
+    requires { (at < length doc.now) × (get_or doc.now at 0 ≡ 10) }
+    ensures { result ≡ found_at at (drop at doc.now) }
 {
-    next_of(lex_ascii_char(doc, at, line, TokenKind::Newline), line + 1)
+    found_of(TokenKind::Newline, at + 1, 1)
 }
 
 // newline =/ %x0D.0A ; and a CR alone, which ends no line
-fn lex_crlf(doc: &[u8], at: usize, line: usize) -> Next
-    requires { (at < length doc.now) × (line ≤ at + 1) × (get_or doc.now at 0 ≡ 13) }
-    ensures { result ≡ next_at at line (drop at doc.now) }
+fn lex_crlf(doc: &[u8], at: usize) -> Found
+    requires { (at < length doc.now) × (get_or doc.now at 0 ≡ 13) }
+    ensures { result ≡ found_at at (drop at doc.now) }
 {
     if is_at(doc, at + 1, b'\n') {
-        return next_of(token_of(TokenKind::Newline, at, at + 2, line), line + 1);
+        return found_of(TokenKind::Newline, at + 2, 1);
     }
-    next_of(token_of(TokenKind::Newline, at, at + 1, line), line)
+    found_of(TokenKind::Newline, at + 1, 0)
 }
 
 // literal-string = apostrophe *literal-char apostrophe
-fn lex_literal_string(doc: &[u8], at: usize, line: usize) -> Token
+fn lex_literal_string(doc: &[u8], at: usize) -> Found
     requires { at < length doc.now }
-    ensures { result ≡ token_by TokenKind.LiteralString at line (drop at doc.now) }
+    ensures { result ≡ found_of TokenKind.LiteralString (at + extent TokenKind.LiteralString (drop at doc.now)) 0 }
 {
-    token_of(
+    found_of(
         TokenKind::LiteralString,
-        at,
         lexer_scans::literal_tail(doc, at + Span::MARK),
-        line,
+        0,
     )
 }
 
 // ml-literal-string = ml-literal-string-delim [ newline ] ml-literal-body ml-literal-string-delim
-fn lex_ml_literal_string(doc: &[u8], at: usize, line: usize) -> Token
-    requires { at + 3 ≤ length doc.now }
-    ensures { result ≡ token_by TokenKind.MlLiteralString at line (drop at doc.now) }
+fn lex_ml_literal_string(doc: &[u8], at: usize) -> Found
+    requires { (at + 3 ≤ length doc.now) × (kind_of (drop at doc.now) ≡ TokenKind.MlLiteralString) }
+    ensures { result ≡ found_at at (drop at doc.now) }
 {
-    token_of(
-        TokenKind::MlLiteralString,
-        at,
-        lexer_scans::ml_literal_tail(doc, at + Span::ML_MARK),
-        line,
-    )
+    let end = lexer_scans::ml_literal_tail(doc, at + Span::ML_MARK);
+    over_lines(doc, at, TokenKind::MlLiteralString, end)
 }
 
 // basic-string = quotation-mark *basic-char quotation-mark
-fn lex_basic_string(doc: &[u8], at: usize, line: usize) -> Token
+fn lex_basic_string(doc: &[u8], at: usize) -> Found
     requires { at < length doc.now }
-    ensures { result ≡ token_by TokenKind.BasicString at line (drop at doc.now) }
+    ensures { result ≡ found_of TokenKind.BasicString (at + extent TokenKind.BasicString (drop at doc.now)) 0 }
 {
-    token_of(
+    found_of(
         TokenKind::BasicString,
-        at,
         lexer_scans::basic_tail(doc, at + Span::MARK),
-        line,
+        0,
     )
 }
 
 // ml-basic-string = ml-basic-string-delim [ newline ] ml-basic-body ml-basic-string-delim
-fn lex_ml_basic_string(doc: &[u8], at: usize, line: usize) -> Token
-    requires { at + 3 ≤ length doc.now }
-    ensures { result ≡ token_by TokenKind.MlBasicString at line (drop at doc.now) }
+fn lex_ml_basic_string(doc: &[u8], at: usize) -> Found
+    requires { (at + 3 ≤ length doc.now) × (kind_of (drop at doc.now) ≡ TokenKind.MlBasicString) }
+    ensures { result ≡ found_at at (drop at doc.now) }
 {
-    token_of(
-        TokenKind::MlBasicString,
-        at,
-        lexer_scans::ml_basic_tail(doc, at + Span::ML_MARK),
-        line,
-    )
+    let end = lexer_scans::ml_basic_tail(doc, at + Span::ML_MARK);
+    over_lines(doc, at, TokenKind::MlBasicString, end)
 }
 
 // Everything else, up to a byte that begins another token.
-fn lex_atom(doc: &[u8], at: usize, line: usize) -> Token
+fn lex_atom(doc: &[u8], at: usize) -> Found
     requires { at < length doc.now }
-    ensures { result ≡ token_by TokenKind.Atom at line (drop at doc.now) }
+    ensures { result ≡ found_of TokenKind.Atom (at + extent TokenKind.Atom (drop at doc.now)) 0 }
 {
-    token_of(
-        TokenKind::Atom,
-        at,
-        lexer_scans::atom_run(doc, at + 1),
-        line,
-    )
+    found_of(TokenKind::Atom, lexer_scans::atom_run(doc, at + 1), 0)
 }

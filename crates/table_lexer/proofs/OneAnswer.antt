@@ -13,7 +13,7 @@ step κs a x y s t p q = p.0 ∙ sym q.0
 pub lex : OneOutcome promised.lex.Reads.Learnt (λ κs r s. r and s.1.0.now)
 lex κs a x y s t p q = both (p.0 ∙ sym q.0) (p.1.1.1.1 ∙ sym q.1.1.1.1)
 
--- the engine's token, in the loop and in a step
+-- what `Table` says of a place, in the loop and in a step
 pub token : OneAnswer promised.table.TableEngine.token.Reads.Learnt
 token κs a x y s t p q = p ∙ sym q
 

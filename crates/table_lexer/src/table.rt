@@ -2,17 +2,22 @@
 // Rule: Table.antt of crate `lexer`.
 ghost use Rattle.std.specs.Prelude.{◌≡◌, ◌+◌, ◌≤◌, ◌<◌, length, drop};
 ghost use Rattle.lexer.specs.Table.{kind_of, extent};
+ghost use Rattle.lexer.specs.Tokens.{found_at};
 
-use lexer::{Engine, Next, StepEngine};
-use lexer_token::{Span, Token, TokenKind};
+use lexer::{Engine, Found, StepEngine};
+use lexer_token::{Span, TokenKind};
 use table_classes::{Set, Sign, class, class_of, class_run, is_at, is_triple};
 
 // The engine that looks each byte up.
+#[derive(Clone, Copy)]
 pub struct Table;
 
 impl Engine for Table {
     #[inline(always)]
-    fn token(doc: &[u8], at: usize, line: usize) -> Next {
+    fn token(doc: &[u8], at: usize) -> Found {
+        if doc.len() <= at {
+            return past_the_end(doc, at);
+        }
         let kind = kind_at(doc, at);
         let end = end_of(doc, at, kind);
         let feeds = match kind {
@@ -20,14 +25,23 @@ impl Engine for Table {
                 lexer::line_feeds(&doc[at..end]),
             _ => 0,
         };
-        Next {
-            token: Token::new(kind, Span::new(at, end), line),
-            line: line + feeds,
-        }
+        Found { kind, end, feeds }
     }
 }
 
 impl StepEngine for Table {}
+
+// Beyond the last byte stands the end, of no bytes.
+fn past_the_end(doc: &[u8], at: usize) -> Found
+    requires { length doc.now ≤ at }
+    ensures { result ≡ found_at at (drop at doc.now) }
+{
+    Found {
+        kind: TokenKind::Eof,
+        end: at,
+        feeds: 0,
+    }
+}
 
 // The kind of the token that begins at a place of the document.
 fn kind_at(doc: &[u8], at: usize) -> TokenKind

@@ -8,4 +8,4 @@ use Rattle.lexer.proofs.lex_comment.Goals as goal
 
 pub returns : goal.returns
 unfolding extent
-returns c = c.token_of.ensures ∙ end_is (c.comment_run.ensures ∙ simp drop-drop (omega arith))
+returns c = c.found_of.ensures ∙ end_is (c.comment_run.ensures ∙ simp drop-drop (omega arith))

@@ -12,9 +12,8 @@ use Rattle.lexer_token.specs.declared.TokenKind.TheVariants.{Newline}
 use Rattle.lexer_scans.specs.Extents.{newline_tail}
 use Rattle.lexer_scans.proofs.MarkLaws.{stands_at, newline_tail_at}
 use Rattle.lexer.specs.Table.{kind_by, extent}
-use Rattle.lexer.specs.Tokens.{token_by}
-use Rattle.lexer.proofs.KindLaws.{KindThere}
-use Rattle.lexer.proofs.NextLaws.{next_lf, next_cr}
+use Rattle.lexer.proofs.KindLaws.{KindThere, kind_at}
+use Rattle.lexer.proofs.FoundLaws.{found_lf, found_cr}
 use Rattle.lexer.proofs.lex_crlf.Goals as goal
 
 -- a newline begins with a CR
@@ -31,19 +30,17 @@ unfolding extent
 returns-then-is_at c =
     let is = c.args in
     let second = lf_behind is.doc.now is.at ∙ sym c.is_at.ensures ∙ c.if-is_at.true in
-    let two : newline_tail (drop is.at is.doc.now) ≡ 1 = simp (newline_tail_at, c.requires.2, second) in
-    let made : c.token_of.result ≡ token_by Newline is.at is.line (drop is.at is.doc.now) = c.token_of.ensures ∙ simp (two) in
-    c.next_of.ensures
-    ∙ next_lf Newline is.doc.now is.at is.line c.requires.0 (newline is.doc.now is.at c.requires.2) _ made refl
-    (is.at + 1) (omega arith) (eqb-true _ _ second)
+    let two : newline_tail (drop is.at is.doc.now) ≡ 1 = simp (newline_tail_at, c.requires.1, second) in
+    let kind = kind_at is.doc.now is.at c.requires.0 ∙ newline is.doc.now is.at c.requires.1 in
+    c.found_of.ensures
+    ∙ found_lf Newline is.doc.now is.at kind _ (omega (arith, two)) c.requires.0 refl (is.at + 1) (omega arith) (eqb-true _ _ second)
 
 pub returns : goal.returns
 unfolding extent
 returns c =
     let is = c.args in
     let second = lf_behind is.doc.now is.at ∙ sym c.is_at.ensures ∙ c.if-is_at.false in
-    let one : newline_tail (drop is.at is.doc.now) ≡ 0 = simp (newline_tail_at, c.requires.2, second) in
-    let made : c.token_of-2.result ≡ token_by Newline is.at is.line (drop is.at is.doc.now) = c.token_of-2.ensures ∙ simp (one) in
-    c.next_of-2.ensures
-    ∙ next_cr Newline is.doc.now is.at is.line c.requires.0 (newline is.doc.now is.at c.requires.2) _ made refl
-    is.at (omega arith) (λ e. omega (arith, c.requires.2))
+    let one : newline_tail (drop is.at is.doc.now) ≡ 0 = simp (newline_tail_at, c.requires.1, second) in
+    let kind = kind_at is.doc.now is.at c.requires.0 ∙ newline is.doc.now is.at c.requires.1 in
+    c.found_of-2.ensures
+    ∙ found_cr Newline is.doc.now is.at kind _ (omega (arith, one)) c.requires.0 refl is.at (omega arith) (λ e. omega (arith, c.requires.1))

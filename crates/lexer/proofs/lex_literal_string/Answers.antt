@@ -8,4 +8,4 @@ use Rattle.lexer.proofs.lex_literal_string.Goals as goal
 
 pub returns : goal.returns
 unfolding extent
-returns c = c.token_of.ensures ∙ end_is (c.literal_tail.ensures ∙ simp drop-drop (omega arith))
+returns c = c.found_of.ensures ∙ end_is (c.literal_tail.ensures ∙ simp drop-drop (omega arith))

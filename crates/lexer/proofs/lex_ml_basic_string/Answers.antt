@@ -2,10 +2,9 @@
 use mathlib.Core.Path.{◌∙◌}
 use lib.Seq.{drop-drop}
 use Rattle.lexer.specs.Table.{extent}
-use Rattle.lexer.proofs.KindLaws.{end_is}
 use native.Mathlib.Omega.{arith}
 use Rattle.lexer.proofs.lex_ml_basic_string.Goals as goal
 
-pub returns : goal.returns
+pub over_lines-requires : goal.over_lines-requires
 unfolding extent
-returns c = c.token_of.ensures ∙ end_is (c.ml_basic_tail.ensures ∙ simp drop-drop (omega arith))
+over_lines-requires c = (omega arith, c.requires.1, c.ml_basic_tail-end.ensures ∙ simp drop-drop (omega arith))

@@ -1,142 +1,109 @@
 -- `token` is right because its arms are the table's, first byte by first byte, and each function reads that kind's
--- token; the kinds on one line leave the line as it was, an LF is one more, and in the others the LFs are counted.
+-- token; the kinds on one line hold no LF; before them it asks whether a byte is there.
 use mathlib.Core.Path.{refl, sym, ◌∙◌}
+use native.Mathlib.Omega.{arith}
 use lib.ListN.{get_or, drop}
 use borrow.Author.Rules.{rules}
 use Rattle.text_classes.specs.Classes.{wschar}
 use Rattle.text_classes.specs.Runs.{triple}
 use Rattle.text_classes.proofs.TripleLaws.{triple_fits_at}
-use Rattle.lexer_token.specs.declared.TokenKind.TheVariants.{Dot, Equals, Comma, LeftSquareBracket, RightSquareBracket, LeftCurlyBracket, RightCurlyBracket, Whitespace, Comment, LiteralString, BasicString, MlLiteralString, MlBasicString, Atom}
+use Rattle.lexer_token.specs.declared.TokenKind.TheVariants.{Dot, Equals, Comma, LeftSquareBracket, RightSquareBracket, LeftCurlyBracket, RightCurlyBracket, Whitespace, Comment, LiteralString, BasicString, Atom}
 use Rattle.lexer.specs.Table.{kind_by, extent}
-use Rattle.lexer.proofs.KindLaws.{atom_by}
-use Rattle.lexer.proofs.NextLaws.{next_same, next_stands, next_over}
+use Rattle.lexer.proofs.KindLaws.{kind_at, atom_by}
+use Rattle.lexer.proofs.FoundLaws.{found_there}
 use Rattle.lexer.proofs.RangesEngine.token.Goals as goal
 
 pub lex_ml_literal_string-requires : goal.lex_ml_literal_string-requires
-lex_ml_literal_string-requires c = triple_fits_at 39 c.args.doc.now c.args.at (sym c.is_triple.ensures ∙ c.if-is_triple.true)
-
-pub over_lines-requires : goal.over_lines-requires
 unfolding kind_by wschar
-over_lines-requires c =
+lex_ml_literal_string-requires c =
     let is = c.args in
     let three = sym c.is_triple.ensures ∙ c.if-is_triple.true in
-    next_stands MlLiteralString is.doc.now is.at is.line c.requires.0 (rw (c.in-39.is, three)) _ c.lex_ml_literal_string.ensures c.requires.1
+    (triple_fits_at 39 is.doc.now is.at three, kind_at is.doc.now is.at (omega arith) ∙ rw (c.in-39.is, three))
 
 pub lex_ml_basic_string-requires : goal.lex_ml_basic_string-requires
-lex_ml_basic_string-requires c = triple_fits_at 34 c.args.doc.now c.args.at (sym c.is_triple-in-34.ensures ∙ c.if-is_triple-2.true)
-
-pub over_lines-requires-then-is_triple-2 : goal.over_lines-requires-then-is_triple-2
 unfolding kind_by wschar
-over_lines-requires-then-is_triple-2 c =
+lex_ml_basic_string-requires c =
     let is = c.args in
     let three = sym c.is_triple-in-34.ensures ∙ c.if-is_triple-2.true in
-    next_stands MlBasicString is.doc.now is.at is.line c.requires.0 (rw (c.in-34.is, three)) _ c.lex_ml_basic_string.ensures c.requires.1
+    (triple_fits_at 34 is.doc.now is.at three, kind_at is.doc.now is.at (omega arith) ∙ rw (c.in-34.is, three))
 
 pub returns-in-46 : goal.returns-in-46
 unfolding kind_by extent
 returns-in-46 c =
     let is = c.args in
-    c.same_line.ensures
-    ∙ next_same Dot is.doc.now is.at is.line c.requires.0 (rw c.in-46.is) _ c.lex_ascii_char.ensures refl
+    c.lex_ascii_char.ensures ∙ found_there Dot is.doc.now is.at (omega arith) (rw c.in-46.is) refl
 
 pub returns-in-61 : goal.returns-in-61
 unfolding kind_by extent
 returns-in-61 c =
     let is = c.args in
-    c.same_line-in-61.ensures
-    ∙ next_same Equals is.doc.now is.at is.line c.requires.0 (rw c.in-61.is) _ c.lex_ascii_char-in-61.ensures refl
+    c.lex_ascii_char-in-61.ensures ∙ found_there Equals is.doc.now is.at (omega arith) (rw c.in-61.is) refl
 
 pub returns-in-44 : goal.returns-in-44
 unfolding kind_by extent
 returns-in-44 c =
     let is = c.args in
-    c.same_line-in-44.ensures
-    ∙ next_same Comma is.doc.now is.at is.line c.requires.0 (rw c.in-44.is) _ c.lex_ascii_char-in-44.ensures refl
+    c.lex_ascii_char-in-44.ensures ∙ found_there Comma is.doc.now is.at (omega arith) (rw c.in-44.is) refl
 
 pub returns-in-91 : goal.returns-in-91
 unfolding kind_by extent
 returns-in-91 c =
     let is = c.args in
-    c.same_line-in-91.ensures
-    ∙ next_same LeftSquareBracket is.doc.now is.at is.line c.requires.0 (rw c.in-91.is) _ c.lex_ascii_char-in-91.ensures refl
+    c.lex_ascii_char-in-91.ensures ∙ found_there LeftSquareBracket is.doc.now is.at (omega arith) (rw c.in-91.is) refl
 
 pub returns-in-93 : goal.returns-in-93
 unfolding kind_by extent
 returns-in-93 c =
     let is = c.args in
-    c.same_line-in-93.ensures
-    ∙ next_same RightSquareBracket is.doc.now is.at is.line c.requires.0 (rw c.in-93.is) _ c.lex_ascii_char-in-93.ensures refl
+    c.lex_ascii_char-in-93.ensures ∙ found_there RightSquareBracket is.doc.now is.at (omega arith) (rw c.in-93.is) refl
 
 pub returns-in-123 : goal.returns-in-123
 unfolding kind_by extent
 returns-in-123 c =
     let is = c.args in
-    c.same_line-in-123.ensures
-    ∙ next_same LeftCurlyBracket is.doc.now is.at is.line c.requires.0 (rw c.in-123.is) _ c.lex_ascii_char-in-123.ensures refl
+    c.lex_ascii_char-in-123.ensures ∙ found_there LeftCurlyBracket is.doc.now is.at (omega arith) (rw c.in-123.is) refl
 
 pub returns-in-125 : goal.returns-in-125
 unfolding kind_by extent
 returns-in-125 c =
     let is = c.args in
-    c.same_line-in-125.ensures
-    ∙ next_same RightCurlyBracket is.doc.now is.at is.line c.requires.0 (rw c.in-125.is) _ c.lex_ascii_char-in-125.ensures refl
+    c.lex_ascii_char-in-125.ensures ∙ found_there RightCurlyBracket is.doc.now is.at (omega arith) (rw c.in-125.is) refl
 
 pub returns-in-32 : goal.returns-in-32
 unfolding kind_by wschar
 returns-in-32 c =
     let is = c.args in
-    c.same_line-in-32.ensures
-    ∙ next_same Whitespace is.doc.now is.at is.line c.requires.0 (rw c.in-32.is) _ c.lex_whitespace.ensures refl
+    c.lex_whitespace.ensures ∙ found_there Whitespace is.doc.now is.at (omega arith) (rw c.in-32.is) refl
 
 pub returns-in-9 : goal.returns-in-9
 unfolding kind_by wschar
 returns-in-9 c =
     let is = c.args in
-    c.same_line-in-9.ensures
-    ∙ next_same Whitespace is.doc.now is.at is.line c.requires.0 (rw c.in-9.is) _ c.lex_whitespace-in-9.ensures refl
+    c.lex_whitespace-in-9.ensures ∙ found_there Whitespace is.doc.now is.at (omega arith) (rw c.in-9.is) refl
 
 pub returns-in-35 : goal.returns-in-35
 unfolding kind_by wschar
 returns-in-35 c =
     let is = c.args in
-    c.same_line-in-35.ensures
-    ∙ next_same Comment is.doc.now is.at is.line c.requires.0 (rw c.in-35.is) _ c.lex_comment.ensures refl
-
-pub returns-then-is_triple : goal.returns-then-is_triple
-unfolding kind_by wschar
-returns-then-is_triple c =
-    let is = c.args in
-    let three = sym c.is_triple.ensures ∙ c.if-is_triple.true in
-    c.over_lines.ensures
-    ∙ next_over MlLiteralString is.doc.now is.at is.line c.requires.0 (rw (c.in-39.is, three)) _ c.lex_ml_literal_string.ensures
+    c.lex_comment.ensures ∙ found_there Comment is.doc.now is.at (omega arith) (rw c.in-35.is) refl
 
 pub returns-else-is_triple : goal.returns-else-is_triple
 unfolding kind_by wschar
 returns-else-is_triple c =
     let is = c.args in
     let fewer = sym c.is_triple.ensures ∙ c.if-is_triple.false in
-    c.same_line-else-is_triple.ensures
-    ∙ next_same LiteralString is.doc.now is.at is.line c.requires.0 (rw (c.in-39.is, fewer)) _ c.lex_literal_string.ensures refl
-
-pub returns-then-is_triple-2 : goal.returns-then-is_triple-2
-unfolding kind_by wschar
-returns-then-is_triple-2 c =
-    let is = c.args in
-    let three = sym c.is_triple-in-34.ensures ∙ c.if-is_triple-2.true in
-    c.over_lines-then-is_triple-2.ensures
-    ∙ next_over MlBasicString is.doc.now is.at is.line c.requires.0 (rw (c.in-34.is, three)) _ c.lex_ml_basic_string.ensures
+    c.lex_literal_string.ensures ∙ found_there LiteralString is.doc.now is.at (omega arith) (rw (c.in-39.is, fewer)) refl
 
 pub returns-else-is_triple-2 : goal.returns-else-is_triple-2
 unfolding kind_by wschar
 returns-else-is_triple-2 c =
     let is = c.args in
     let fewer = sym c.is_triple-in-34.ensures ∙ c.if-is_triple-2.false in
-    c.same_line-else-is_triple-2.ensures
-    ∙ next_same BasicString is.doc.now is.at is.line c.requires.0 (rw (c.in-34.is, fewer)) _ c.lex_basic_string.ensures refl
+    c.lex_basic_string.ensures ∙ found_there BasicString is.doc.now is.at (omega arith) (rw (c.in-34.is, fewer)) refl
 
 pub returns-in_default : goal.returns-in_default
 returns-in_default c =
     let is = c.args in
     let b = get_or is.doc.now is.at 0 in
     let atom = atom_by b (triple b (drop is.at is.doc.now)) (search rules) in
-    c.same_line-in_default.ensures ∙ next_same Atom is.doc.now is.at is.line c.requires.0 atom _ c.lex_atom.ensures refl
+    c.lex_atom.ensures ∙ found_there Atom is.doc.now is.at (omega arith) atom refl

@@ -1,25 +1,18 @@
 -- `token` is right because the kind and the end are the token's, and the LFs are counted in the kinds that may hold one.
 use Prim.Native.Nat.{ℕ, ◌+◌, ◌-◌}
-use mathlib.Core.Path.{◌≡◌, sym, ap, ◌∙◌}
+use mathlib.Core.Path.{◌≡◌, refl, sym, ap, ◌∙◌}
 use mathlib.Core.Bool.{false}
 use mathlib.Core.List.{List}
 use native.Mathlib.Omega.{arith}
 use lib.ListN.{take, drop}
 use Rattle.lexer_token.specs.declared.TokenKind.{TokenKind}
-use Rattle.lexer_token.specs.declared.Span.{Span}
-use Rattle.lexer_token.specs.Records.{token_of}
 use Rattle.lexer.specs.Lines.{line_feeds}
 use Rattle.lexer.specs.Table.{kind_of, extent, token_len}
-use Rattle.lexer.proofs.LineLaws.{holds_lf, token_no_lf, feeds_taken}
+use Rattle.lexer.proofs.LineLaws.{holds_lf, token_no_lf}
 use Rattle.lexer.proofs.TokenLaws.{end_at, token_fits_at}
-use Rattle.lexer.proofs.NextLaws.{next_parts}
+use Rattle.lexer.proofs.FoundLaws.{feeds_at, found_parts}
 use Rattle.table_lexer.proofs.TagLaws.{no_lf}
 use Rattle.table_lexer.proofs.table.TableEngine.token.Goals as goal
-use Rattle.table_lexer.proofs.table.TableEngine.token.Goals.{in-Newline, in_default}
-
--- the LFs in the token at a place
-abbrev feeds_at : List ℕ → ℕ → ℕ
-feeds_at doc at = line_feeds (take (token_len (drop at doc)) (drop at doc))
 
 module _ (doc : List ℕ) (at : ℕ) {end : ℕ} {k : TokenKind} (kind : k ≡ kind_of (drop at doc)) (ends : end ≡ at + extent k (drop at doc)) where
   end_is : end ≡ end_at doc at
@@ -39,23 +32,17 @@ end_of-end-requires c = rw c.kind_at-kind.ensures (token_fits_at c.args.doc.now 
 pub slice_bounds-line_feeds-end : goal.slice_bounds-line_feeds-end
 slice_bounds-line_feeds-end c = omega (arith, end_is c.args.doc.now c.args.at c.kind_at-kind.ensures c.end_of-end.ensures, token_fits_at c.args.doc.now c.args.at (omega arith))
 
-pub overflow_add-result : goal.overflow_add-result
-overflow_add-result c =
+pub returns-in-Newline : goal.returns-in-Newline
+returns-in-Newline c =
     let is = c.args in
-    let feeds : c.match-kind.feeds ≡ feeds_at is.doc.now is.at = elim c.match-kind.branch [
-      | in-Newline w ↦ counted is.doc.now is.at c.kind_at-kind.ensures c.end_of-end.ensures (w.feeds-is ∙ w.line_feeds-feeds.ensures)
-      | in_default w ↦ none is.doc.now is.at c.kind_at-kind.ensures c.end_of-end.ensures w.feeds-is
-          (no_lf _ w.in_default.not-Newline w.in_default.not-MlLiteralString w.in_default.not-MlBasicString)
-    ] in
-    omega (arith, feeds, feeds_taken (token_len (drop is.at is.doc.now)) (drop is.at is.doc.now), token_fits_at is.doc.now is.at (omega arith))
+    let end = end_is is.doc.now is.at c.kind_at-kind.ensures c.end_of-end.ensures in
+    let feeds = counted is.doc.now is.at c.kind_at-kind.ensures c.end_of-end.ensures c.line_feeds-feeds.ensures in
+    found_parts is.doc.now is.at (sym c.kind_at-kind.ensures) end feeds
 
-pub returns : goal.returns
-returns c =
+pub returns-in_default : goal.returns-in_default
+returns-in_default c =
     let is = c.args in
-    let feeds : c.match-kind.feeds ≡ feeds_at is.doc.now is.at = elim c.match-kind.branch [
-      | in-Newline w ↦ counted is.doc.now is.at c.kind_at-kind.ensures c.end_of-end.ensures (w.feeds-is ∙ w.line_feeds-feeds.ensures)
-      | in_default w ↦ none is.doc.now is.at c.kind_at-kind.ensures c.end_of-end.ensures w.feeds-is
-          (no_lf _ w.in_default.not-Newline w.in_default.not-MlLiteralString w.in_default.not-MlBasicString)
-    ] in
-    let made = c.new-2.ensures ∙ ap (λ (s : Span). token_of c.kind_at-kind.result s.start s.end is.line) c.new.ensures in
-    next_parts is.doc.now is.at is.line (sym c.kind_at-kind.ensures) made (end_is is.doc.now is.at c.kind_at-kind.ensures c.end_of-end.ensures) (ap (λ (n : ℕ). is.line + n) feeds)
+    let no = c.in_default in
+    let end = end_is is.doc.now is.at c.kind_at-kind.ensures c.end_of-end.ensures in
+    let feeds = none is.doc.now is.at c.kind_at-kind.ensures c.end_of-end.ensures refl (no_lf _ no.not-Newline no.not-MlLiteralString no.not-MlBasicString) in
+    found_parts is.doc.now is.at (sym c.kind_at-kind.ensures) end feeds
