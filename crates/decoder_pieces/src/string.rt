@@ -98,7 +98,9 @@ pub fn escape_at(e: Encoding, s: &[u8]) -> Option<Escape>
     }
 }
 
-// The same in an edition, where s begins with a backslash.
+// The same in an edition, where s begins with a backslash. It is compiled into its caller, and what asks for digits is not: so the common
+// escapes, of one letter, go through no memory.
+#[inline(always)]
 fn good_escape(v: Edition, s: &[u8]) -> Option<Escape>
     requires { 0 < length s.now }
     ensures { result ≡ good_escape v (drop 1 s.now) }
@@ -111,6 +113,7 @@ fn good_escape(v: Edition, s: &[u8]) -> Option<Escape>
 }
 
 // The same where the letter asks for so many digits.
+#[inline(never)]
 fn good_hex(s: &[u8], digits: usize) -> Option<Escape>
     requires { (digits ≤ 8) × (2 ≤ length s.now) }
     ensures { result ≡ good_hex digits (drop 2 s.now) }
