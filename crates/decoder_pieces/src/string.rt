@@ -84,6 +84,8 @@ pub struct Escape {
 }
 
 // The escape at the front of s, where the encoding has escapes and one that stands for a character is there.
+// It is compiled into the loops that ask it, and what asks for digits is not: so the common escapes, of one letter, go through no memory.
+#[inline(always)]
 #[tactic(auto, using(text_classes::proofs::FirstLaws::stands_there, crate::proofs::EscapeAtLaws::escape_absent))]
 pub fn escape_at(e: Encoding, s: &[u8]) -> Option<Escape>
     ensures { result ≡ escape_at e s.now }
@@ -98,8 +100,7 @@ pub fn escape_at(e: Encoding, s: &[u8]) -> Option<Escape>
     }
 }
 
-// The same in an edition, where s begins with a backslash. It is compiled into its caller, and what asks for digits is not: so the common
-// escapes, of one letter, go through no memory.
+// The same in an edition, where s begins with a backslash.
 #[inline(always)]
 fn good_escape(v: Edition, s: &[u8]) -> Option<Escape>
     requires { 0 < length s.now }
