@@ -253,11 +253,15 @@ fn fill(doc: &[u8], edition: usize, output: &mut [u8], records: &mut [[usize; 5]
 }
 
 // Copies the bytes of the document from `from` up to `to`.
+// Not by the library's copy: that is the C library's `memmove`, which the archive for C would then need from outside.
 fn copy_in(doc: &[u8], from: usize, to: usize, output: &mut [u8], o: usize) -> usize
     requires { (from ≤ to) × (to ≤ length doc.now) × (o + length (between doc.now from to) ≤ length output.old) }
     ensures { Stored output.old o (between doc.now from to) result output.new }
 {
-    let end = o + (to - from);
-    output[o..end].copy_from_slice(&doc[from..to]);
-    end
+    let s = &doc[from..to];
+    let n = s.len();
+    for j in 0..n {
+        output[o + j] = s[j];
+    }
+    o + n
 }

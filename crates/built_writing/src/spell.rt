@@ -70,13 +70,16 @@ fn put_escape(b: u8, output: &mut [u8], o: usize) -> usize
 
 // Copies the bytes to place o.
 // In each crate that stores: a public one, which may ask nothing of its caller, would test for room at each run of bytes.
+// Not by the library's copy: that is the C library's `memmove`, which the archive for C would then need from outside.
 pub(crate) fn put(bytes: &[u8], output: &mut [u8], o: usize) -> usize
     requires { o + length bytes.now ≤ length output.old }
     ensures { Stored output.old o bytes.now result output.new }
 {
-    let end = o + bytes.len();
-    output[o..end].copy_from_slice(bytes);
-    end
+    let n = bytes.len();
+    for j in 0..n {
+        output[o + j] = bytes[j];
+    }
+    o + n
 }
 
 // How many bytes in front of s stand for themselves in a basic string.

@@ -1,7 +1,7 @@
 -- The texts that are decoded ahead of the check, without a pass over pieces: a plain line, a plain key, a short string.
 -- Assumes nothing.
-use Rattle.std.proofs.Common.{◌≡◌, ℕ, Option, Some, None, MatchOption, false, Result, Ok, Err, List, length, sym, refl, inl, inr, arith, lt-ltb, le-ltb}
-use Rattle.std.specs.Result.{result_ok}
+use Rattle.std.proofs.Common.{◌≡◌, ℕ, Option, Some, None, MatchOption, true, false, Result, Ok, Err, List, length, sym, refl, inl, inr, arith, lt-ltb, le-ltb}
+use Rattle.std.specs.Result.{is_ok}
 use native.Mathlib.Decide.{dec_lt}
 use Rattle.text_refusals.specs.declared.Refusal.{Refusal}
 use Rattle.decoder_rules.proofs.PlainLaws.{Named, Plain, BodyCopied, middle, middle_long, plain_decodes}
@@ -17,8 +17,10 @@ use Rattle.decoder_writing.specs.Copies.{fitting, copied_to}
 use Rattle.decoder_short.proofs.ShortLaws.{short_decodes}
 
 module _ (edition kind : ℕ) (t old out : List ℕ) (named : Named edition) where
-  pub plain_at_once : (n : ℕ) → BodyCopied (Plain kind t) t old out n → AtOnce edition kind t old out n
-  plain_at_once n c =
+  pub plain_at_once : (r : Option ℕ) → MatchOption r (out ≡ old) (BodyCopied (Plain kind t) t old out)
+      → MatchOption r (out ≡ old) (AtOnce edition kind t old out)
+  plain_at_once None c = c
+  plain_at_once (Some n) c =
       record {
         body = middle n t;
         decodes = plain_decodes t edition kind n named c.size c.is;
@@ -47,10 +49,10 @@ module _ (edition kind : ℕ) (t old out : List ℕ) (named : Named edition) whe
       }
 
 -- a number that is read as an edition names it
-pub named_by : (n : ℕ) (r : Result Edition Refusal) (v : Edition) → Some v ≡ result_ok r → r ≡ edition_of n → Named n
-named_by n (Ok Toml10) v some is = inl (sym (named_number n Toml10 is))
-named_by n (Ok Toml11) v some is = inr (sym (named_number n Toml11 is))
-named_by n (Err r) v some is = cc
+pub named_by : (n : ℕ) (r : Result Edition Refusal) → is_ok r ≡ true → r ≡ edition_of n → Named n
+named_by n (Ok Toml10) ok is = inl (sym (named_number n Toml10 is))
+named_by n (Ok Toml11) ok is = inr (sym (named_number n Toml11 is))
+named_by n (Err r) ok is = cc
 
 -- a key that was copied whole, where there was room
 pub key_copied : (t old : List ℕ) (r : Option ℕ) (out : List ℕ) → PlainKey t → r ≡ fitting t old → out ≡ copied_to t old

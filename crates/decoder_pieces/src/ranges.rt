@@ -103,6 +103,7 @@ impl Engine for Ranges {
         if 0 < n && n < 8 { Some(n) } else { None }
     }
 
+    #[inline(always)]
     fn escape(e: Encoding, s: &[u8]) -> Option<Escape> {
         escape_at(e, s)
     }

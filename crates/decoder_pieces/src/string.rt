@@ -84,6 +84,8 @@ pub struct Escape {
 }
 
 // The escape at the front of s, where the encoding has escapes and one that stands for a character is there.
+// It is compiled into the loops that ask it, and what asks for digits is not: so the common escapes, of one letter, go through no memory.
+#[inline(always)]
 #[tactic(auto, using(text_classes::proofs::FirstLaws::stands_there, crate::proofs::EscapeAtLaws::escape_absent))]
 pub fn escape_at(e: Encoding, s: &[u8]) -> Option<Escape>
     ensures { result ≡ escape_at e s.now }
@@ -99,6 +101,7 @@ pub fn escape_at(e: Encoding, s: &[u8]) -> Option<Escape>
 }
 
 // The same in an edition, where s begins with a backslash.
+#[inline(always)]
 fn good_escape(v: Edition, s: &[u8]) -> Option<Escape>
     requires { 0 < length s.now }
     ensures { result ≡ good_escape v (drop 1 s.now) }
@@ -111,6 +114,7 @@ fn good_escape(v: Edition, s: &[u8]) -> Option<Escape>
 }
 
 // The same where the letter asks for so many digits.
+#[inline(never)]
 fn good_hex(s: &[u8], digits: usize) -> Option<Escape>
     requires { (digits ≤ 8) × (2 ≤ length s.now) }
     ensures { result ≡ good_hex digits (drop 2 s.now) }

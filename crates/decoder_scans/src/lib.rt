@@ -106,15 +106,31 @@ pub fn is_plain(e: Encoding, b: u8) -> bool
     is_marked(mask_of(e), b)
 }
 
-// Those bytes, as a set.
+// Those bytes, as a set. Its mask is made once: a set that held the encoding alone would ask at each byte which one it is.
 #[derive(Clone, Copy)]
-struct Plain(Encoding);
+struct Plain {
+    e: Encoding,
+    mask: Mask,
+    ghost own: { mask ≡ mask_of e },
+}
+
+impl Plain {
+    fn of(e: Encoding) -> Self
+        ensures { result.e ≡ e }
+    {
+        Plain {
+            e,
+            mask: mask_of(e),
+        }
+    }
+}
 
 impl ByteSet for Plain {
-    ghost holds = { λ p. plain p.0 };
+    ghost holds = { λ p. plain p.e };
 
+    #[tactic(auto, using(crate::proofs::ScanLaws::marked_plain))]
     fn holds(self, b: u8) -> bool {
-        is_plain(self.0, b)
+        is_marked(self.mask, b)
     }
 }
 
@@ -122,7 +138,7 @@ impl ByteSet for Plain {
 pub fn plain_few(e: Encoding, s: &[u8]) -> usize
     ensures { result ≡ run (plain e) (take 8 s.now) }
 {
-    run_of(Plain(e), &s[..s.len().min(8)], 0)
+    run_of(Plain::of(e), &s[..s.len().min(8)], 0)
 }
 
 // How many bytes at the front stand for themselves. A caller that names its encoding goes to its scan at once.
@@ -135,7 +151,7 @@ pub fn plain_run(e: Encoding, s: &[u8]) -> usize
         Encoding::MlLiteralString => wide_run::<MlLiteral>(s),
         Encoding::BasicString(_) => wide_run::<Basic>(s),
         Encoding::MlBasicString(_) => wide_run::<MlBasic>(s),
-        Encoding::UnquotedKey => run_of(Plain(Encoding::UnquotedKey), s, 0),
+        Encoding::UnquotedKey => run_of(Plain::of(Encoding::UnquotedKey), s, 0),
     }
 }
 
@@ -206,7 +222,7 @@ fn wide_run<S: Scanned>(s: &[u8]) -> usize
 {
     let wide = plain_blocks::<S>(s, 0, 16);
     let i = plain_blocks::<S>(s, wide, 8);
-    run_of(Plain(S::encoding()), s, i)
+    run_of(Plain::of(S::encoding()), s, i)
 }
 
 // Blocks of n bytes that stand for themselves, passed over.

@@ -15,6 +15,7 @@ use text_scalars::encode;
 
 // Copies the first n bytes of s to place o.
 // In each crate that stores: a public one, which may ask nothing of its caller, would test for room at each run of bytes.
+// Not by the library's copy: that is the C library's `memmove`, which the archive for C would then need from outside.
 pub(crate) fn copy_in(s: &[u8], n: usize, output: &mut [u8], o: usize) -> usize
     requires { (n ≤ length s.now) × (o + n ≤ length output.old) }
     ensures { Stored output.old o (take n s.now) result output.new }
@@ -22,12 +23,14 @@ pub(crate) fn copy_in(s: &[u8], n: usize, output: &mut [u8], o: usize) -> usize
     if n <= 16 {
         return copy_few(s, n, output, o);
     }
-    output[o..o + n].copy_from_slice(&s[..n]);
+    for j in 0..n {
+        output[o + j] = s[j];
+    }
     o + n
 }
 
-// The same of sixteen bytes at most, one by one: a loop that the compiler unrolls, where a call of the library's copy would cost
-// more than they do.
+// The same of sixteen bytes at most, one by one: a loop that the compiler unrolls, where it would make the other one fit
+// for many bytes, which few would pay for.
 fn copy_few(s: &[u8], n: usize, output: &mut [u8], o: usize) -> usize
     requires { (n ≤ 16) × (n ≤ length s.now) × (o + n ≤ length output.old) }
     ensures { Stored output.old o (take n s.now) result output.new }

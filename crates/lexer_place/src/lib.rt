@@ -10,6 +10,7 @@ ghost use Rattle.lexer_place.specs.Told.{span_refusal, span_returned, position_r
 ghost use Rattle.lexer_place.specs.Positions.{column_behind, column_of, position_answer};
 
 use lexer_token::Span;
+use text_classes::{Continuation, Not, count_of};
 use text_refusals::{LIMIT, Refusal};
 
 // Does the span lie within the document, and cut no character?
@@ -95,7 +96,7 @@ fn column_of(doc: &[u8], offset: usize) -> usize
 {
     let before = &doc[..offset];
     let text = &before[lexer::start_of(doc).min(before.len())..];
-    1 + begun(last_line(text))
+    1 + count_of(Not(Continuation), last_line(text))
 }
 
 // What stands after the last LF; all where there is none.
@@ -113,13 +114,4 @@ fn last_lf(s: &[u8]) -> Option<usize>
     ensures { MatchOption result (EachIndex s.now (λ k. slice_index s.now k ≢ 10)) (λ i. (i < length s.now) × (slice_index s.now i ≡ 10) × ((k : ℕ) → i < k → k < length s.now → slice_index s.now k ≢ 10)) }
 {
     s.iter().rposition(|b| *b == LINE_END)
-}
-
-// How many characters begin.
-fn begun(s: &[u8]) -> usize
-    ensures { result ≡ count_by (λ b. not (continuation b)) s.now }
-{
-    s.iter()
-        .filter(|b| !text_classes::is_continuation(**b))
-        .count()
 }

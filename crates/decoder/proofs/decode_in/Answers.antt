@@ -1,4 +1,4 @@
--- `decode_in` is right because a text that is copied at once decodes to what was copied, and any other is decoded as it stands.
+-- `decode_in` is right because a plain line decodes to what was copied of it in either edition, and any other is decoded as it stands.
 use Rattle.std.proofs.Common.{length}
 use Rattle.decoder_rules.proofs.NumberLaws.{decoded_numbers}
 use Rattle.decoder_rules.proofs.PlainLaws.{plain_answer, plain_output, plain_records}

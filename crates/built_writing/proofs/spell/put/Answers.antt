@@ -1,9 +1,37 @@
--- `put` is right because the part that it overwrites is as long as what it copies.
+-- `put` is right because what is still to be copied, stored from place o + j on, makes the whole copy.
 use Rattle.std.proofs.Common.{◌+◌, length, refl, arith}
-use Rattle.decoder_rules.proofs.StoreLaws.{store_part}
+use lib.Seq.{take-length}
+use Rattle.decoder_rules.proofs.StoreLaws.{copying_start, copying_turn, copying_end}
 use Rattle.built_writing.proofs.spell.put.Goals as goal
+
+pub loop-j-init : goal.loop-j-init
+loop-j-init c = copying_start c.args.bytes.now (length c.args.bytes.now) c.args.output.now c.args.o
+
+pub bounds-bytes-j : goal.bounds-bytes-j
+bounds-bytes-j c = omega (arith, c.loop-j.invariant.within)
+
+pub overflow_add-output : goal.overflow_add-output
+overflow_add-output c = omega (arith, c.loop-j.invariant.within)
+
+pub bounds-output-o : goal.bounds-output-o
+bounds-output-o c = omega (arith, c.loop-j.invariant.within, c.loop-j.invariant.long)
+
+pub loop-j-smaller : goal.loop-j-smaller
+loop-j-smaller c = omega (arith, c.loop-j.invariant.within)
+
+pub loop-j-preserved : goal.loop-j-preserved
+loop-j-preserved c =
+    let a = c.args in
+    let l = c.loop-j in
+    copying_turn a.bytes.now (length a.bytes.now) a.output.now a.o l.output l.j (omega (arith, l.invariant.within)) (omega arith) l.invariant
+
+pub shape_of-output : goal.shape_of-output
+shape_of-output c = c.loop-j.invariant.long
 
 pub returns : goal.returns
 returns c =
     let a = c.args in
-    store_part a.output.now a.bytes.now _ a.o (a.o + length a.bytes.now) c.copy_from_slice.ensures.after refl (omega arith)
+    let l = c.loop-j in
+    let s = a.bytes.now in
+    rw (take-length s) at
+    (copying_end s (length s) a.output.now a.o l.output l.j (a.o + length s) (omega arith) (omega arith) refl l.invariant)
