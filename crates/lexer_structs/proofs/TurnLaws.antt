@@ -9,7 +9,7 @@ use native.Mathlib.Omega.{arith}
 use native.Mathlib.Numerals.{add-one}
 use native.Mathlib.Decide.{dec_lt}
 use borrow.Author.Tests.{lt-ltb, le-ltb}
-use lib.ListN.{length, get_or, set, take, drop}
+use lib.ListN.{length, get_or, set, take, drop, length-append, length-drop}
 use lib.Seq.{take-suc, take-length, length-take-le, drop-cons, set_at}
 use Rattle.text_refusals.specs.Refusals.{limit}
 use Rattle.text.specs.CheckMeans.{check_of}
@@ -154,6 +154,19 @@ module _ (doc : List ℕ) (old : List Token) where
       go (whole e r l m) =
           ap (set (take k (tokens_of doc) ++ drop k old) k) (next_token doc k l (omega (arith, e, h)))
           ∙ store_next (tokens_of doc) old k (eof_at 0 0) (omega (arith, e, h)) (omega (arith, e, h, r))
+
+  pub length_stored : (k : ℕ) → k ≤ written doc old → length (stored doc old k) ≡ length old
+  unfolding stored
+  length_stored k h = go (writes doc old)
+    where
+      sum : k ≤ token_count doc → k ≤ length old → length (stored doc old k) ≡ length old
+      sum l r =
+          let e = length-take-le k (tokens_of doc) l in
+          length-append (take k (tokens_of doc)) (drop k old) ∙ omega (arith, e, length-drop k old)
+
+      go : Writes doc old → length (stored doc old k) ≡ length old
+      go (nothing e m) = sum (omega (arith, e, h)) (omega (arith, e, h))
+      go (whole e r l m) = sum (omega (arith, e, h)) (omega (arith, e, h, r))
 
   pub stored_all : stored doc old (written doc old) ≡ token_memory doc old
   unfolding stored
