@@ -108,9 +108,7 @@ fn timed(
     let from = progress.given;
     match fed.answer {
         Ok(count) => {
-            // from a place, and not by `skip`, which goes over all before it
-            let place = min(from, errors.len());
-            for error in errors[place..].iter_mut().take(count) {
+            for error in errors.iter_mut().skip(from).take(count) {
                 *error = [0, time, 0];
             }
             after(progress, fed, count)
