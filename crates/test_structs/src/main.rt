@@ -33,7 +33,7 @@ fn tokens(console: &impl Console, doc: &[u8]) -> io::Result<()> {
     let all = lexer_structs::lex_eight(doc);
     match all.answer {
         Ok(n) => {
-            for token in &all.tokens[..n] {
+            for token in all.tokens.iter().take(n) {
                 line(console, *token)?;
             }
         }
